@@ -1,0 +1,8 @@
+mod IntegerRows
+mod ArithmeticRows
+pub mod OutcomeLaws
+pub mod PoolLemmas
+pub mod IntegerLaws
+pub mod ArithmeticLaws
+pub mod ArithmeticLemmas
+pub mod TokenTables

@@ -1,0 +1,9 @@
+pub mod Integer
+pub mod Arithmetic
+pub mod Operators
+pub mod Outcome
+pub mod Ends
+pub mod Env
+pub mod Fault
+pub mod NamePool
+pub mod Token

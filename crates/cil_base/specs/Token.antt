@@ -1,0 +1,100 @@
+-- Definition: the spellings of the keywords (C11 6.4.1) and punctuators (6.4.6) that are read.
+use Rattle.std.specs.Prelude.{ℕ, List, Option, Some, None, codes}
+use Rattle.cil_base.specs.declared.tokens.Keyword.{Keyword}
+use Rattle.cil_base.specs.declared.tokens.Keyword.TheVariants.{Auto, Break, Case, Char, Const, Continue, Default, Do, Else, Enum, Extern, For, Goto, If, Inline, Int, Long, Register, Restrict, Return, Short, Signed, Sizeof, Static, Struct, Switch, Typedef, Union, Unsigned, Void, While, Alignof, Bool, Noreturn, StaticAssert}
+use Rattle.cil_base.specs.declared.tokens.Punctuator.{Punctuator}
+use Rattle.cil_base.specs.declared.tokens.Punctuator.TheVariants.{LeftBracket, RightBracket, LeftParen, RightParen, LeftBrace, RightBrace, Dot, Arrow, PlusPlus, MinusMinus, Ampersand, Star, Plus, Minus, Tilde, Exclamation, Slash, Percent, LeftShift, RightShift, Less, Greater, LessEqual, GreaterEqual, EqualEqual, ExclamationEqual, Caret, Bar, AmpersandAmpersand, BarBar, Question, Colon, Semicolon, Ellipsis, Equal, StarEqual, SlashEqual, PercentEqual, PlusEqual, MinusEqual, LeftShiftEqual, RightShiftEqual, AmpersandEqual, CaretEqual, BarEqual, Comma}
+
+abbrev pub keyword_spelling : Keyword → List ℕ
+keyword_spelling Auto = codes "auto"
+keyword_spelling Break = codes "break"
+keyword_spelling Case = codes "case"
+keyword_spelling Char = codes "char"
+keyword_spelling Const = codes "const"
+keyword_spelling Continue = codes "continue"
+keyword_spelling Default = codes "default"
+keyword_spelling Do = codes "do"
+keyword_spelling Else = codes "else"
+keyword_spelling Enum = codes "enum"
+keyword_spelling Extern = codes "extern"
+keyword_spelling For = codes "for"
+keyword_spelling Goto = codes "goto"
+keyword_spelling If = codes "if"
+keyword_spelling Inline = codes "inline"
+keyword_spelling Int = codes "int"
+keyword_spelling Long = codes "long"
+keyword_spelling Register = codes "register"
+keyword_spelling Restrict = codes "restrict"
+keyword_spelling Return = codes "return"
+keyword_spelling Short = codes "short"
+keyword_spelling Signed = codes "signed"
+keyword_spelling Sizeof = codes "sizeof"
+keyword_spelling Static = codes "static"
+keyword_spelling Struct = codes "struct"
+keyword_spelling Switch = codes "switch"
+keyword_spelling Typedef = codes "typedef"
+keyword_spelling Union = codes "union"
+keyword_spelling Unsigned = codes "unsigned"
+keyword_spelling Void = codes "void"
+keyword_spelling While = codes "while"
+keyword_spelling Alignof = codes "_Alignof"
+keyword_spelling Bool = codes "_Bool"
+keyword_spelling Noreturn = codes "_Noreturn"
+keyword_spelling StaticAssert = codes "_Static_assert"
+
+-- the first spelling
+abbrev pub punctuator_spelling : Punctuator → List ℕ
+punctuator_spelling LeftBracket = codes "["
+punctuator_spelling RightBracket = codes "]"
+punctuator_spelling LeftParen = codes "("
+punctuator_spelling RightParen = codes ")"
+punctuator_spelling LeftBrace = codes "{"
+punctuator_spelling RightBrace = codes "}"
+punctuator_spelling Dot = codes "."
+punctuator_spelling Arrow = codes "->"
+punctuator_spelling PlusPlus = codes "++"
+punctuator_spelling MinusMinus = codes "--"
+punctuator_spelling Ampersand = codes "&"
+punctuator_spelling Star = codes "*"
+punctuator_spelling Plus = codes "+"
+punctuator_spelling Minus = codes "-"
+punctuator_spelling Tilde = codes "~"
+punctuator_spelling Exclamation = codes "!"
+punctuator_spelling Slash = codes "/"
+punctuator_spelling Percent = codes "%"
+punctuator_spelling LeftShift = codes "<<"
+punctuator_spelling RightShift = codes ">>"
+punctuator_spelling Less = codes "<"
+punctuator_spelling Greater = codes ">"
+punctuator_spelling LessEqual = codes "<="
+punctuator_spelling GreaterEqual = codes ">="
+punctuator_spelling EqualEqual = codes "=="
+punctuator_spelling ExclamationEqual = codes "!="
+punctuator_spelling Caret = codes "^"
+punctuator_spelling Bar = codes "|"
+punctuator_spelling AmpersandAmpersand = codes "&&"
+punctuator_spelling BarBar = codes "||"
+punctuator_spelling Question = codes "?"
+punctuator_spelling Colon = codes ":"
+punctuator_spelling Semicolon = codes ";"
+punctuator_spelling Ellipsis = codes "..."
+punctuator_spelling Equal = codes "="
+punctuator_spelling StarEqual = codes "*="
+punctuator_spelling SlashEqual = codes "/="
+punctuator_spelling PercentEqual = codes "%="
+punctuator_spelling PlusEqual = codes "+="
+punctuator_spelling MinusEqual = codes "-="
+punctuator_spelling LeftShiftEqual = codes "<<="
+punctuator_spelling RightShiftEqual = codes ">>="
+punctuator_spelling AmpersandEqual = codes "&="
+punctuator_spelling CaretEqual = codes "^="
+punctuator_spelling BarEqual = codes "|="
+punctuator_spelling Comma = codes ","
+
+-- the digraph (6.4.6p3)
+abbrev pub second_spelling : Punctuator → Option (List ℕ)
+second_spelling LeftBracket = Some (codes "<:")
+second_spelling RightBracket = Some (codes ":>")
+second_spelling LeftBrace = Some (codes "<%")
+second_spelling RightBrace = Some (codes "%>")
+second_spelling _ = None

@@ -1,0 +1,152 @@
+ghost use Rattle.std.specs.Prelude.{◌≡◌};
+ghost use Rattle.cil_base.specs.Integer.{size_of, rank_of, is_signed, words_of, suffix_of, has_kind, long_of, ulong_of, pointer_size_of};
+
+/// The integer types of C11 6.2.5, whose sizes and signs are those of the product's data model.
+#[derive(Clone, Copy, Debug, PartialEq, Eq)]
+pub enum IntKind {
+    Bool,
+    Char,
+    SChar,
+    UChar,
+    Short,
+    UShort,
+    Int,
+    UInt,
+    Long,
+    ULong,
+    LLong,
+    ULLong,
+}
+
+impl IntKind {
+    /// The size in bytes (C11 6.5.3.4; own, LP64).
+    pub fn size(self) -> u32
+        ensures { result ≡ size_of self }
+    {
+        match self {
+            IntKind::Bool | IntKind::Char | IntKind::SChar | IntKind::UChar => 1,
+            IntKind::Short | IntKind::UShort => 2,
+            IntKind::Int | IntKind::UInt => 4,
+            IntKind::Long | IntKind::ULong | IntKind::LLong | IntKind::ULLong => 8,
+        }
+    }
+
+    /// The conversion rank (C11 6.3.1.1p1), from 0 for `_Bool` to 5 for `long long`.
+    pub fn rank(self) -> u8
+        ensures { result ≡ rank_of self }
+    {
+        match self {
+            IntKind::Bool => 0,
+            IntKind::Char | IntKind::SChar | IntKind::UChar => 1,
+            IntKind::Short | IntKind::UShort => 2,
+            IntKind::Int | IntKind::UInt => 3,
+            IntKind::Long | IntKind::ULong => 4,
+            IntKind::LLong | IntKind::ULLong => 5,
+        }
+    }
+
+    /// Whether the kind has negative values (C11 6.2.5p4, p6). Plain char has them (own).
+    pub fn is_signed(self) -> bool
+        ensures { result ≡ is_signed self }
+    {
+        match self {
+            IntKind::Bool
+            | IntKind::UChar
+            | IntKind::UShort
+            | IntKind::UInt
+            | IntKind::ULong
+            | IntKind::ULLong => false,
+            IntKind::Char
+            | IntKind::SChar
+            | IntKind::Short
+            | IntKind::Int
+            | IntKind::Long
+            | IntKind::LLong => true,
+        }
+    }
+
+    /// The words that name the type, as a type name of C (C11 6.7.2p2).
+    pub fn words(self) -> &'static str
+        ensures { result.now ≡ words_of self }
+    {
+        match self {
+            IntKind::Bool => "_Bool",
+            IntKind::Char => "char",
+            IntKind::SChar => "signed char",
+            IntKind::UChar => "unsigned char",
+            IntKind::Short => "short",
+            IntKind::UShort => "unsigned short",
+            IntKind::Int => "int",
+            IntKind::UInt => "unsigned int",
+            IntKind::Long => "long",
+            IntKind::ULong => "unsigned long",
+            IntKind::LLong => "long long",
+            IntKind::ULLong => "unsigned long long",
+        }
+    }
+
+    /// The suffix of a constant of the kind (C11 6.4.4.1): none for int and what is narrower.
+    pub fn suffix(self) -> &'static str
+        ensures { result.now ≡ suffix_of self }
+    {
+        match self {
+            IntKind::UInt => "U",
+            IntKind::Long => "L",
+            IntKind::ULong => "UL",
+            IntKind::LLong => "LL",
+            IntKind::ULLong => "ULL",
+            IntKind::Bool
+            | IntKind::Char
+            | IntKind::SChar
+            | IntKind::UChar
+            | IntKind::Short
+            | IntKind::UShort
+            | IntKind::Int => "",
+        }
+    }
+
+    /// Whether the data model has the kind.
+    pub fn is_of(self, abi: Abi) -> bool
+        ensures { result ≡ has_kind abi self }
+    {
+        match abi {
+            Abi::Lp64 => true,
+        }
+    }
+}
+
+/// The data models (own): the sizes of the types and the kinds that there are.
+#[derive(Clone, Copy, Debug, PartialEq, Eq)]
+pub enum Abi {
+    /// long and pointers have 8 bytes, int has 4.
+    Lp64,
+}
+
+impl Abi {
+    /// The kind of `long`, and of `ptrdiff_t` (C11 7.19).
+    pub fn long(self) -> IntKind
+        ensures { result ≡ long_of self }
+    {
+        match self {
+            Abi::Lp64 => IntKind::Long,
+        }
+    }
+
+    /// The kind of `unsigned long`, and of `size_t` (C11 7.19).
+    pub fn ulong(self) -> IntKind
+        ensures { result ≡ ulong_of self }
+    {
+        match self {
+            Abi::Lp64 => IntKind::ULong,
+        }
+    }
+
+    /// The size of a pointer in bytes.
+    pub fn pointer_size(self) -> u32
+        ensures { result ≡ pointer_size_of self }
+    {
+        match self {
+            Abi::Lp64 => 8,
+        }
+    }
+}

@@ -1,0 +1,32 @@
+use std::alloc::{AllocError, AllocFailed};
+use thiserror::Error;
+
+/// Want of memory: an allocation failed, or a number that would not fit was asked for.
+#[derive(Clone, Copy, Debug, PartialEq, Eq, Error)]
+#[error("want of memory")]
+pub struct Memory;
+
+impl From<AllocError> for Memory {
+    fn from(_failed: AllocError) -> Self {
+        Memory
+    }
+}
+
+impl<T: Drop> From<AllocFailed<T>> for Memory {
+    fn from(_failed: AllocFailed<T>) -> Self {
+        Memory
+    }
+}
+
+#[cfg(test)]
+mod tests {
+    use super::*;
+    use std::alloc::AllocError;
+
+    #[test]
+    fn prints_its_words(rt: HostRuntime) -> Result<(), AllocError> {
+        let text = format!(in rt.alloc(); "{}", Memory)?;
+        assert_eq!(rt; text.as_str(), "want of memory");
+        Ok(())
+    }
+}
