@@ -1,0 +1,5 @@
+pub mod Tokens
+pub mod Grammar
+pub mod Meaning
+pub mod View
+pub mod Reading

@@ -1,0 +1,4 @@
+pub mod SpacedText
+pub mod ReadBack
+pub mod ReadPrograms
+mod Rows
