@@ -1,0 +1,113 @@
+-- Where a command's file stands among the words.
+use Rattle.std.proofs.Common.{◌≡◌, ℕ, suc, ◌<◌, Bool, true, false, List, [], ◌∷◌, String, map, length, get_or, codes, Option, Some, None, IfSome, unwrap_or, slice_get, ap, sym, subst, ◌∙◌, arith}
+use Rattle.std.proofs.lemmas.List.{length-map}
+use Rattle.std.specs.Prelude.{if◌then◌else◌}
+use Rattle.std.specs.Global.{Global}
+use Rattle.std.specs.Option.{option_map, option_and_then, option_to_list}
+use Rattle.std.specs.Str.{bytes_eq}
+use Rattle.std.specs.String.{string_bytes}
+use Rattle.std.proofs.lemmas.Option.{slice_get-map, slice_get-get_or}
+use Rattle.outside.specs.Named.{Told}
+use Rattle.cil.specs.Command.{command_of, command_in, merge_of, run_of, run_bounded_of, steps_of, are_words, names_file, file_position, merged_position, run_position, bound_of, file_of, steps_asked}
+use Rattle.cil.specs.Execute.{text_asked, RunSays}
+use Rattle.cil.specs.Merge.{unit_asked, bytes_under}
+use Rattle.cil.specs.Messages.{names_asked}
+use Rattle.cil.specs.declared.command.Command.{Command}
+use Rattle.cil.specs.declared.command.Command.TheVariants.{Merge, Run}
+use Rattle.cil.specs.declared.status.Status.{Status}
+
+-- the command's file is one of so many words
+Within : ℕ → Option Command → Type 0
+Within count None = Unit {0}
+Within count (Some command) = file_position command < count
+
+within_if : (count : ℕ) (test : Bool) (a b : Option Command) → Within count a → Within count b → Within count (if test then a else b)
+within_if count true a b first second = first
+within_if count false a b first second = second
+
+within_merge : (file : List ℕ) (rest : List (List ℕ)) → Within (suc (suc (length rest))) (merge_of file rest)
+unfolding Within
+within_merge file [] = within_if 2 (names_file file) (Some (Merge 1)) None (omega arith) tt
+within_merge file (word ∷ words) = tt
+
+within_map : (count : ℕ) (bound : Option ℕ) → 3 < count → Within count (option_map (λ steps. Run steps 3) bound)
+unfolding Within
+within_map count None below = tt
+within_map count (Some steps) below = below
+
+within_bounded : (rest : List (List ℕ)) → Within (suc (suc (length rest))) (run_bounded_of rest)
+unfolding Within
+within_bounded [] = tt
+within_bounded (steps ∷ []) = tt
+within_bounded (steps ∷ file ∷ args) =
+    within_if (suc (suc (length (steps ∷ file ∷ args)))) (names_file file) (option_map (λ bound. Run bound 3) (steps_of steps)) None (within_map (suc (suc (length (steps ∷ file ∷ args)))) (steps_of steps) (omega arith)) tt
+
+within_run : (word : List ℕ) (rest : List (List ℕ)) → Within (suc (suc (length rest))) (run_of word rest)
+unfolding Within
+within_run word rest =
+    within_if (suc (suc (length rest))) (bytes_eq word (codes "--steps")) (run_bounded_of rest) (if names_file word then Some (Run 10000000 1) else None)
+    (within_bounded rest) (within_if (suc (suc (length rest))) (names_file word) (Some (Run 10000000 1)) None (omega arith) tt)
+
+within_in : (words : List (List ℕ)) → Within (length words) (command_in words)
+unfolding Within
+within_in [] = tt
+within_in (name ∷ []) = tt
+within_in (name ∷ word ∷ words) =
+    within_if (suc (suc (length words))) (bytes_eq name (codes "merge")) (merge_of word words) (if bytes_eq name (codes "run") then run_of word words else None)
+    (within_merge word words) (within_if (suc (suc (length words))) (bytes_eq name (codes "run")) (run_of word words) None (within_run word words) tt)
+
+within : (words : List (List ℕ)) → Within (length words) (command_of words)
+unfolding Within
+within words = within_if (length words) (are_words words) (command_in words) None (within_in words) tt
+
+position_within : (words : List (List ℕ)) (command : Command) → command_of words ≡ Some command → file_position command < length words
+unfolding Within
+position_within words command is = subst (Within (length words)) is (within words)
+
+pub merge_within : (words : List (String Global)) (first : ℕ) → command_of (map string_bytes words) ≡ Some (Merge first) → first < length words
+merge_within words first is = omega (arith, position_within (map string_bytes words) (Merge first) is, length-map words string_bytes)
+
+pub run_within : (words : List (String Global)) (steps file : ℕ) → command_of (map string_bytes words) ≡ Some (Run steps file) → file < length words
+run_within words steps file is = omega (arith, position_within (map string_bytes words) (Run steps file) is, length-map words string_bytes)
+
+-- a word's text, found among the texts
+word_at : (words : List (String Global)) (i : ℕ) (d : String Global) → i < length words → slice_get (map string_bytes words) i ≡ Some (string_bytes (get_or words i d))
+word_at words i d below = slice_get-map string_bytes words i ∙ ap (option_map string_bytes) (slice_get-get_or words i d below)
+
+-- what the words ask for, by the command that they are
+pub unit_asked_is : (told : Option Told) (words : List (String Global)) (first : ℕ) (d : String Global) → command_of (map string_bytes words) ≡ Some (Merge first)
+    → unit_asked told (map string_bytes words) ≡ bytes_under told (string_bytes (get_or words first d))
+unit_asked_is told words first d is =
+    ap (λ command. option_and_then (bytes_under told) (option_and_then (slice_get (map string_bytes words)) (option_and_then merged_position command))) is
+    ∙ ap (option_and_then (bytes_under told)) (word_at words first d (merge_within words first is))
+
+pub text_asked_is : (told : Option Told) (words : List (String Global)) (steps file : ℕ) (d : String Global) → command_of (map string_bytes words) ≡ Some (Run steps file)
+    → text_asked told (map string_bytes words) ≡ bytes_under told (string_bytes (get_or words file d))
+text_asked_is told words steps file d is =
+    ap (λ command. option_and_then (bytes_under told) (option_and_then (slice_get (map string_bytes words)) (option_and_then run_position command))) is
+    ∙ ap (option_and_then (bytes_under told)) (word_at words file d (run_within words steps file is))
+
+pub merge_file_is : (words : List (String Global)) (first : ℕ) (d : String Global) → command_of (map string_bytes words) ≡ Some (Merge first)
+    → file_of (map string_bytes words) ≡ Some (string_bytes (get_or words first d))
+merge_file_is words first d is =
+    ap (option_and_then (λ command. slice_get (map string_bytes words) (file_position command))) is ∙ word_at words first d (merge_within words first is)
+
+pub run_file_is : (words : List (String Global)) (steps file : ℕ) (d : String Global) → command_of (map string_bytes words) ≡ Some (Run steps file)
+    → file_of (map string_bytes words) ≡ Some (string_bytes (get_or words file d))
+run_file_is words steps file d is =
+    ap (option_and_then (λ command. slice_get (map string_bytes words) (file_position command))) is ∙ word_at words file d (run_within words steps file is)
+
+pub steps_asked_is : (words : List (List ℕ)) (steps file : ℕ) → command_of words ≡ Some (Run steps file) → steps_asked words ≡ steps
+steps_asked_is words steps file is = ap (λ command. unwrap_or (option_map bound_of command) 0) is
+
+-- what is said of one value is said of an equal one
+pub if_some_by : (asked there : Option (List ℕ)) (P : List ℕ → Type 0) → asked ≡ there → IfSome there P → IfSome asked P
+if_some_by asked there P is says = subst (λ o. IfSome o P) (sym is) says
+
+pub ran_by : (asked there : Option (List ℕ)) (given steps : ℕ) (status : Status) → asked ≡ there → given ≡ steps
+    → IfSome there (λ bytes. RunSays bytes steps status) → IfSome asked (λ bytes. RunSays bytes given status)
+ran_by asked there given steps status is same says =
+    if_some_by asked there (λ bytes. RunSays bytes given status) is (subst (λ bound. IfSome there (λ bytes. RunSays bytes bound status)) (sym same) says)
+
+pub names_by : (names : List (List ℕ)) (words : List (List ℕ)) (name word : List ℕ) → names ≡ name ∷ [] → file_of words ≡ Some word → name ≡ word → names ≡ names_asked words
+names_by names words name word is file same = is ∙ ap (λ t. t ∷ []) same ∙ sym (ap option_to_list file)

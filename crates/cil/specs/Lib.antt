@@ -1,0 +1,9 @@
+pub mod Answers
+pub mod Command
+pub mod Execute
+pub mod Lowering
+pub mod Merge
+pub mod Messages
+pub mod Reader
+pub mod ReaderView
+pub mod Sent

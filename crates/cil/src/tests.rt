@@ -1,0 +1,317 @@
+//! The program over files and streams in memory: what is answered, written and told.
+
+ghost use Rattle.std.specs.Prelude.{◌≡◌};
+ghost use Rattle.cil.specs.Messages.{HasFiles};
+
+use crate::report::report;
+use crate::{Status, cil};
+use cil_base::{Code, Fault, Feature, NameId, NamePool, Place, Refusal, UnitNo, What};
+use outside::{MemFiles, MemSink, MemSource};
+use std::alloc::Global;
+use std::test::Fail;
+
+const SUM: &str = "int main(void) { return 2 + 3; }";
+
+const SUM_TEXT: &str = "int main ( void ) ;\nint main ( void ) {\n  return ( 2 + 3 ) ;\n}\n";
+
+const USAGE: &str =
+    "cil: usage: cil merge FILE... | cil run [--steps N] FILE [ARG...] | cil sample SEED UNITS\n";
+
+const NOT_BUILT: &str = "cil: a.c:1: not built\n";
+
+// What a command answered: its exit status, what it wrote and what it told.
+#[derive(Drop)]
+struct Answer {
+    status: u8,
+    written: Vec<u8>,
+    told: Vec<u8>,
+}
+
+// The answer to the words, where `a.c` has these bytes and the calls of these numbers fail on files, on standard output (which
+// takes ten bytes a call) and on standard error (which takes five). Each read of standard input would fail.
+fn answer_to(
+    alloc: Global,
+    words: &[&str],
+    unit: &[u8],
+    files: &[u64],
+    out: &[u64],
+    err: &[u64],
+) -> Result<Answer, Fail> {
+    let words = owned(alloc, words)?;
+    let mut there = Vec::new(alloc);
+    there.push((
+        String::from_str(alloc, "a.c")?,
+        Vec::from_slice(alloc, unit)?,
+    ))?;
+    let mut files = MemFiles::new(there, Vec::from_slice(alloc, files)?);
+    let mut input = MemSource::new(Vec::new(alloc), 1, vec![in alloc; 0]?);
+    let mut out = MemSink::new(alloc, 10, 4096, Vec::from_slice(alloc, out)?)?;
+    let mut err = MemSink::new(alloc, 5, 4096, Vec::from_slice(alloc, err)?)?;
+    let status = cil(alloc, &words, &mut files, &mut input, &mut out, &mut err);
+    Ok(Answer {
+        status: status.code(),
+        written: Vec::from_slice(alloc, out.taken())?,
+        told: Vec::from_slice(alloc, err.taken())?,
+    })
+}
+
+fn owned(alloc: Global, words: &[&str]) -> Result<Vec<String>, Fail> {
+    let mut owned = Vec::new(alloc);
+    for word in words {
+        owned.push(String::from_str(alloc, word)?)?;
+    }
+    Ok(owned)
+}
+
+// Units, the exit status of their merge, and the text of the expression that the program returns, or none.
+const UNITS: [(&[u8], u8, &str); 9] = [
+    (b"int main(void) { return 2 + 3; }", 0, "( 2 + 3 )"),
+    (b"int main(void) { return (2); }", 0, "2"),
+    (
+        b"int\tmain(void)\r\n<%\x0breturn 1-(2+3)-2147483647;\x0c%>",
+        0,
+        "( ( 1 - ( 2 + 3 ) ) - 2147483647 )",
+    ),
+    (b"", 65, ""),
+    (b"int main(void) { return 1--1; }", 65, ""),
+    (b"int main(void) { return 2147483648; }", 65, ""),
+    (b"int main(void) { return 007; }", 65, ""),
+    (b"int main(void) { return 1; }\0", 65, ""),
+    (b"\xff", 65, ""),
+];
+
+#[test]
+fn merges_units_of_the_form_and_refuses_others(rt: HostRuntime) -> Result<(), Fail> {
+    let alloc = rt.alloc();
+    for (unit, status, expression) in UNITS {
+        let answer = answer_to(alloc, &["merge", "a.c"], unit, &[], &[], &[])?;
+        let text = format!(in alloc;
+            "int main ( void ) ;\nint main ( void ) {{\n  return {expression} ;\n}}\n"
+        )?;
+        let (written, told) = if status == 0 {
+            (text.as_str(), "")
+        } else {
+            ("", NOT_BUILT)
+        };
+        assert_eq!(rt; answer.status, status, "{unit:?}");
+        assert_eq!(rt; answer.written.as_slice(), written.as_bytes(), "{unit:?}");
+        assert_eq!(rt; answer.told.as_slice(), told.as_bytes(), "{unit:?}");
+    }
+    Ok(())
+}
+
+// Calls that fail on files, standard output and standard error in the merge of a sum, and the exit status, how many bytes of the
+// text were written, and what was told.
+const FAILS: [(&[u64], &[u64], &[u64], u8, usize, &str); 16] = [
+    (&[0], &[], &[], 74, 0, "cil: read fault\n"),
+    (&[1], &[], &[], 74, 0, "cil: read fault\n"),
+    (&[2], &[], &[], 74, 0, "cil: read fault\n"),
+    (&[], &[0], &[], 74, 0, "cil: write fault\n"),
+    (&[], &[1], &[], 74, 10, "cil: write fault\n"),
+    (&[], &[2], &[], 74, 20, "cil: write fault\n"),
+    (&[], &[3], &[], 74, 30, "cil: write fault\n"),
+    (&[], &[4], &[], 74, 40, "cil: write fault\n"),
+    (&[], &[5], &[], 74, 50, "cil: write fault\n"),
+    (&[], &[6], &[], 74, 60, "cil: write fault\n"),
+    (&[], &[1], &[0], 74, 10, ""),
+    (&[], &[1], &[1], 74, 10, "cil: "),
+    (&[], &[1], &[2], 74, 10, "cil: write"),
+    (&[], &[1], &[3], 74, 10, "cil: write faul"),
+    (&[3], &[7], &[], 0, 63, ""),
+    (&[], &[], &[0], 0, 63, ""),
+];
+
+#[test]
+fn tells_each_failed_call(rt: HostRuntime) -> Result<(), Fail> {
+    for (files, out, err, status, count, told) in FAILS {
+        let written = SUM_TEXT
+            .as_bytes()
+            .get(..count)
+            .ok_or("a count past the text")?;
+        let answer = answer_to(
+            rt.alloc(),
+            &["merge", "a.c"],
+            SUM.as_bytes(),
+            files,
+            out,
+            err,
+        )?;
+        assert_eq!(rt; answer.status, status, "{files:?} {out:?} {err:?}");
+        assert_eq!(rt;
+            answer.written.as_slice(),
+            written,
+            "{files:?} {out:?} {err:?}"
+        );
+        assert_eq!(rt;
+            answer.told.as_slice(),
+            told.as_bytes(),
+            "{files:?} {out:?} {err:?}"
+        );
+    }
+    Ok(())
+}
+
+// Words that are no command that is built.
+const NO_COMMANDS: [&[&str]; 14] = [
+    &[],
+    &["merge"],
+    &["merge", ""],
+    &["merge", "-x"],
+    &["merge", "a.c", "a.c"],
+    &["run"],
+    &["run", "-p"],
+    &["run", "--steps", "0", "p"],
+    &["run", "--steps", "01", "p"],
+    &["run", "--steps", "+1", "p"],
+    &["run", "--steps", "1000000000001", "p"],
+    &["run", "--steps", "5"],
+    &["sample", "1", "0"],
+    &["--help"],
+];
+
+#[test]
+fn tells_words_that_are_no_command(rt: HostRuntime) -> Result<(), Fail> {
+    for words in NO_COMMANDS {
+        let answer = answer_to(rt.alloc(), words, SUM.as_bytes(), &[], &[], &[])?;
+        assert_eq!(rt; answer.status, 64, "{words:?}");
+        assert_eq!(rt; answer.written.as_slice(), b"".as_slice(), "{words:?}");
+        assert_eq!(rt; answer.told.as_slice(), USAGE.as_bytes(), "{words:?}");
+    }
+    Ok(())
+}
+
+// Words, the bytes of `a.c`, and the exit status and what was told.
+const RUNS: [(&[&str], &str, u8, &str); 9] = [
+    (&["run", "a.c"], SUM_TEXT, 5, ""),
+    (&["run", "--steps", "1", "a.c"], SUM_TEXT, 5, ""),
+    (&["run", "--steps", "1000000000000", "a.c"], SUM_TEXT, 5, ""),
+    (&["run", "a.c", "-x", "--steps", ""], SUM_TEXT, 5, ""),
+    (
+        &["run", "a.c"],
+        "int main ( void ) ;\nint main ( void ) {\n  return ( 2147483647 + 1 ) ;\n}\n",
+        125,
+        "cil: undefined behaviour\n",
+    ),
+    (
+        &["run", "a.c"],
+        "int main ( void ) ;\nint main ( void ) {\n  return 258 ;\n}\n",
+        2,
+        "",
+    ),
+    (&["run", "a.c"], SUM, 65, NOT_BUILT),
+    (&["run", "a.c"], "", 65, NOT_BUILT),
+    (&["run", "b.c"], SUM_TEXT, 74, "cil: read fault\n"),
+];
+
+#[test]
+fn runs_texts_of_programs_and_refuses_others(rt: HostRuntime) -> Result<(), Fail> {
+    for (words, text, status, told) in RUNS {
+        let answer = answer_to(rt.alloc(), words, text.as_bytes(), &[], &[], &[])?;
+        assert_eq!(rt; answer.status, status, "{words:?} {text}");
+        assert_eq!(rt;
+            answer.written.as_slice(),
+            b"".as_slice(),
+            "{words:?} {text}"
+        );
+        assert_eq!(rt; answer.told.as_slice(), told.as_bytes(), "{words:?} {text}");
+    }
+    Ok(())
+}
+
+// The line of a status whose places are in `a.c`.
+fn line_of(alloc: Global, status: Status) -> Result<Vec<u8>, Fail>
+    requires { HasFiles 1 status }
+{
+    let mut names = NamePool::new(alloc);
+    names.intern(b"a.c")?;
+    let mut err = MemSink::new(alloc, 7, 4096, Vec::new(alloc))?;
+    report(&mut err, &names, 10_000_000, &status);
+    Ok(Vec::from_slice(alloc, err.taken())?)
+}
+
+fn refused(fault: Fault, line: u32, other: Option<u32>) -> Status
+    ensures { HasFiles 1 result }
+{
+    let at = place(line);
+    let other = match other {
+        Some(line) => Some(place(line)),
+        None => None,
+    };
+    Status::Refused(Refusal { fault, at, other })
+}
+
+fn place(line: u32) -> Place
+    ensures { result.file.0 ≡ 0 }
+{
+    Place {
+        unit: UnitNo(0),
+        token: 3,
+        file: NameId(0),
+        line,
+    }
+}
+
+#[test]
+fn tells_each_status_by_its_line(rt: HostRuntime) -> Result<(), Fail> {
+    let alloc = rt.alloc();
+    assert_eq!(rt; line_of(alloc, Status::Done)?.as_slice(), b"".as_slice());
+    assert_eq!(rt;
+        line_of(alloc, Status::Exited(7))?.as_slice(),
+        b"".as_slice()
+    );
+    assert_eq!(rt;
+        line_of(alloc, Status::StillRunning)?.as_slice(),
+        b"cil: still running after 10000000 steps\n".as_slice()
+    );
+    assert_eq!(rt;
+        line_of(alloc, Status::NotCil(63))?.as_slice(),
+        b"cil: not CIL at byte 63\n".as_slice()
+    );
+    assert_eq!(rt;
+        line_of(alloc, Status::Memory)?.as_slice(),
+        b"cil: want of memory\n".as_slice()
+    );
+    for (fault, line, other, told) in [
+        (Fault::Lexical, 2, None, "cil: a.c:2: lexical fault\n"),
+        (
+            Fault::Excluded(Feature::Floating),
+            1,
+            None,
+            "cil: a.c:1: excluded: floating\n",
+        ),
+        (
+            Fault::Syntax,
+            1,
+            Some(1),
+            "cil: a.c:1: syntax fault, stopped at a.c:1\n",
+        ),
+        (
+            Fault::Constraint(Code::Undeclared),
+            13,
+            None,
+            "cil: a.c:13: constraint: undeclared\n",
+        ),
+        (
+            Fault::Limit(What::ObjectSize),
+            1,
+            None,
+            "cil: a.c:1: limit: object size\n",
+        ),
+        (
+            Fault::Duplicate,
+            1,
+            Some(1),
+            "cil: a.c:1: duplicate definition, other at a.c:1\n",
+        ),
+        (
+            Fault::Incompatible,
+            1,
+            Some(4),
+            "cil: a.c:1: incompatible declaration, other at a.c:4\n",
+        ),
+    ] {
+        let told_line = line_of(alloc, refused(fault, line, other))?;
+        assert_eq!(rt; told_line.as_slice(), told.as_bytes());
+    }
+    Ok(())
+}

@@ -1,0 +1,223 @@
+ghost use Rattle.std.specs.Prelude.{◌≡◌, ◌≢◌, ◌≤◌, ◌↔◌, ◌⊎◌, [], None, Some, length, map, unwrap_or, IfSome};
+ghost use Rattle.std.specs.String.{string_bytes};
+ghost use Rattle.c_meaning.specs.Grammar.{Expression, IsUnit};
+ghost use Rattle.cil_meaning.specs.Program.{Exp};
+ghost use Rattle.cil_meaning.specs.Meaning.{RunCil};
+ghost use Rattle.cil_meaning.specs.Text.{Text, IsTextOf};
+ghost use Rattle.outside.specs.Counts.{Rose};
+ghost use Rattle.outside.specs.Moves.{Began, Wrote};
+ghost use Rattle.outside.specs.Named.{find_file, names_of};
+ghost use Rattle.std.specs.Option.{option_map, option_and_then};
+ghost use Rattle.cil_base.specs.declared.runs.Env.{Env};
+ghost use Rattle.cil.specs.Answers.{IsAnswerTo};
+ghost use Rattle.cil.specs.Command.{command_of, file_of, bound_of, steps_asked};
+ghost use Rattle.cil.specs.Execute.{text_asked, IsNoText, IsRunAnswer, RunSays, Tells};
+ghost use Rattle.cil.specs.Lowering.{Merges};
+ghost use Rattle.cil.specs.Merge.{unit_asked, bytes_under, IsNoUnit, IsMergeAnswer, not_built};
+ghost use Rattle.cil.specs.Messages.{line_of, names_asked, IsQuiet, HasFiles};
+ghost use Rattle.cil.specs.Sent.{Sent};
+
+use crate::command::{Command, read_words};
+use crate::execute::execute;
+use crate::merge::merge;
+use crate::report::report;
+use crate::status::Status;
+use cil_base::NamePool;
+use outside::{Files, Sink, Source};
+use std::alloc::Global;
+
+/// Does what the words ask for, over these files, standard input, standard output and standard error, and answers how it ended.
+///
+/// `merge FILE` reads the file as a C translation unit and writes the text of the CIL program that it is merged to. Where it is
+/// `Done`, out took the whole text of a program that is made of the unit and whose run is, in every environment and at every bound
+/// of steps, one that the unit's run allows. It is `Refused` exactly where no call on the files failed and the unit is not of the
+/// form `int main(void) { return E; }`; then, as in each other case but `Done` and `WriteFault`, out took nothing.
+///
+/// `run [--steps N] FILE [ARG...]` reads the file as a CIL text and runs its program: it is `Exited`, `StillRunning` or
+/// `WentUndefined` as the program's run in every environment is, bounded by N steps. It is `Refused` exactly where no call on the
+/// files failed and the bytes are no text of a program of the form.
+///
+/// `Usage` comes exactly where the words are no command; `ReadFault` and `WriteFault` only where a call on files or on out failed,
+/// and every such failure is told; `Memory` wherever memory is wanting. Each status but `Done` and `Exited` is told by one line on
+/// err. Own.
+pub fn cil<F: Files, I: Source, O: Sink, E: Sink>(
+    alloc: Global,
+    words: &[String],
+    files: &mut F,
+    input: &mut I,
+    out: &mut O,
+    err: &mut E,
+) -> Status
+    ensures kind { IsAnswerTo (command_of (map string_bytes words.now)) result }
+    ensures usage { (result ≡ Status.Usage) ↔ (command_of (map string_bytes words.now) ≡ None) }
+
+    // merge
+    ensures done { result ≡ Status.Done → (p : Exp) × IsTextOf (Text p) p × Wrote (O.taken out.old) (O.taken out.new) (Text p) × IfSome (unit_asked (F.told files.old) (map string_bytes words.now)) (λ unit. Merges unit p) }
+    ensures accepted { IfSome (unit_asked (F.told files.old) (map string_bytes words.now)) (λ unit. (e : Expression) → IsUnit unit e → ¬ (Rose (F.faults files.old) (F.faults files.new)) → ¬ (Rose (O.faults out.old) (O.faults out.new)) → (result ≡ Status.Done) ⊎ (result ≡ Status.Memory)) }
+    ensures refused { result ≡ Status.Refused not_built → IfSome (unit_asked (F.told files.old) (map string_bytes words.now)) IsNoUnit }
+    ensures not_of_the_form { IfSome (unit_asked (F.told files.old) (map string_bytes words.now)) (λ unit. IsNoUnit unit → ¬ (Rose (F.faults files.old) (F.faults files.new)) → (result ≡ Status.Refused not_built) ⊎ (result ≡ Status.Memory)) }
+
+    // Where a write failed, out took a front of the text of such a program.
+    ensures part { result ≡ Status.WriteFault → (p : Exp) × IsTextOf (Text p) p × Began (O.taken out.old) (O.taken out.new) (Text p) × IfSome (unit_asked (F.told files.old) (map string_bytes words.now)) (λ unit. Merges unit p) }
+
+    // run
+    ensures ran { IfSome (text_asked (F.told files.old) (map string_bytes words.now)) (λ bytes. RunSays bytes (steps_asked (map string_bytes words.now)) result) }
+    ensures runs { IfSome (text_asked (F.told files.old) (map string_bytes words.now)) (λ bytes. (p : Exp) → IsTextOf bytes p → ¬ (Rose (F.faults files.old) (F.faults files.new)) → ((env : Env) → Tells result (RunCil p env (steps_asked (map string_bytes words.now)))) ⊎ (result ≡ Status.Memory)) }
+    ensures no_text { IfSome (text_asked (F.told files.old) (map string_bytes words.now)) (λ bytes. IsNoText bytes → ¬ (Rose (F.faults files.old) (F.faults files.new)) → (result ≡ Status.Refused not_built) ⊎ (result ≡ Status.Memory)) }
+
+    ensures read { result ≡ Status.ReadFault → Rose (F.faults files.old) (F.faults files.new) }
+    ensures read_told { result ≢ Status.ReadFault → F.faults files.new ≡ F.faults files.old }
+    ensures write { result ≡ Status.WriteFault → Rose (O.faults out.old) (O.faults out.new) }
+    ensures write_told { result ≢ Status.WriteFault → O.faults out.new ≡ O.faults out.old }
+    ensures nothing_written { result ≢ Status.Done → result ≢ Status.WriteFault → out.new ≡ out.old }
+    ensures nothing_read { result ≡ Status.Usage → files.new ≡ files.old }
+    ensures input { input.new ≡ input.old }
+    ensures missing { IfSome (F.told files.old) (λ t. IfSome (file_of (map string_bytes words.now)) (λ name. find_file name t.names ≡ None → (result ≡ Status.ReadFault) ⊎ (result ≡ Status.Memory))) }
+    ensures files_later { F.faults files.old ≤ F.faults files.new }
+    ensures names_stay { names_of (F.told files.new) ≡ names_of (F.told files.old) }
+    ensures out_later { O.faults out.old ≤ O.faults out.new }
+    ensures strays { IfSome (option_and_then (bytes_under (F.told files.old)) (file_of (map string_bytes words.now))) (λ _. F.strays files.new ≡ F.strays files.old) }
+
+    ensures line { Sent (E.taken err.old) (E.taken err.new) (E.faults err.old) (E.faults err.new) (line_of (names_asked (map string_bytes words.now)) (steps_asked (map string_bytes words.now)) result) }
+    ensures quiet { IsQuiet result → err.new ≡ err.old }
+    ensures err_later { E.faults err.old ≤ E.faults err.new }
+{
+    let mut names = NamePool::new(alloc);
+    let command = read_words(words);
+    let status = run_command(alloc, words, &command, &mut names, files, input, out);
+    report(err, &names, steps_of(&command), &status);
+    status
+}
+
+// The bound on steps that a command gives, or 0.
+fn steps_of(command: &Option<Command>) -> u64
+    ensures { result ≡ unwrap_or (option_map bound_of command.now) 0 }
+{
+    match command {
+        Some(Command::Run { steps, .. }) => *steps,
+        Some(Command::Merge { .. }) => 0,
+        None => 0,
+    }
+}
+
+// Does what the command asks for; the files of places in the answer are numbers in `names`.
+fn run_command<F: Files, I: Source, O: Sink>(
+    alloc: Global,
+    words: &[String],
+    command: &Option<Command>,
+    names: &mut NamePool,
+    files: &mut F,
+    input: &mut I,
+    out: &mut O,
+) -> Status
+    requires empty { names.old ≡ [] }
+    requires command { command.now ≡ command_of (map string_bytes words.now) }
+    ensures kind { IsAnswerTo (command_of (map string_bytes words.now)) result }
+    ensures usage { (result ≡ Status.Usage) ↔ (command_of (map string_bytes words.now) ≡ None) }
+    ensures names { result ≢ Status.Memory → names.new ≡ names_asked (map string_bytes words.now) }
+    ensures files { HasFiles (length names.new) result }
+    ensures done { result ≡ Status.Done → (p : Exp) × IsTextOf (Text p) p × Wrote (O.taken out.old) (O.taken out.new) (Text p) × IfSome (unit_asked (F.told files.old) (map string_bytes words.now)) (λ unit. Merges unit p) }
+    ensures accepted { IfSome (unit_asked (F.told files.old) (map string_bytes words.now)) (λ unit. (e : Expression) → IsUnit unit e → ¬ (Rose (F.faults files.old) (F.faults files.new)) → ¬ (Rose (O.faults out.old) (O.faults out.new)) → (result ≡ Status.Done) ⊎ (result ≡ Status.Memory)) }
+    ensures not_of_the_form { IfSome (unit_asked (F.told files.old) (map string_bytes words.now)) (λ unit. IsNoUnit unit → ¬ (Rose (F.faults files.old) (F.faults files.new)) → (result ≡ Status.Refused not_built) ⊎ (result ≡ Status.Memory)) }
+    ensures refused { result ≡ Status.Refused not_built → IfSome (unit_asked (F.told files.old) (map string_bytes words.now)) IsNoUnit }
+    ensures runs { IfSome (text_asked (F.told files.old) (map string_bytes words.now)) (λ bytes. (p : Exp) → IsTextOf bytes p → ¬ (Rose (F.faults files.old) (F.faults files.new)) → ((env : Env) → Tells result (RunCil p env (steps_asked (map string_bytes words.now)))) ⊎ (result ≡ Status.Memory)) }
+    ensures no_text { IfSome (text_asked (F.told files.old) (map string_bytes words.now)) (λ bytes. IsNoText bytes → ¬ (Rose (F.faults files.old) (F.faults files.new)) → (result ≡ Status.Refused not_built) ⊎ (result ≡ Status.Memory)) }
+    ensures ran { IfSome (text_asked (F.told files.old) (map string_bytes words.now)) (λ bytes. RunSays bytes (steps_asked (map string_bytes words.now)) result) }
+    ensures read { result ≡ Status.ReadFault → Rose (F.faults files.old) (F.faults files.new) }
+    ensures read_told { result ≢ Status.ReadFault → F.faults files.new ≡ F.faults files.old }
+    ensures write { result ≡ Status.WriteFault → Rose (O.faults out.old) (O.faults out.new) }
+    ensures write_told { result ≢ Status.WriteFault → O.faults out.new ≡ O.faults out.old }
+    ensures part { result ≡ Status.WriteFault → (p : Exp) × IsTextOf (Text p) p × Began (O.taken out.old) (O.taken out.new) (Text p) × IfSome (unit_asked (F.told files.old) (map string_bytes words.now)) (λ unit. Merges unit p) }
+    ensures nothing_written { result ≢ Status.Done → result ≢ Status.WriteFault → out.new ≡ out.old }
+    ensures nothing_read { result ≡ Status.Usage → files.new ≡ files.old }
+    ensures input { input.new ≡ input.old }
+    ensures missing { IfSome (F.told files.old) (λ t. IfSome (file_of (map string_bytes words.now)) (λ name. find_file name t.names ≡ None → (result ≡ Status.ReadFault) ⊎ (result ≡ Status.Memory))) }
+    ensures files_later { F.faults files.old ≤ F.faults files.new }
+    ensures names_stay { names_of (F.told files.new) ≡ names_of (F.told files.old) }
+    ensures out_later { O.faults out.old ≤ O.faults out.new }
+    ensures strays { IfSome (option_and_then (bytes_under (F.told files.old)) (file_of (map string_bytes words.now))) (λ _. F.strays files.new ≡ F.strays files.old) }
+{
+    match command {
+        None => Status::Usage,
+        Some(Command::Merge { first }) => merge_words(alloc, words, *first, names, files, out),
+        Some(Command::Run { steps, file }) => {
+            run_words(alloc, words, *steps, *file, names, files, input, out)
+        }
+    }
+}
+
+// Merges the file at that position of the words.
+#[tactic(auto, using(crate::proofs::Words::merge_within, crate::proofs::Words::unit_asked_is, crate::proofs::Words::merge_file_is))]
+fn merge_words<F: Files, O: Sink>(
+    alloc: Global,
+    words: &[String],
+    first: u32,
+    names: &mut NamePool,
+    files: &mut F,
+    out: &mut O,
+) -> Status
+    requires empty { names.old ≡ [] }
+    requires command { command_of (map string_bytes words.now) ≡ Some (Command.Merge first) }
+    ensures kind { IsMergeAnswer result }
+    ensures names { result ≢ Status.Memory → names.new ≡ names_asked (map string_bytes words.now) }
+    ensures files { HasFiles (length names.new) result }
+    ensures done { result ≡ Status.Done → (p : Exp) × IsTextOf (Text p) p × Wrote (O.taken out.old) (O.taken out.new) (Text p) × IfSome (unit_asked (F.told files.old) (map string_bytes words.now)) (λ unit. Merges unit p) }
+    ensures accepted { IfSome (unit_asked (F.told files.old) (map string_bytes words.now)) (λ unit. (e : Expression) → IsUnit unit e → ¬ (Rose (F.faults files.old) (F.faults files.new)) → ¬ (Rose (O.faults out.old) (O.faults out.new)) → (result ≡ Status.Done) ⊎ (result ≡ Status.Memory)) }
+    ensures not_of_the_form { IfSome (unit_asked (F.told files.old) (map string_bytes words.now)) (λ unit. IsNoUnit unit → ¬ (Rose (F.faults files.old) (F.faults files.new)) → (result ≡ Status.Refused not_built) ⊎ (result ≡ Status.Memory)) }
+    ensures refused { result ≡ Status.Refused not_built → IfSome (unit_asked (F.told files.old) (map string_bytes words.now)) IsNoUnit }
+    ensures part { result ≡ Status.WriteFault → (p : Exp) × IsTextOf (Text p) p × Began (O.taken out.old) (O.taken out.new) (Text p) × IfSome (unit_asked (F.told files.old) (map string_bytes words.now)) (λ unit. Merges unit p) }
+    ensures read { result ≡ Status.ReadFault → Rose (F.faults files.old) (F.faults files.new) }
+    ensures read_told { result ≢ Status.ReadFault → F.faults files.new ≡ F.faults files.old }
+    ensures write { result ≡ Status.WriteFault → Rose (O.faults out.old) (O.faults out.new) }
+    ensures write_told { result ≢ Status.WriteFault → O.faults out.new ≡ O.faults out.old }
+    ensures nothing_written { result ≢ Status.Done → result ≢ Status.WriteFault → out.new ≡ out.old }
+    ensures missing { IfSome (F.told files.old) (λ t. IfSome (file_of (map string_bytes words.now)) (λ name. find_file name t.names ≡ None → (result ≡ Status.ReadFault) ⊎ (result ≡ Status.Memory))) }
+    ensures files_later { F.faults files.old ≤ F.faults files.new }
+    ensures names_stay { names_of (F.told files.new) ≡ names_of (F.told files.old) }
+    ensures out_later { O.faults out.old ≤ O.faults out.new }
+    ensures strays { IfSome (option_and_then (bytes_under (F.told files.old)) (file_of (map string_bytes words.now))) (λ _. F.strays files.new ≡ F.strays files.old) }
+{
+    merge(alloc, words[first as usize].as_str(), names, files, out)
+}
+
+// Runs the text of the file at that position of the words, with the words from there on.
+#[tactic(auto, using(crate::proofs::Words::run_within, crate::proofs::Words::text_asked_is, crate::proofs::Words::run_file_is, crate::proofs::Words::steps_asked_is))]
+fn run_words<F: Files, I: Source, O: Sink>(
+    alloc: Global,
+    words: &[String],
+    steps: u64,
+    file: u32,
+    names: &mut NamePool,
+    files: &mut F,
+    input: &mut I,
+    out: &mut O,
+) -> Status
+    requires empty { names.old ≡ [] }
+    requires command { command_of (map string_bytes words.now) ≡ Some (Command.Run steps file) }
+    ensures kind { IsRunAnswer result }
+    ensures names { result ≢ Status.Memory → names.new ≡ names_asked (map string_bytes words.now) }
+    ensures files { HasFiles (length names.new) result }
+    ensures runs { IfSome (text_asked (F.told files.old) (map string_bytes words.now)) (λ bytes. (p : Exp) → IsTextOf bytes p → ¬ (Rose (F.faults files.old) (F.faults files.new)) → ((env : Env) → Tells result (RunCil p env (steps_asked (map string_bytes words.now)))) ⊎ (result ≡ Status.Memory)) }
+    ensures no_text { IfSome (text_asked (F.told files.old) (map string_bytes words.now)) (λ bytes. IsNoText bytes → ¬ (Rose (F.faults files.old) (F.faults files.new)) → (result ≡ Status.Refused not_built) ⊎ (result ≡ Status.Memory)) }
+    ensures ran { IfSome (text_asked (F.told files.old) (map string_bytes words.now)) (λ bytes. RunSays bytes (steps_asked (map string_bytes words.now)) result) }
+    ensures read { result ≡ Status.ReadFault → Rose (F.faults files.old) (F.faults files.new) }
+    ensures read_told { result ≢ Status.ReadFault → F.faults files.new ≡ F.faults files.old }
+    ensures missing { IfSome (F.told files.old) (λ t. IfSome (file_of (map string_bytes words.now)) (λ name. find_file name t.names ≡ None → (result ≡ Status.ReadFault) ⊎ (result ≡ Status.Memory))) }
+    ensures files_later { F.faults files.old ≤ F.faults files.new }
+    ensures names_stay { names_of (F.told files.new) ≡ names_of (F.told files.old) }
+    ensures strays { IfSome (option_and_then (bytes_under (F.told files.old)) (file_of (map string_bytes words.now))) (λ _. F.strays files.new ≡ F.strays files.old) }
+    ensures input { input.new ≡ input.old }
+    ensures out { out.new ≡ out.old }
+{
+    let args = &words[file as usize..];
+    execute(
+        alloc,
+        words[file as usize].as_str(),
+        args,
+        steps,
+        names,
+        files,
+        input,
+        out,
+    )
+}
