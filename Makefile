@@ -2,7 +2,7 @@
 PREFIX = /usr/local
 PROGRAM = crates/cil/out/cil
 
-.PHONY: first test install check-docs bench program
+.PHONY: first test install check-docs bench bench-types program
 
 # Proves the program and builds it.
 program:
@@ -25,3 +25,6 @@ check-docs:
 
 bench: program
 	bench/thin.sh $(PROGRAM)
+
+bench-types:
+	bench/types.sh

@@ -1,0 +1,5 @@
+pub mod CapLaws
+pub mod AlignLaws
+pub mod TableLaws
+pub mod OffsetLaws
+pub mod UpdateLaws

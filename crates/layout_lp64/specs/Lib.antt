@@ -1,0 +1,4 @@
+pub mod Capped
+pub mod Placements
+pub mod Tables
+pub mod Stops

@@ -1,0 +1,3 @@
+pub mod Parameters
+pub mod Reflexive
+pub mod Composing

@@ -1,0 +1,5 @@
+pub mod Measure
+pub mod Kinds
+pub mod Compatible
+pub mod Composed
+pub mod Functions

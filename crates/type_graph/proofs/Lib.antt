@@ -1,0 +1,8 @@
+pub mod Lists
+pub mod ShapeLaws
+pub mod NodeEquality
+pub mod ArenaLaws
+pub mod GrowthLaws
+pub mod StepLaws
+pub mod LayoutLaws
+mod LayoutRows

@@ -1,0 +1,5 @@
+pub mod Shapes
+pub mod Arena
+pub mod Renaming
+pub mod Growth
+pub mod Layouts
