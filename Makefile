@@ -2,7 +2,7 @@
 PREFIX = /usr/local
 PROGRAM = crates/cil/out/cil
 
-.PHONY: first test install check-docs bench bench-types program
+.PHONY: first test install check-docs bench bench-types bench-memory program
 
 # Proves the program and builds it.
 program:
@@ -28,3 +28,7 @@ bench: program
 
 bench-types:
 	bench/types.sh
+
+bench-memory:
+	cd crates/memory_bench && rt run >/dev/null
+	bench/memory.sh

@@ -1,0 +1,45 @@
+#!/bin/sh
+# What an access to the store of objects costs: nanoseconds for a load or store of a global, a local of the
+# running activation and an object of malloc, and for a call and return with four locals, beside a C program
+# that makes as many array accesses; and the process memory that one object of 64 MiB takes.
+# Usage: bench/memory.sh PROGRAM. Needs cc and GNU time. The checksums of the two programs must agree.
+program=${1:-crates/memory_bench/out/memory_bench}
+folder=$(mktemp -d) || exit 1
+trap 'rm -rf "$folder"' EXIT
+cc -O2 -o "$folder/plain" "$(dirname "$0")/memory.c" || exit 1
+turns=10000000
+calls=1000000
+user() { /usr/bin/time -f %U "$@" 2>&1 >/dev/null | tail -n 1; }
+# One run each without turns is taken off: it makes the objects.
+cost() { awk -v a="$1" -v b="$2" -v n="$3" 'BEGIN { printf "%.1f", (a - b) * 1e9 / n }'; }
+plain=$(cost "$(user "$folder/plain" globals $turns)" 0 $((2 * turns)))
+want=$("$folder/plain" globals $turns)
+printf '%-8s %10s %7s\n' access ns ratio
+printf '%-8s %10s %7s\n' plain "$plain" 1.0
+status=0
+for mode in globals locals heap; do
+    got=$("$program" $mode $turns)
+    if [ "$got" != "$want" ]; then
+        echo "memory.sh: $mode gives $got and not $want"
+        status=1
+    fi
+    each=$(cost "$(user "$program" $mode $turns)" "$(user "$program" $mode 0)" $((2 * turns)))
+    printf '%-8s %10s %7s\n' $mode "$each" "$(awk -v a="$each" -v b="$plain" 'BEGIN { printf "%.1f", a / b }')"
+    if awk -v a="$each" 'BEGIN { exit !(a > 40) }'; then
+        echo "memory.sh: an access to $mode takes more than 40 ns"
+        status=1
+    fi
+done
+each=$(cost "$(user "$program" calls $calls)" 0 $calls)
+printf '%-8s %10s\n' calls "$each"
+if awk -v a="$each" 'BEGIN { exit !(a > 400) }'; then
+    echo "memory.sh: a call and return with four locals takes more than 400 ns"
+    status=1
+fi
+peak=$(/usr/bin/time -f %M "$program" block 0 2>&1 >/dev/null | tail -n 1)
+printf '64 MiB of malloc: %s KiB of process memory\n' "$peak"
+if [ "$peak" -gt 204800 ]; then
+    echo "memory.sh: 64 MiB of malloc takes more than 200 MiB"
+    status=1
+fi
+exit $status

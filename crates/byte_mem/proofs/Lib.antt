@@ -1,0 +1,11 @@
+mod Rows
+pub mod ContentsLemmas
+pub mod ScalarLemmas
+pub mod ObjectLemmas
+pub mod SlotLemmas
+pub mod FrameLemmas
+pub mod NameLemmas
+pub mod StoreLemmas
+pub mod OperatorLemmas
+pub mod BelowLemmas
+pub mod AgainLemmas

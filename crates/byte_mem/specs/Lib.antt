@@ -1,0 +1,12 @@
+pub mod Steps
+pub mod Name
+pub mod Scalar
+pub mod Object
+pub mod Memory
+pub mod Operator
+pub mod Below
+pub mod Contents
+pub mod Change
+pub mod Layers
+pub mod Store
+pub mod Laws

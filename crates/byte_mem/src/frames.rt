@@ -1,0 +1,239 @@
+ghost use Rattle.std.specs.Prelude.{◌≡◌, ◌≢◌, ◌<◌, ◌≤◌, ◌+◌, ◌↔◌, ℕ, [], None, Some, option_map, length, IsTrue, MatchOption, OnOk};
+ghost use Rattle.byte_mem.specs.Change.{changed_live};
+ghost use Rattle.byte_mem.specs.Layers.{slot, local, number_at, slots_at, IsFrame, IsAbsent, IsRising, SlotChanges, LocalChanges, LocalPut, IsLocalPut, IsPut};
+
+use crate::objects::{Change, Object};
+use crate::pointers::Pointer;
+use crate::slots::Slots;
+use cil_base::Abi;
+use std::alloc::{AllocError, Global};
+use std::marker::Model;
+
+/// The objects of an activation of a function.
+#[derive(Drop)]
+pub struct Frame {
+    pub activation: u64,
+    pub slots: Slots,
+}
+
+/// The activations that have objects, in rising order of their numbers. Most accesses are to the last.
+#[derive(Drop)]
+pub struct Stack {
+    frames: Vec<Frame>,
+}
+
+impl Model for Stack {
+    ghost use Rattle.std.specs.Prelude.{List};
+    ghost use Rattle.byte_mem.specs.declared.frames.Frame.{Frame};
+
+    ghost Value = { List Frame };
+
+    ghost use Rattle.byte_mem.specs.Layers.{IsRising};
+
+    ghost view = { λ s. s.frames.items };
+
+    ghost invariant = { λ s. IsRising s.frames.items };
+}
+
+impl Stack {
+    pub fn new(alloc: Global) -> Self
+        ensures { result ≡ [] }
+    {
+        Stack {
+            frames: Vec::new(alloc),
+        }
+    }
+
+    /// The object of a number in an activation.
+    pub fn get(&self, activation: u64, i: usize) -> Option<&Object>
+        ensures { local self.now activation i ≡ option_map (λ o. o.now) result }
+    {
+        get_in(&self.frames, activation, i)
+    }
+
+    /// Changes the object of a number in an activation.
+    pub fn change(
+        &mut self,
+        abi: Abi,
+        activation: u64,
+        i: usize,
+        at: Pointer,
+        change: Change<'_>,
+    ) -> Option<()>
+        ensures { LocalChanges result self.old self.new activation i (changed_live abi at.offset change.entry (local self.old activation i)) }
+    {
+        change_in(&mut self.frames, abi, activation, i, at, change)
+    }
+
+    /// Puts an object into an activation, in the place of an earlier one.
+    pub fn put(
+        &mut self,
+        alloc: Global,
+        activation: u64,
+        i: usize,
+        object: Object,
+    ) -> Result<(), AllocError>
+        ensures { LocalPut result self.old self.new activation i (Some object) }
+    {
+        match find(&self.frames, activation) {
+            Some(k) => put_in(&mut self.frames, k, activation, i, object),
+            None => add_frame(&mut self.frames, alloc, activation, i, object),
+        }
+    }
+
+    /// Ends an object of an activation, and takes away activations at the end that have none.
+    pub fn clear(&mut self, activation: u64, i: usize)
+        ensures { IsLocalPut self.old self.new activation i None }
+    {
+        clear_in(&mut self.frames, activation, i);
+        shed(&mut self.frames);
+    }
+}
+
+#[tactic(auto, using(crate::proofs::FrameLemmas::local_found, crate::proofs::FrameLemmas::local_absent))]
+fn get_in(frames: &[Frame], activation: u64, i: usize) -> Option<&Object>
+    requires { IsRising frames.now }
+    ensures { local frames.now activation i ≡ option_map (λ o. o.now) result }
+{
+    match find(frames, activation) {
+        Some(k) => frames[k].slots.get(i),
+        None => None,
+    }
+}
+
+/// The place of an activation among the frames.
+#[tactic(auto, using(crate::proofs::FrameLemmas::number_read))]
+fn find(frames: &[Frame], activation: u64) -> Option<usize>
+    requires { IsRising frames.now }
+    ensures { MatchOption result (IsAbsent frames.now activation) (λ k. IsFrame frames.now activation k) }
+{
+    let top = frames.len();
+    if top == 0 {
+        return None;
+    }
+    if frames[top - 1].activation == activation {
+        return Some(top - 1);
+    }
+    let k = position(frames, activation);
+    if is_at(frames, k, activation) {
+        Some(k)
+    } else {
+        None
+    }
+}
+
+/// Whether the frame at a place is that of an activation.
+#[tactic(auto, using(crate::proofs::FrameLemmas::number_read))]
+fn is_at(frames: &[Frame], k: usize, activation: u64) -> bool
+    ensures { IsTrue result ↔ IsFrame frames.now activation k }
+{
+    k < frames.len() && frames[k].activation == activation
+}
+
+/// The number of frames of lower activations.
+#[tactic(auto, using(crate::proofs::FrameLemmas::number_read))]
+fn position(frames: &[Frame], activation: u64) -> usize
+    requires { IsRising frames.now }
+    ensures within { result ≤ length frames.now }
+    ensures below { (k : ℕ) → k < result → number_at frames.now k < activation }
+    ensures above { (k : ℕ) → result ≤ k → k < length frames.now → activation ≤ number_at frames.now k }
+{
+    let mut low = 0;
+    let mut high = frames.len();
+    while low < high {
+        let middle = low + (high - low) / 2;
+        if frames[middle].activation < activation {
+            low = middle + 1;
+        } else {
+            high = middle;
+        }
+    }
+    low
+}
+
+fn change_in(
+    frames: &mut [Frame],
+    abi: Abi,
+    activation: u64,
+    i: usize,
+    at: Pointer,
+    change: Change<'_>,
+) -> Option<()>
+    requires { IsRising frames.old }
+    ensures changed { LocalChanges result frames.old frames.new activation i (changed_live abi at.offset change.entry (local frames.old activation i)) }
+    ensures rising { IsRising frames.new }
+{
+    match find(frames, activation) {
+        Some(k) => frames[k].slots.change(abi, i, at, change),
+        None => None,
+    }
+}
+
+fn put_in(
+    frames: &mut [Frame],
+    k: usize,
+    activation: u64,
+    i: usize,
+    object: Object,
+) -> Result<(), AllocError>
+    requires rising { IsRising frames.old }
+    requires found { IsFrame frames.old activation k }
+    ensures put { LocalPut result frames.old frames.new activation i (Some object) }
+    ensures rising { IsRising frames.new }
+{
+    frames[k].slots.put(i, object)
+}
+
+/// Adds the frame of an activation that has none yet.
+fn add_frame(
+    frames: &mut Vec<Frame>,
+    alloc: Global,
+    activation: u64,
+    i: usize,
+    object: Object,
+) -> Result<(), AllocError>
+    requires rising { IsRising frames.old.items }
+    requires absent { IsAbsent frames.old.items activation }
+    ensures put { LocalPut result frames.old.items frames.new.items activation i (Some object) }
+    ensures rising { IsRising frames.new.items }
+{
+    let mut slots = Slots::new(alloc);
+    slots.put(i, object)?;
+    let k = position(frames, activation);
+    frames.insert(k, Frame { activation, slots })?;
+    Ok(())
+}
+
+fn clear_in(frames: &mut [Frame], activation: u64, i: usize)
+    requires { IsRising frames.old }
+    ensures cleared { IsLocalPut frames.old frames.new activation i None }
+    ensures rising { IsRising frames.new }
+{
+    match find(frames, activation) {
+        Some(k) => frames[k].slots.clear(i),
+        None => {}
+    }
+}
+
+/// Takes the frames at the end away that have no objects.
+fn shed(frames: &mut Vec<Frame>)
+    requires { IsRising frames.old.items }
+    ensures same { (a k : ℕ) → local frames.new.items a k ≡ local frames.old.items a k }
+    ensures rising { IsRising frames.new.items }
+{
+    let last = used(frames);
+    frames.truncate(last);
+}
+
+/// The number of frames up to the last that has objects.
+#[tactic(auto, using(crate::proofs::FrameLemmas::slots_read, crate::proofs::FrameLemmas::slots_past))]
+fn used(frames: &[Frame]) -> usize
+    ensures within { result ≤ length frames.now }
+    ensures rest { (k : ℕ) → result ≤ k → slots_at frames.now k ≡ [] }
+{
+    let mut last = frames.len();
+    while last > 0 && frames[last - 1].slots.is_empty() {
+        last -= 1;
+    }
+    last
+}

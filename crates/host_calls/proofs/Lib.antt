@@ -1,0 +1,4 @@
+pub mod NameLemmas
+pub mod CountLemmas
+pub mod ArgumentLemmas
+pub mod BelowLemmas
