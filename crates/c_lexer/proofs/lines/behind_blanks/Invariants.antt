@@ -1,0 +1,6 @@
+use Rattle.std.proofs.Common.{◌≡◌, drop}
+use Rattle.c_lexer.specs.Lines.{behind_blanks}
+use Rattle.c_lexer.proofs.lines.behind_blanks.Given as goal
+
+abbrev pub invariant-loop-i : goal.invariant-loop-i
+invariant-loop-i l = behind_blanks (drop l.i l.text) ≡ behind_blanks l.text

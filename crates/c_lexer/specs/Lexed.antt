@@ -1,0 +1,50 @@
+-- Definition: the tokens of a unit as callers see them: each one's text is the source from its start up to its end, and its place the one on which it begins.
+use Rattle.std.specs.Prelude.{◌≡◌, ℕ, ◌-◌, ◌==◌, List, length, take, drop, Option, Some, slice_get, if◌then◌else◌, Result, Ok, Err}
+use Rattle.std.specs.Option.{option_map}
+use Rattle.cil_base.specs.declared.numbers.UnitNo.{UnitNo}
+use Rattle.cil_base.specs.declared.numbers.NameId.{NameId}
+use Rattle.cil_base.specs.declared.tokens.Token.{Token}
+use Rattle.cil_base.specs.declared.faults.Place.{Place}
+use Rattle.cil_base.specs.declared.faults.Stop.{Stop}
+use Rattle.cil_base.specs.declared.faults.Stop.TheVariants.{Refused as IsRefused, Memory as IsMemory}
+use Rattle.cil_base.specs.NamePool.{interned_all}
+use Rattle.c_lexer.specs.Tokens.{Answer, Whole, Refused}
+use Rattle.c_lexer.specs.declared.entries.Entry.{Entry}
+use Rattle.c_lexer.specs.declared.entries.Spot.{Spot}
+
+pub record Lexed : Type 0 where
+  pub source : List ℕ
+  pub unit : UnitNo
+  pub entries : List Entry
+  pub end : Spot
+
+abbrev pub token_at : Lexed → ℕ → Option Token
+token_at t i = option_map (λ (e : Entry). e.token) (slice_get t.entries i)
+
+abbrev pub text_of : List ℕ → Entry → List ℕ
+text_of source e = take (e.token.end - e.token.start) (drop e.token.start source)
+
+abbrev pub text_at : Lexed → ℕ → Option (List ℕ)
+text_at t i = option_map (text_of t.source) (slice_get t.entries i)
+
+abbrev pub place_of : UnitNo → ℕ → NameId → ℕ → Place
+place_of unit token file line = record { unit = unit; token = token; file = file; line = line }
+
+-- the place of a token, or of the unit's end, which counts as one more
+abbrev pub place_at : Lexed → ℕ → Option Place
+place_at t i = if i == length t.entries then Some (place_of t.unit i t.end.file t.end.line) else option_map (λ (e : Entry). place_of t.unit i e.file e.line) (slice_get t.entries i)
+
+-- the tokens of the source, or the refusal, with the names that the pool has then; nothing where memory is wanting
+abbrev pub Gives : Result Lexed Stop → List ℕ → UnitNo → List (List ℕ) → Answer → Type 0
+Gives (Ok t) source unit names answer = (answer ≡ Whole t.entries t.end names) × (t.source ≡ source) × (t.unit ≡ unit)
+Gives (Err (IsRefused refusal)) source unit names answer = answer ≡ Refused refusal names
+Gives (Err IsMemory) source unit names answer = Unit {0}
+
+-- some answer is of the kind, and fits
+abbrev pub IfAnswered : (Answer → Type 0) → (Answer → Type 0) → Type 0
+IfAnswered Fits IsOne = (answer : Answer) × IsOne answer × Fits answer
+
+-- some texts were asked for in turn
+pub record Grows (old new : List (List ℕ)) : Type 0 where
+  pub asked : List (List ℕ)
+  pub is : new ≡ interned_all old asked

@@ -1,0 +1,13 @@
+pub mod Bytes
+pub mod Languages
+pub mod Longest
+pub mod Words
+pub mod Constants
+pub mod Lines
+pub mod Tokens
+pub mod Automaton
+pub mod View
+pub mod ReaderView
+pub mod Entries
+pub mod Lexed
+pub mod Accepted

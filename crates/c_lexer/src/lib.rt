@@ -1,0 +1,31 @@
+//! The lexer: the bytes of a translation unit become its tokens, each with its place in the source.
+//!
+//! Its public contract gives the answer for the bytes of a unit exactly: cut from the left into the longest pieces, its tokens with their
+//! numbers, texts and presumed places, or the first refusal with its fault and place; a text has one such answer.
+//!
+//! The rules come from C11 6.4 (tokens by longest match), 6.10.4 (presumed lines) and, for what is left out, from the project's own profile.
+#![tactic(auto)]
+
+mod attributes;
+mod automaton;
+mod bytes;
+mod constants;
+mod entries;
+mod escapes;
+mod lexer;
+mod lines;
+mod meaning;
+mod pieces;
+mod reader;
+mod state;
+mod tokens;
+mod words;
+
+pub use automaton::piece;
+pub use entries::{Entry, Spot};
+pub use lexer::lex;
+pub use pieces::{Kind, Raw, Sign};
+pub use tokens::Tokens;
+
+#[cfg(test)]
+mod tests;
