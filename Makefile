@@ -2,7 +2,7 @@
 PREFIX = /usr/local
 PROGRAM = crates/cil/out/cil
 
-.PHONY: first test install check-docs bench bench-types bench-memory program
+.PHONY: first test install check-docs bench bench-lex bench-types bench-memory program
 
 # Proves the program and builds it.
 program:
@@ -25,6 +25,9 @@ check-docs:
 
 bench: program
 	bench/thin.sh $(PROGRAM)
+
+bench-lex: program
+	bench/lex.sh $(PROGRAM)
 
 bench-types:
 	bench/types.sh

@@ -209,10 +209,14 @@ accepts TwoDots = None
 accepts PercentColonPercent = None
 accepts Stray = Some Broken
 
+-- a piece that is whole, and may be longer with more bytes
+abbrev pub whole : Kind → ℕ → Raw
+whole kind len = record { kind = kind; len = len; at_end = false }
+
 -- the longest piece so far, with one more byte
 abbrev pub longer : Option Kind → ℕ → Raw → Raw
 longer None len last = last
-longer (Some kind) len last = record { kind = kind; len = len; at_end = false }
+longer (Some kind) len last = whole kind len
 
 abbrev pub on_state : Option State → Raw → (State → Raw) → Raw
 on_state None last go = last

@@ -1,10 +1,13 @@
 -- Definition: the tokens of a unit as callers see them: each one's text is the source from its start up to its end, and its place the one on which it begins.
-use Rattle.std.specs.Prelude.{◌≡◌, ℕ, ◌-◌, ◌==◌, List, length, take, drop, Option, Some, slice_get, if◌then◌else◌, Result, Ok, Err}
+use Rattle.std.specs.Prelude.{◌≡◌, ℕ, ◌+◌, ◌-◌, ◌<◌, ◌==◌, List, [], ◌∷◌, length, take, drop, Option, Some, None, slice_get, if◌then◌else◌, Result, Ok, Err}
 use Rattle.std.specs.Option.{option_map}
 use Rattle.cil_base.specs.declared.numbers.UnitNo.{UnitNo}
 use Rattle.cil_base.specs.declared.numbers.NameId.{NameId}
 use Rattle.cil_base.specs.declared.tokens.Token.{Token}
+use Rattle.cil_base.specs.declared.faults.Fault.{Fault}
+use Rattle.cil_base.specs.declared.faults.Fault.TheVariants.{Lexical, Excluded, Limit}
 use Rattle.cil_base.specs.declared.faults.Place.{Place}
+use Rattle.cil_base.specs.declared.faults.Refusal.{Refusal}
 use Rattle.cil_base.specs.declared.faults.Stop.{Stop}
 use Rattle.cil_base.specs.declared.faults.Stop.TheVariants.{Refused as IsRefused, Memory as IsMemory}
 use Rattle.cil_base.specs.NamePool.{interned_all}
@@ -48,3 +51,27 @@ IfAnswered Fits IsOne = (answer : Answer) × IsOne answer × Fits answer
 pub record Grows (old new : List (List ℕ)) : Type 0 where
   pub asked : List (List ℕ)
   pub is : new ≡ interned_all old asked
+
+-- the faults that tokens have: the lexical one, what is excluded, and limits
+abbrev pub IsTokenFault : Fault → Type 0
+IsTokenFault Lexical = Unit {0}
+IsTokenFault (Excluded feature) = Unit {0}
+IsTokenFault (Limit what) = Unit {0}
+IsTokenFault _ = ⊥
+
+-- a refusal that tokens have: with one place, in the unit, whose file is one of so many names
+pub record IsTokenRefusal (u : UnitNo) (count : ℕ) (refusal : Refusal) : Type 0 where
+  pub fault : IsTokenFault refusal.fault
+  pub unit : refusal.at.unit ≡ u
+  pub file : refusal.at.file.0 < count
+  pub other : refusal.other ≡ None
+
+abbrev pub IfRefused : {A : Type 0} → Result A Stop → (Refusal → Type 0) → Type 0
+IfRefused (Ok a) Fits = Unit {0}
+IfRefused (Err (IsRefused refusal)) Fits = Fits refusal
+IfRefused (Err IsMemory) Fits = Unit {0}
+
+-- how many bytes the tokens have together
+abbrev pub bytes_in : List Entry → ℕ
+bytes_in [] = 0
+bytes_in (e ∷ es) = (e.token.end - e.token.start) + bytes_in es

@@ -98,8 +98,18 @@ fn part_of(kind: Kind) -> Part
     }
 }
 
-/// What a piece is to an attribute: what is excluded elsewhere is a token here, and a lexical fault is none.
+/// What a piece is to an attribute: what is excluded elsewhere is a token here, and a lexical fault is none. No word is a lexical fault.
+#[tactic(auto, using(crate::proofs::Parts::word_part))]
 pub fn part_of_piece(kind: Kind, text: &[u8]) -> Part
+    ensures { result ≡ part kind text.now }
+{
+    match kind {
+        Kind::Word => Part::Word,
+        _ => part_of_other(kind, text),
+    }
+}
+
+fn part_of_other(kind: Kind, text: &[u8]) -> Part
     ensures { result ≡ part kind text.now }
 {
     if is_lexical(meaning_of_piece(kind, text)) {

@@ -7,6 +7,7 @@ use crate::escapes::{
     exponent_behind, literal_behind, number_behind, universal_behind, word_behind,
 };
 use crate::pieces::{Kind, Raw, Sign};
+use crate::runs::{blanks, literal, run, sign, word};
 use crate::state::{Mode, Prefix, Quote, State};
 use cil_base::Punctuator;
 
@@ -227,7 +228,7 @@ fn only_equal(punctuator: Punctuator, b: u8) -> Option<State>
 
 /// A punctuator with one more byte.
 #[tactic(auto, unfolding(crate::specs::Automaton::behind_punctuator))]
-fn behind_punctuator(punctuator: Punctuator, b: u8) -> Option<State>
+pub fn behind_punctuator(punctuator: Punctuator, b: u8) -> Option<State>
     ensures { result ≡ behind_punctuator punctuator b }
 {
     match punctuator {
@@ -264,7 +265,7 @@ fn behind_sign(sign: Sign, b: u8) -> Option<State>
 }
 
 impl Quote {
-    fn byte(self) -> u8
+    pub fn byte(self) -> u8
         ensures { result ≡ quote_byte self }
     {
         match self {
@@ -428,8 +429,15 @@ pub fn accepts(state: State) -> Option<Kind>
     }
 }
 
+/// A byte that begins no piece.
+const NO_PIECE: Raw = Raw {
+    kind: Kind::Broken,
+    len: 1,
+    at_end: false,
+};
+
 /// The longest piece so far, with one more byte.
-fn longer(kind: Option<Kind>, len: usize, last: Raw) -> Raw
+pub fn longer(kind: Option<Kind>, len: usize, last: Raw) -> Raw
     ensures value { result ≡ longer kind len last }
     ensures some { 1 ≤ len → 1 ≤ last.len → 1 ≤ result.len }
     ensures within { last.len ≤ len → result.len ≤ len }
@@ -456,34 +464,19 @@ pub fn piece(fresh: bool, first: u8, rest: &[u8]) -> Raw
     munched(fresh, first, rest)
 }
 
-/// The automaton's run, which keeps the last piece that was whole.
+/// The automaton's run. Words, blanks and literals, of which a text has most, go by loops of their own, and most signs need none.
 #[tactic(auto, unfolding(crate::specs::Automaton::piece))]
 fn munched(fresh: bool, first: u8, rest: &[u8]) -> Raw
     ensures reading { result ≡ piece fresh first rest.now }
     ensures some { 1 ≤ result.len }
     ensures within { result.len ≤ length rest.now + 1 }
 {
-    let mut state = begins(fresh, first);
-    let mut last = longer(
-        accepts(state),
-        1,
-        Raw {
-            kind: Kind::Broken,
-            len: 1,
-            at_end: false,
-        },
-    );
-    for (i, b) in rest.iter().enumerate() {
-        match behind(state, *b) {
-            None => return last,
-            Some(next) => {
-                state = next;
-                last = longer(accepts(next), i + 2, last);
-            }
-        }
-    }
-    Raw {
-        at_end: true,
-        ..last
+    let state = begins(fresh, first);
+    match state {
+        State::Word(Mode::Plain) => word(rest),
+        State::Blanks => blanks(rest),
+        State::Sign(Sign::Read(punctuator)) => sign(punctuator, rest),
+        State::Opened(quote) => literal(quote, rest),
+        _ => run(state, longer(accepts(state), 1, NO_PIECE), 1, rest),
     }
 }

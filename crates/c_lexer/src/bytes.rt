@@ -15,11 +15,14 @@ pub fn is_nondigit(b: u8) -> bool
     b.is_ascii_alphabetic() || b == b'_'
 }
 
+/// A bit for each byte, 64 of them in a number, the lowest first: whether it is a nondigit or a digit.
+const WORD_BITS: [u64; 4] = [0x03ff_0000_0000_0000, 0x07ff_fffe_87ff_fffe, 0, 0];
+
 /// A nondigit or a digit.
 pub fn is_word_byte(b: u8) -> bool
     ensures { result ≡ is_word_byte b }
 {
-    is_nondigit(b) || b.is_ascii_digit()
+    (WORD_BITS[usize::from(b >> 6)] >> (b & 63)) & 1 == 1
 }
 
 /// A letter behind which a sign belongs to a preprocessing number (C11 6.4.8).

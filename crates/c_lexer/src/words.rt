@@ -1,5 +1,5 @@
-ghost use Rattle.std.specs.Prelude.{◌≡◌};
-ghost use Rattle.c_lexer.specs.Words.{spelling, spelled_meaning, words_with, found, word_meaning, first_byte, is_skipped_name};
+ghost use Rattle.std.specs.Prelude.{◌≡◌, ◌≢◌};
+ghost use Rattle.c_lexer.specs.Words.{spelling, spelled_meaning, words_with, found, word_meaning, first_byte, skipped_names, is_skipped_name};
 
 use cil_base::{Feature, Keyword};
 
@@ -265,51 +265,13 @@ impl Spelled {
     }
 }
 
-/// The words with a meaning that begin with the byte.
+/// The words with a meaning that begin with the byte, which is no underscore.
 #[tactic(auto, unfolding(crate::specs::Words::words_with))]
 fn words_with(first: u8) -> &'static [Spelled]
+    requires { first ≢ 95 }
     ensures { result.now ≡ words_with first }
 {
     match first {
-        b'_' => &[
-            Spelled::LowAlignas,
-            Spelled::Keyword(Keyword::Alignof),
-            Spelled::LowAtomic,
-            Spelled::Keyword(Keyword::Bool),
-            Spelled::LowComplex,
-            Spelled::LowGeneric,
-            Spelled::LowImaginary,
-            Spelled::Keyword(Keyword::Noreturn),
-            Spelled::Keyword(Keyword::StaticAssert),
-            Spelled::LowThreadLocal,
-            Spelled::UnderFunctionUpperUnder,
-            Spelled::UnderAsm,
-            Spelled::UnderAsmUnder,
-            Spelled::UnderAttribute,
-            Spelled::UnderAttributeUnder,
-            Spelled::UnderAutoType,
-            Spelled::UnderBuiltinVaArg,
-            Spelled::UnderBuiltinVaCopy,
-            Spelled::UnderBuiltinVaEnd,
-            Spelled::UnderBuiltinVaList,
-            Spelled::UnderBuiltinVaStart,
-            Spelled::UnderConst,
-            Spelled::UnderExtensionUnder,
-            Spelled::UnderFuncUnder,
-            Spelled::UnderInline,
-            Spelled::UnderInlineUnder,
-            Spelled::UnderInt128,
-            Spelled::UnderInt128T,
-            Spelled::UnderRestrict,
-            Spelled::UnderRestrictUnder,
-            Spelled::UnderSignedUnder,
-            Spelled::UnderThread,
-            Spelled::UnderTypeof,
-            Spelled::UnderTypeofUnder,
-            Spelled::UnderUint128T,
-            Spelled::UnderVolatile,
-            Spelled::UnderVolatileUnder,
-        ],
         b'a' => &[Spelled::Asm, Spelled::Keyword(Keyword::Auto)],
         b'b' => &[Spelled::Keyword(Keyword::Break)],
         b'c' => &[
@@ -361,31 +323,110 @@ fn words_with(first: u8) -> &'static [Spelled]
     }
 }
 
-/// The names of attributes that are skipped (own).
-const SKIPPED_NAMES: [Spelled; 22] = [
-    Spelled::NamedUnused,
-    Spelled::NamedUnderUnusedUnder,
-    Spelled::NamedNoreturn,
-    Spelled::NamedUnderNoreturnUnder,
-    Spelled::Keyword(Keyword::Const),
-    Spelled::NamedUnderConstUnder,
-    Spelled::NamedPure,
-    Spelled::NamedUnderPureUnder,
-    Spelled::NamedNothrow,
-    Spelled::NamedUnderNothrowUnder,
-    Spelled::NamedLeaf,
-    Spelled::NamedUnderLeafUnder,
-    Spelled::NamedNonnull,
-    Spelled::NamedUnderNonnullUnder,
-    Spelled::NamedFormat,
-    Spelled::NamedUnderFormatUnder,
-    Spelled::NamedMalloc,
-    Spelled::NamedUnderMallocUnder,
-    Spelled::NamedWarnUnusedResult,
-    Spelled::NamedUnderWarnUnusedResultUnder,
-    Spelled::NamedDeprecated,
-    Spelled::NamedUnderDeprecatedUnder,
-];
+/// Of the words with a meaning that begin with an underscore those that are as long as the text.
+#[tactic(auto, unfolding(crate::specs::Words::words_with))]
+fn underscored(text: &[u8]) -> &'static [Spelled]
+    ensures { found result.now text.now ≡ found (words_with 95) text.now }
+{
+    match text.len() {
+        5 => &[Spelled::Keyword(Keyword::Bool), Spelled::UnderAsm],
+        7 => &[
+            Spelled::LowAtomic,
+            Spelled::UnderAsmUnder,
+            Spelled::UnderConst,
+        ],
+        8 => &[
+            Spelled::LowAlignas,
+            Spelled::Keyword(Keyword::Alignof),
+            Spelled::LowComplex,
+            Spelled::LowGeneric,
+            Spelled::UnderFuncUnder,
+            Spelled::UnderInline,
+            Spelled::UnderInt128,
+            Spelled::UnderThread,
+            Spelled::UnderTypeof,
+        ],
+        9 => &[Spelled::Keyword(Keyword::Noreturn)],
+        10 => &[
+            Spelled::LowImaginary,
+            Spelled::UnderInlineUnder,
+            Spelled::UnderInt128T,
+            Spelled::UnderRestrict,
+            Spelled::UnderSignedUnder,
+            Spelled::UnderTypeofUnder,
+            Spelled::UnderVolatile,
+        ],
+        11 => &[
+            Spelled::UnderAttribute,
+            Spelled::UnderAutoType,
+            Spelled::UnderUint128T,
+        ],
+        12 => &[
+            Spelled::UnderFunctionUpperUnder,
+            Spelled::UnderRestrictUnder,
+            Spelled::UnderVolatileUnder,
+        ],
+        13 => &[
+            Spelled::LowThreadLocal,
+            Spelled::UnderAttributeUnder,
+            Spelled::UnderExtensionUnder,
+        ],
+        14 => &[Spelled::Keyword(Keyword::StaticAssert)],
+        16 => &[Spelled::UnderBuiltinVaArg, Spelled::UnderBuiltinVaEnd],
+        17 => &[Spelled::UnderBuiltinVaCopy, Spelled::UnderBuiltinVaList],
+        18 => &[Spelled::UnderBuiltinVaStart],
+        _ => &[],
+    }
+}
+
+/// Words of which one is the text, if it has a meaning.
+fn candidates(text: &[u8]) -> &'static [Spelled]
+    ensures { found result.now text.now ≡ found (words_with (first_byte text.now)) text.now }
+{
+    let first = first_byte(text);
+    if first == b'_' {
+        underscored(text)
+    } else {
+        words_with(first)
+    }
+}
+
+/// Of the names of attributes that are skipped those that are as long as the text (own).
+fn skipped_names(text: &[u8]) -> &'static [Spelled]
+    ensures { found result.now text.now ≡ found skipped_names text.now }
+{
+    match text.len() {
+        4 => &[Spelled::NamedPure, Spelled::NamedLeaf],
+        5 => &[Spelled::Keyword(Keyword::Const)],
+        6 => &[
+            Spelled::NamedUnused,
+            Spelled::NamedFormat,
+            Spelled::NamedMalloc,
+        ],
+        7 => &[Spelled::NamedNothrow, Spelled::NamedNonnull],
+        8 => &[
+            Spelled::NamedNoreturn,
+            Spelled::NamedUnderPureUnder,
+            Spelled::NamedUnderLeafUnder,
+        ],
+        9 => &[Spelled::NamedUnderConstUnder],
+        10 => &[
+            Spelled::NamedUnderUnusedUnder,
+            Spelled::NamedUnderFormatUnder,
+            Spelled::NamedUnderMallocUnder,
+            Spelled::NamedDeprecated,
+        ],
+        11 => &[
+            Spelled::NamedUnderNothrowUnder,
+            Spelled::NamedUnderNonnullUnder,
+        ],
+        12 => &[Spelled::NamedUnderNoreturnUnder],
+        14 => &[Spelled::NamedUnderDeprecatedUnder],
+        18 => &[Spelled::NamedWarnUnusedResult],
+        22 => &[Spelled::NamedUnderWarnUnusedResultUnder],
+        _ => &[],
+    }
+}
 
 /// The one of some words that is written so.
 fn found(words: &[Spelled], text: &[u8]) -> Option<Spelled>
@@ -404,7 +445,7 @@ fn found(words: &[Spelled], text: &[u8]) -> Option<Spelled>
 pub fn word_meaning(text: &[u8]) -> WordMeaning
     ensures { result ≡ word_meaning text.now }
 {
-    match found(words_with(first_byte(text)), text) {
+    match found(candidates(text), text) {
         Some(word) => word.meaning(),
         None => WordMeaning::Name,
     }
@@ -424,5 +465,5 @@ pub fn first_byte(text: &[u8]) -> u8
 pub fn is_skipped_name(text: &[u8]) -> bool
     ensures { result ≡ is_skipped_name text.now }
 {
-    found(&SKIPPED_NAMES, text).is_some()
+    found(skipped_names(text), text).is_some()
 }
