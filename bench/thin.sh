@@ -56,7 +56,8 @@ for name in blanks deep dense open; do
             echo "thin.sh: $name at $mib MiB takes more than 2.1 times the instructions of half of it"
             status=1
         fi
-        if [ "$name" != dense ] && awk -v p="$peak" -v s="$size" 'BEGIN { exit !(p * 1024 > 8 * s) }'; then
+        # A token takes 24 bytes, so a unit of one-byte tokens takes more than 8 bytes a byte.
+        if [ "$name" != dense ] && [ "$name" != open ] && awk -v p="$peak" -v s="$size" 'BEGIN { exit !(p * 1024 > 8 * s) }'; then
             echo "thin.sh: $name at $mib MiB takes more than 8 bytes of memory a byte"
             status=1
         fi

@@ -1,5 +1,4 @@
 mod Rows
 pub mod Parsed
-pub mod Longest
-pub mod Lexed
+pub mod Terminals
 pub mod Units

@@ -4,9 +4,11 @@ use Rattle.std.proofs.lemmas.Bool.{cond-true, cond_both, lt-ltb, ltb-true}
 use Rattle.std.proofs.lemmas.List.{map-append}
 use Rattle.cil_base.specs.declared.operators.BinOp.{BinOp}
 use Rattle.cil_base.specs.declared.operators.BinOp.TheVariants.{Add, Sub}
-use Rattle.cil_base.specs.Operators.{operator_spelling, IsAdditive}
-use Rattle.c_meaning.specs.Grammar.{Expression, Constant, Parentheses, Binary, Primary, Additive, IsAt, spell, height, spell_unit}
-use Rattle.c_meaning.specs.Reading.{Terminal, IntWord, MainWord, VoidWord, ReturnWord, Number, OpenParen, CloseParen, OpenBrace, CloseBrace, Semicolon, Plus, Minus, text_of, Place, AtType, AtName, AtList, AtVoid, AtListEnd, AtBody, AtReturn, Context, Beginning, Behind, State, Front, Operand, Whole, Returned, Done, passed, placed, opened, closed, ended, fed, result_of, run}
+use Rattle.cil_base.specs.Operators.{IsAdditive}
+use Rattle.cil_base.specs.declared.tokens.Punctuator.TheVariants.{LeftParen, RightParen, RightBrace, Semicolon as SemicolonSign}
+use Rattle.c_meaning.specs.SourceFile.{Sign}
+use Rattle.c_meaning.specs.Grammar.{Expression, Constant, Parentheses, Binary, Primary, Additive, IsAt, sign_of, spell, height, spell_unit}
+use Rattle.c_meaning.specs.Reading.{Terminal, IntWord, MainWord, VoidWord, ReturnWord, Number, OpenParen, CloseParen, OpenBrace, CloseBrace, Semicolon, Plus, Minus, token_of, Place, AtType, AtName, AtList, AtVoid, AtListEnd, AtBody, AtReturn, Context, Beginning, Behind, State, Front, Operand, Whole, Returned, Done, passed, placed, opened, closed, ended, fed, result_of, run}
 
 abbrev pub op_token : BinOp → Terminal
 op_token Sub = Minus
@@ -37,10 +39,9 @@ additive (Constant value) is = is
 additive (Parentheses e) is = is
 additive (Binary op l r) is = absurd is
 
-op_text : (op : BinOp) → IsAdditive op → text_of (op_token op) ≡ operator_spelling op
-op_text Add is = refl
-op_text Sub is = refl
-op_text _ is = absurd is
+op_sign : (op : BinOp) → token_of (op_token op) ≡ Sign (sign_of op)
+op_sign Sub = refl
+op_sign _ = refl
 
 op_small : (op : BinOp) → IsSmall (op_token op)
 op_small Sub = tt
@@ -58,15 +59,15 @@ small_of (Binary op l r) rest is small =
 pub small_unit : (e : Expression) → IsAt Additive e → AreSmall (unit_tokens e)
 small_unit e is = (tt, (tt, (tt, (tt, (tt, (tt, (tt, small_of e (Semicolon ∷ CloseBrace ∷ []) is (tt, (tt, tt)))))))))
 
-spelled : (e : Expression) → IsAt Additive e → map text_of (tokens_of e) ≡ spell e
+spelled : (e : Expression) → IsAt Additive e → map token_of (tokens_of e) ≡ spell e
 spelled (Constant value) is = refl
-spelled (Parentheses e) is = ap (λ ts. codes "(" ∷ ts) (map-append text_of (tokens_of e) (CloseParen ∷ []) ∙ ap (λ ts. ts ++ codes ")" ∷ []) (spelled e is))
+spelled (Parentheses e) is = ap (λ ts. Sign LeftParen ∷ ts) (map-append token_of (tokens_of e) (CloseParen ∷ []) ∙ ap (λ ts. ts ++ Sign RightParen ∷ []) (spelled e is))
 spelled (Binary op l r) is =
-    map-append text_of (tokens_of l) (op_token op ∷ tokens_of r) ∙ rw (spelled l is.1.0, spelled r (additive r is.1.1), op_text op is.0) refl
+    map-append token_of (tokens_of l) (op_token op ∷ tokens_of r) ∙ rw (spelled l is.1.0, spelled r (additive r is.1.1), op_sign op) refl
 
-pub spelled_unit : (e : Expression) → IsAt Additive e → map text_of (unit_tokens e) ≡ spell_unit e
+pub spelled_unit : (e : Expression) → IsAt Additive e → map token_of (unit_tokens e) ≡ spell_unit e
 spelled_unit e is =
-    ap (λ ts. map text_of unit_front ++ ts) (map-append text_of (tokens_of e) (Semicolon ∷ CloseBrace ∷ []) ∙ ap (λ ts. ts ++ codes ";" ∷ codes "}" ∷ []) (spelled e is))
+    ap (λ ts. map token_of unit_front ++ ts) (map-append token_of (tokens_of e) (Semicolon ∷ CloseBrace ∷ []) ∙ ap (λ ts. ts ++ Sign SemicolonSign ∷ Sign RightBrace ∷ []) (spelled e is))
 
 -- the automaton reads what the grammar has
 

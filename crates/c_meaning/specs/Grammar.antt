@@ -1,8 +1,12 @@
 -- Definition: the translation units of the form that is read so far: `int main(void) { return E; }`, E of decimal constants, binary + and -, and parentheses.
-use Rattle.std.specs.Prelude.{◌≡◌, ℕ, ◌+◌, ◌^◌, ◌<◌, ◌≤◌, List, [], ◌∷◌, ◌++◌, length, codes, decimal, max, map}
+use Rattle.std.specs.Prelude.{◌≡◌, ℕ, ◌+◌, ◌^◌, ◌<◌, ◌≤◌, List, [], ◌∷◌, ◌++◌, codes, decimal, max}
 use Rattle.cil_base.specs.declared.operators.BinOp.{BinOp}
-use Rattle.cil_base.specs.Operators.{operator_spelling, IsAdditive}
-use Rattle.c_meaning.specs.Tokens.{Tokens, first_spelling}
+use Rattle.cil_base.specs.declared.operators.BinOp.TheVariants.{Sub}
+use Rattle.cil_base.specs.declared.tokens.Keyword.TheVariants.{Int, Void, Return}
+use Rattle.cil_base.specs.declared.tokens.Punctuator.{Punctuator}
+use Rattle.cil_base.specs.declared.tokens.Punctuator.TheVariants.{LeftParen, RightParen, LeftBrace, RightBrace, Semicolon, Plus, Minus}
+use Rattle.cil_base.specs.Operators.{IsAdditive}
+use Rattle.c_meaning.specs.SourceFile.{SourceFile, HasTokens, Spelled, Word, Sign, Identifier, Constant as Digits}
 
 -- an expression (6.5), parentheses being a node of their own
 pub data Expression : Type 0 where
@@ -22,11 +26,16 @@ IsAt level (Parentheses inner) = IsAt Additive inner
 IsAt Primary (Binary op left right) = ⊥
 IsAt Additive (Binary op left right) = IsAdditive op × (IsAt Additive left × IsAt Primary right)
 
+-- the punctuator of an additive operator (6.5.6)
+abbrev pub sign_of : BinOp → Punctuator
+sign_of Sub = Minus
+sign_of _ = Plus
+
 -- the tokens of an expression, a constant in decimal digits
-abbrev pub spell : Expression → List (List ℕ)
-spell (Constant value) = decimal value ∷ []
-spell (Parentheses inner) = codes "(" ∷ (spell inner ++ codes ")" ∷ [])
-spell (Binary op left right) = spell left ++ (operator_spelling op ∷ spell right)
+abbrev pub spell : Expression → List Spelled
+spell (Constant value) = Digits (decimal value) ∷ []
+spell (Parentheses inner) = Sign LeftParen ∷ (spell inner ++ Sign RightParen ∷ [])
+spell (Binary op left right) = spell left ++ (Sign (sign_of op) ∷ spell right)
 
 -- the nesting depth of an expression
 abbrev pub height : Expression → ℕ
@@ -39,18 +48,14 @@ abbrev pub unit_height : Expression → ℕ
 unit_height e = 3 + height e
 
 -- the tokens of the unit whose main returns the expression (6.9.1, 6.8.6.4)
-abbrev pub spell_unit : Expression → List (List ℕ)
+abbrev pub spell_unit : Expression → List Spelled
 spell_unit e =
-    codes "int" ∷ codes "main" ∷ codes "(" ∷ codes "void" ∷ codes ")" ∷ codes "{" ∷ codes "return"
-    ∷ (spell e ++ codes ";" ∷ codes "}" ∷ [])
+    Word Int ∷ Identifier (codes "main") ∷ Sign LeftParen ∷ Word Void ∷ Sign RightParen ∷ Sign LeftBrace ∷ Word Return
+    ∷ (spell e ++ Sign Semicolon ∷ Sign RightBrace ∷ [])
 
--- a text is the unit whose main returns the expression
-pub record IsUnit (unit : List ℕ) (e : Expression) : Type 0 where
-  -- a unit has at most 4,194,304 bytes (own)
-  pub small : length unit ≤ 4194304
+-- a file is the unit whose main returns the expression
+pub record IsUnit (unit : SourceFile) (e : Expression) : Type 0 where
   pub grammatical : IsAt Additive e
   -- an external declaration is at most 512 high (own; C11 5.2.4.1 asks for 63 nested parentheses and 127 blocks)
   pub low : unit_height e ≤ 512
-  pub texts : List (List ℕ)
-  pub tokens : Tokens unit texts
-  pub spelled : map first_spelling texts ≡ spell_unit e
+  pub tokens : HasTokens unit (spell_unit e)

@@ -1,4 +1,4 @@
-pub mod Tokens
+pub mod SourceFile
 pub mod Grammar
 pub mod Meaning
 pub mod View

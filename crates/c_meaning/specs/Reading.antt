@@ -1,11 +1,14 @@
--- Device: an executable reading of a unit: one token after the other by longest match, and a shift-reduce automaton over them. The law `reading_is_exact` says that it finds the expression of each unit of the form, and of no other text.
-use Rattle.std.specs.Prelude.{ℕ, zero, suc, ◌+◌, ◌^◌, ◌&&◌, ◌||◌, ◌==◌, nat_lt, max, List, [], ◌∷◌, length, take, codes, decimal, Option, Some, None, option_map, option_and_then, if◌then◌else◌}
-use Rattle.std.specs.Char.{is_ascii_digit}
+-- Device: an executable reading of a unit's tokens: a shift-reduce automaton. The law `reading_is_exact` says that it finds the expression of each unit of the form, and of no other.
+use Rattle.std.specs.Prelude.{ℕ, ◌+◌, ◌^◌, ◌&&◌, nat_lt, max, List, [], ◌∷◌, length, codes, decimal, Option, Some, None, option_map, option_and_then, if◌then◌else◌}
 use Rattle.std.specs.Str.{bytes_eq}
 use Rattle.std.specs.Str.Parse.{digits_value}
 use Rattle.cil_base.specs.declared.operators.BinOp.{BinOp}
 use Rattle.cil_base.specs.declared.operators.BinOp.TheVariants.{Add, Sub}
-use Rattle.c_meaning.specs.Tokens.{is_blank, is_nondigit, is_word_byte, is_number_byte}
+use Rattle.cil_base.specs.declared.tokens.Keyword.{Keyword}
+use Rattle.cil_base.specs.declared.tokens.Keyword.TheVariants.{Int, Void, Return}
+use Rattle.cil_base.specs.declared.tokens.Punctuator.{Punctuator}
+use Rattle.cil_base.specs.declared.tokens.Punctuator.TheVariants.{LeftParen, RightParen, LeftBrace, RightBrace, Semicolon as SemicolonSign, Plus as PlusSign, Minus as MinusSign}
+use Rattle.c_meaning.specs.SourceFile.{Spelled, Word, Sign, Identifier, Constant as Digits, CharacterConstant, StringLiteral}
 use Rattle.c_meaning.specs.Grammar.{Expression, Constant, Parentheses, Binary}
 
 -- the tokens that a unit of the form can have
@@ -23,95 +26,52 @@ pub data Terminal : Type 0 where
   Plus : Terminal
   Minus : Terminal
 
--- the first spelling of a token
-abbrev pub text_of : Terminal → List ℕ
-text_of IntWord = codes "int"
-text_of MainWord = codes "main"
-text_of VoidWord = codes "void"
-text_of ReturnWord = codes "return"
-text_of (Number value) = decimal value
-text_of OpenParen = codes "("
-text_of CloseParen = codes ")"
-text_of OpenBrace = codes "{"
-text_of CloseBrace = codes "}"
-text_of Semicolon = codes ";"
-text_of Plus = codes "+"
-text_of Minus = codes "-"
+-- the token as the grammar sees it
+abbrev pub token_of : Terminal → Spelled
+token_of IntWord = Word Int
+token_of MainWord = Identifier (codes "main")
+token_of VoidWord = Word Void
+token_of ReturnWord = Word Return
+token_of (Number value) = Digits (decimal value)
+token_of OpenParen = Sign LeftParen
+token_of CloseParen = Sign RightParen
+token_of OpenBrace = Sign LeftBrace
+token_of CloseBrace = Sign RightBrace
+token_of Semicolon = Sign SemicolonSign
+token_of Plus = Sign PlusSign
+token_of Minus = Sign MinusSign
 
--- the token that a word is
-unfoldable pub word_token : List ℕ → Option Terminal
-word_token text =
-    if bytes_eq text (codes "int") then Some IntWord
-    else (if bytes_eq text (codes "main") then Some MainWord
-    else (if bytes_eq text (codes "void") then Some VoidWord
-    else (if bytes_eq text (codes "return") then Some ReturnWord else None)))
+abbrev pub word_terminal : Keyword → Option Terminal
+word_terminal Int = Some IntWord
+word_terminal Void = Some VoidWord
+word_terminal Return = Some ReturnWord
+word_terminal _ = None
 
--- the token that a preprocessing number is: a decimal constant below 2^31
-unfoldable pub number_token : List ℕ → Option Terminal
-number_token text = if nat_lt (digits_value 10 text) (2 ^ 31) && bytes_eq text (decimal (digits_value 10 text)) then Some (Number (digits_value 10 text)) else None
+abbrev pub sign_terminal : Punctuator → Option Terminal
+sign_terminal LeftParen = Some OpenParen
+sign_terminal RightParen = Some CloseParen
+sign_terminal LeftBrace = Some OpenBrace
+sign_terminal RightBrace = Some CloseBrace
+sign_terminal SemicolonSign = Some Semicolon
+sign_terminal PlusSign = Some Plus
+sign_terminal MinusSign = Some Minus
+sign_terminal _ = None
 
--- how many bytes of a word the bytes begin with
-abbrev pub word_len : List ℕ → ℕ
-word_len [] = 0
-word_len (b ∷ bs) = if is_word_byte b then suc (word_len bs) else 0
+-- an integer constant that is decimal digits of a number below 2^31
+unfoldable pub number_terminal : List ℕ → Option Terminal
+number_terminal text = if nat_lt (digits_value 10 text) (2 ^ 31) && bytes_eq text (decimal (digits_value 10 text)) then Some (Number (digits_value 10 text)) else None
 
--- how many bytes go on with a preprocessing number behind its byte `before`
-abbrev pub number_len : ℕ → List ℕ → ℕ
-number_len before [] = 0
-number_len before (b ∷ bs) = if is_number_byte before b then suc (number_len b bs) else 0
+unfoldable pub name_terminal : List ℕ → Option Terminal
+name_terminal text = if bytes_eq text (codes "main") then Some MainWord else None
 
--- what the bytes begin with: a blank; a token of the form, with how many bytes it has behind its first; anything else
-pub data Piece : Type 0 where
-  Space : Piece
-  Known : (token : Terminal) (more : ℕ) → Piece
-  Other : Piece
-
-abbrev pub known : Option Terminal → ℕ → Piece
-known None more = Other
-known (Some token) more = Known token more
-
--- the punctuator that the byte b begins, where `next` is the byte behind it (0 at the end)
-unfoldable pub mark : ℕ → ℕ → Piece
-mark b next =
-    if b == 40 then Known OpenParen 0
-    else (if b == 41 then Known CloseParen 0
-    else (if b == 123 then Known OpenBrace 0
-    else (if b == 125 then Known CloseBrace 0
-    else (if b == 59 then Known Semicolon 0
-    else (if b == 43 then (if next == 43 || next == 61 then Other else Known Plus 0)
-    else (if b == 45 then (if (next == 45 || next == 61) || next == 62 then Other else Known Minus 0)
-    else (if b == 60 then (if next == 37 then Known OpenBrace 1 else Other)
-    else (if b == 37 then (if next == 62 then Known CloseBrace 1 else Other)
-    else Other))))))))
-
-abbrev pub first_or_zero : List ℕ → ℕ
-first_or_zero [] = 0
-first_or_zero (b ∷ bs) = b
-
--- what the byte b begins, with the bytes bs behind it
-unfoldable pub piece : ℕ → List ℕ → Piece
-piece b bs =
-    if is_blank b then Space
-    else (if is_nondigit b then known (word_token (b ∷ take (word_len bs) bs)) (word_len bs)
-    else (if is_ascii_digit b then known (number_token (b ∷ take (number_len b bs) bs)) (number_len b bs)
-    else mark b (first_or_zero bs)))
-
--- how many bytes are done with behind the first
-abbrev pub skipped : Piece → ℕ
-skipped Space = 0
-skipped (Known token more) = more
-skipped Other = 0
-
-abbrev pub joined : Piece → Option (List Terminal) → Option (List Terminal)
-joined Space tokens = tokens
-joined (Known token more) tokens = option_map (λ others. token ∷ others) tokens
-joined Other tokens = None
-
--- the tokens of the bytes behind the first `skip`, or none where another token than those of the form is among them, or a byte that begins none
-abbrev pub tokens_behind : ℕ → List ℕ → Option (List Terminal)
-tokens_behind skip [] = Some []
-tokens_behind (suc skip) (b ∷ bs) = tokens_behind skip bs
-tokens_behind zero (b ∷ bs) = joined (piece b bs) (tokens_behind (skipped (piece b bs)) bs)
+-- the token of the form that a token is
+abbrev pub terminal_of : Spelled → Option Terminal
+terminal_of (Word keyword) = word_terminal keyword
+terminal_of (Sign punctuator) = sign_terminal punctuator
+terminal_of (Identifier text) = name_terminal text
+terminal_of (Digits text) = number_terminal text
+terminal_of (CharacterConstant text) = None
+terminal_of (StringLiteral text) = None
 
 -- what is awaited before the expression
 pub data Place : Type 0 where
@@ -187,10 +147,11 @@ abbrev pub run : ℕ → List Terminal → State → List Context → Option Exp
 run limit [] state below = result_of state
 run limit (token ∷ tokens) state below = option_and_then (λ next. run limit tokens next.0 next.1) (fed limit token state below)
 
--- the same from the remaining bytes
-abbrev pub read_on : ℕ → List ℕ → State → List Context → Option Expression
-read_on limit bytes state below = option_and_then (λ tokens. run limit tokens state below) (tokens_behind 0 bytes)
+-- the same from the remaining tokens of a unit, or none where another token than those of the form is among them before it ends
+abbrev pub read_on : ℕ → List Spelled → State → List Context → Option Expression
+read_on limit [] state below = result_of state
+read_on limit (t ∷ ts) state below = option_and_then (λ (next : State × List Context). read_on limit ts next.0 next.1) (option_and_then (λ token. fed limit token state below) (terminal_of t))
 
 -- the expression that the main of the unit returns; of 512 levels three stand around it
-abbrev pub reading : List ℕ → Option Expression
-reading unit = read_on 509 unit (Front AtType) []
+abbrev pub reading : List Spelled → Option Expression
+reading tokens = read_on 509 tokens (Front AtType) []

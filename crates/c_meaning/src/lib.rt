@@ -1,5 +1,5 @@
-//! The definitions of C that the product's promises are about: tokens, grammar and meaning of a translation
-//! unit; so far they cover units of one form, a main that returns a constant expression of sums and differences.
+//! The definitions of C that the product's promises are about: grammar and meaning of a translation unit, over the
+//! tokens of the lexer's definition; so far they cover units of one form, a main that returns a constant expression of sums and differences.
 //!
 //! Its public contract is laws about the definitions: a text is the unit of one expression at most, and the
 //! executable reading finds that expression exactly; the crates above cite the definitions in their own contracts.

@@ -1,63 +1,83 @@
 -- Which answer is left where the others are excluded.
-use Rattle.std.proofs.Common.{◌≡◌, ◌≢◌, ℕ, List, [], ◌∷◌, length, Option, Some, None, IfSome, ◌⊎◌, inl, inr, refl, ap, sym, subst, ◌∙◌, lit<}
+use Rattle.std.proofs.Common.{◌≡◌, ◌≢◌, ℕ, List, [], ◌∷◌, length, Option, Some, None, IfSome, ◌⊎◌, inl, inr, refl, ap, sym, subst, ◌∙◌, lit<, append-nil}
 use Rattle.cil_base.specs.declared.faults.Refusal.{Refusal}
 use Rattle.cil_base.specs.declared.runs.Env.{Env}
+use Rattle.c_meaning.specs.SourceFile.{SourceFile}
 use Rattle.c_meaning.specs.Grammar.{Expression, IsUnit}
+use Rattle.outside.specs.Named.{Told}
 use Rattle.cil_meaning.specs.Program.{Exp}
 use Rattle.cil_meaning.specs.Meaning.{RunCil}
 use Rattle.cil_meaning.specs.Text.{IsTextOf}
 use Rattle.cil_meaning.proofs.ReadBack.{same_program}
 use Rattle.cil.specs.Execute.{IsNoText, IsRunAnswer, RanAs, RunSays, Tells}
 use Rattle.cil.specs.Lowering.{Merges}
-use Rattle.cil.specs.Merge.{IsNoUnit, IsMergeAnswer, not_built}
-use Rattle.cil.specs.Messages.{HasFiles, line_of}
+use Rattle.cil.specs.Command.{steps_asked}
+use Rattle.cil.specs.Merge.{unit_asked, IsMergeAnswer, IsRefused, IfRefused, not_built}
+use Rattle.cil.specs.Messages.{HasFiles, AreNames, Begins, names_asked, line_of}
+use Rattle.cil.proofs.Units.{not_both, same_refusal}
 use Rattle.cil.specs.declared.status.Status.{Status}
 use Rattle.cil.specs.declared.status.Status.TheVariants.{Done, Exited, StillRunning, WentUndefined, Usage, Refused, NotCil, ReadFault, WriteFault, Memory}
 
 -- of a unit of the form
-accepted_as : (status : Status) (files out : Type 0) → IsMergeAnswer status → (status ≡ ReadFault → files) → (status ≡ WriteFault → out) → status ≢ Refused not_built
+accepted_as : (status : Status) (files out : Type 0) → IsMergeAnswer status → (status ≡ ReadFault → files) → (status ≡ WriteFault → out) → IfRefused status (λ refusal. ⊥)
     → ¬ files → ¬ out → (status ≡ Done) ⊎ (status ≡ Memory)
 accepted_as Done files out kind read write refused calm quiet = inl refl
 accepted_as (Exited s) files out kind read write refused calm quiet = absurd kind
 accepted_as StillRunning files out kind read write refused calm quiet = absurd kind
 accepted_as WentUndefined files out kind read write refused calm quiet = absurd kind
 accepted_as Usage files out kind read write refused calm quiet = absurd kind
-accepted_as (Refused r) files out kind read write refused calm quiet = absurd (refused (ap Refused kind))
+accepted_as (Refused r) files out kind read write refused calm quiet = absurd refused
 accepted_as (NotCil k) files out kind read write refused calm quiet = absurd kind
 accepted_as ReadFault files out kind read write refused calm quiet = absurd (calm (read refl))
 accepted_as WriteFault files out kind read write refused calm quiet = absurd (quiet (write refl))
 accepted_as Memory files out kind read write refused calm quiet = inr refl
 
--- of another text: what is written is a program that some unit is merged to
-refused_as : (status : Status) (files : Type 0) → IsMergeAnswer status → (status ≡ ReadFault → files) → status ≢ Done → status ≢ WriteFault
-    → ¬ files → (status ≡ Refused not_built) ⊎ (status ≡ Memory)
-refused_as Done files kind read done write calm = absurd (done refl)
-refused_as (Exited s) files kind read done write calm = absurd kind
-refused_as StillRunning files kind read done write calm = absurd kind
-refused_as WentUndefined files kind read done write calm = absurd kind
-refused_as Usage files kind read done write calm = absurd kind
-refused_as (Refused r) files kind read done write calm = inl (ap Refused kind)
-refused_as (NotCil k) files kind read done write calm = absurd kind
-refused_as ReadFault files kind read done write calm = absurd (calm (read refl))
-refused_as WriteFault files kind read done write calm = absurd (write refl)
-refused_as Memory files kind read done write calm = inr refl
+not_refused : (status : Status) (unit : SourceFile) (e : Expression) (names : List (List ℕ)) → IsUnit unit e → IfRefused status (λ refusal. IsRefused unit refusal names) → IfRefused status (λ refusal. ⊥)
+not_refused (Refused r) unit e names is says = not_both unit e r names is says
+not_refused _ unit e names is says = tt
 
-pub accepted_by : (asked : Option (List ℕ)) (status : Status) (files out : Type 0) → IsMergeAnswer status → (status ≡ ReadFault → files) → (status ≡ WriteFault → out)
-    → (status ≡ Refused not_built → IfSome asked IsNoUnit)
+pub accepted_by : (asked : Option SourceFile) (status : Status) (names : List (List ℕ)) (files out : Type 0) → IsMergeAnswer status → (status ≡ ReadFault → files) → (status ≡ WriteFault → out)
+    → IfSome asked (λ unit. IfRefused status (λ refusal. IsRefused unit refusal names))
     → IfSome asked (λ unit. (e : Expression) → IsUnit unit e → ¬ files → ¬ out → (status ≡ Done) ⊎ (status ≡ Memory))
-accepted_by None status files out kind read write refused = tt
-accepted_by (Some unit) status files out kind read write refused = λ e is calm quiet. accepted_as status files out kind read write (λ s. refused s e is) calm quiet
+accepted_by None status names files out kind read write refused = tt
+accepted_by (Some unit) status names files out kind read write refused = λ e is calm quiet. accepted_as status files out kind read write (not_refused status unit e names is refused) calm quiet
 
-pub refused_by : (asked : Option (List ℕ)) (status : Status) (files : Type 0) → IsMergeAnswer status → (status ≡ ReadFault → files)
+-- of a file that is refused: what is written is a program that some unit is merged to
+refused_as : (status : Status) (unit : SourceFile) (refusal : Refusal) (names others : List (List ℕ)) (files : Type 0) → IsMergeAnswer status → (status ≡ ReadFault → files) → status ≢ Done → status ≢ WriteFault
+    → IfRefused status (λ r. IsRefused unit r names) → IsRefused unit refusal others → ¬ files → (status ≡ Refused refusal) ⊎ (status ≡ Memory)
+refused_as Done unit refusal names others files kind read done write says is calm = absurd (done refl)
+refused_as (Exited s) unit refusal names others files kind read done write says is calm = absurd kind
+refused_as StillRunning unit refusal names others files kind read done write says is calm = absurd kind
+refused_as WentUndefined unit refusal names others files kind read done write says is calm = absurd kind
+refused_as Usage unit refusal names others files kind read done write says is calm = absurd kind
+refused_as (Refused r) unit refusal names others files kind read done write says is calm = inl (ap Refused (same_refusal unit r refusal names others says is))
+refused_as (NotCil k) unit refusal names others files kind read done write says is calm = absurd kind
+refused_as ReadFault unit refusal names others files kind read done write says is calm = absurd (calm (read refl))
+refused_as WriteFault unit refusal names others files kind read done write says is calm = absurd (write refl)
+refused_as Memory unit refusal names others files kind read done write says is calm = inr refl
+
+pub refuses_by : (asked : Option SourceFile) (status : Status) (names : List (List ℕ)) (files : Type 0) → IsMergeAnswer status → (status ≡ ReadFault → files)
     → (status ≡ Done → IfSome asked (λ unit. (e : Expression) × IsUnit unit e)) → (status ≡ WriteFault → IfSome asked (λ unit. (e : Expression) × IsUnit unit e))
-    → IfSome asked (λ unit. IsNoUnit unit → ¬ files → (status ≡ Refused not_built) ⊎ (status ≡ Memory))
-refused_by None status files kind read done write = tt
-refused_by (Some unit) status files kind read done write = λ none calm. refused_as status files kind read (λ s. none (done s).0 (done s).1) (λ s. none (write s).0 (write s).1) calm
+    → IfSome asked (λ unit. IfRefused status (λ refusal. IsRefused unit refusal names))
+    → IfSome asked (λ unit. (refusal : Refusal) (others : List (List ℕ)) → IsRefused unit refusal others → ¬ files → (status ≡ Refused refusal) ⊎ (status ≡ Memory))
+refuses_by None status names files kind read done write refused = tt
+refuses_by (Some unit) status names files kind read done write refused = λ refusal others is calm.
+    refused_as status unit refusal names others files kind read (λ s. not_both unit (done s).0 refusal others (done s).1 is) (λ s. not_both unit (write s).0 refusal others (write s).1 is) refused is calm
 
 -- what is merged is a unit
-pub unit_of_merged : (asked : Option (List ℕ)) (p : Exp) → IfSome asked (λ unit. Merges unit p) → IfSome asked (λ unit. (e : Expression) × IsUnit unit e)
+pub unit_of_merged : (asked : Option SourceFile) (p : Exp) → IfSome asked (λ unit. Merges unit p) → IfSome asked (λ unit. (e : Expression) × IsUnit unit e)
 unit_of_merged None p merged = tt
 unit_of_merged (Some unit) p merged = (merged.made.tree, merged.made.unit_of)
+
+-- a refusal is told with the names of its places
+some_names : (status : Status) (unit : SourceFile) (names : List (List ℕ)) → IfRefused status (λ refusal. IsRefused unit refusal names) → IfRefused status (λ refusal. (others : List (List ℕ)) × IsRefused unit refusal others)
+some_names (Refused r) unit names says = (names, says)
+some_names _ unit names says = tt
+
+pub refused_by : (asked : Option SourceFile) (status : Status) (names : List (List ℕ)) → IfSome asked (λ unit. IfRefused status (λ refusal. IsRefused unit refusal names))
+    → IfSome asked (λ unit. IfRefused status (λ refusal. (others : List (List ℕ)) × IsRefused unit refusal others))
+refused_by None status names refused = tt
+refused_by (Some unit) status names refused = some_names status unit names refused
 
 -- the run of the bytes' one program
 told_of : (bytes : List ℕ) (steps : ℕ) (status : Status) (p : Exp) → RanAs bytes steps status → IsTextOf bytes p → (env : Env) → Tells status (RunCil p env steps)
@@ -104,33 +124,40 @@ pub no_text_by : (asked : Option (List ℕ)) (steps : ℕ) (status : Status) (fi
 no_text_by None steps status files kind read says = tt
 no_text_by (Some bytes) steps status files kind read says = no_text_as bytes steps status files kind read says
 
--- the place of a refusal names the pool's first name, which is there
+-- the place of a refusal of `run` names the pool's first name, which is there
 refused_files : (refusal : Refusal) (names : List (List ℕ)) (name : List ℕ) → refusal ≡ not_built → names ≡ name ∷ [] → HasFiles (length names) (Refused refusal)
 refused_files refusal names name same is =
     subst (λ r. HasFiles (length names) (Refused r)) (sym same) (subst (λ ns. HasFiles (length ns) (Refused not_built)) (sym is) (lit< tt, λ place e. let clash : not_built.other ≡ Some place = e in cc))
-
-pub merge_files : (status : Status) (names : List (List ℕ)) (name : List ℕ) → IsMergeAnswer status → (status ≢ Memory → names ≡ name ∷ []) → HasFiles (length names) status
-merge_files (Refused refusal) names name kind known = refused_files refusal names name kind (known (λ e. let is : Refused refusal ≡ Memory = e in cc))
-merge_files _ names name kind known = tt
 
 pub run_files : (status : Status) (names : List (List ℕ)) (name : List ℕ) → IsRunAnswer status → (status ≢ Memory → names ≡ name ∷ []) → HasFiles (length names) status
 run_files (Refused refusal) names name kind known = refused_files refusal names name kind (known (λ e. let is : Refused refusal ≡ Memory = e in cc))
 run_files _ names name kind known = tt
 
 -- a status is told by one line, also where the names are not known because memory is wanting
-line_at : (names known : List (List ℕ)) (given steps : ℕ) (status : Status) → names ≡ known → given ≡ steps → line_of names given status ≡ line_of known steps status
-line_at names known given steps status same equal =
-    subst (λ ns. line_of names given status ≡ line_of ns steps status) same (ap (λ k. line_of names k status) equal)
+pub record IsLine (told : Option Told) (words names : List (List ℕ)) (given : ℕ) (status : Status) : Type 0 where
+  pub known : List (List ℕ)
+  pub are : AreNames told words status known
+  pub line : line_of names given status ≡ line_of known (steps_asked words) status
 
-pub line_by : (names known : List (List ℕ)) (given steps : ℕ) (status : Status) → (status ≢ Memory → names ≡ known) → given ≡ steps
-    → line_of names given status ≡ line_of known steps status
-line_by names known given steps Done same equal = refl
-line_by names known given steps (Exited s) same equal = refl
-line_by names known given steps StillRunning same equal = line_at names known given steps StillRunning (same (λ e. let is : StillRunning ≡ Memory = e in cc)) equal
-line_by names known given steps WentUndefined same equal = refl
-line_by names known given steps Usage same equal = refl
-line_by names known given steps (Refused r) same equal = line_at names known given steps (Refused r) (same (λ e. let is : Refused r ≡ Memory = e in cc)) equal
-line_by names known given steps (NotCil k) same equal = refl
-line_by names known given steps ReadFault same equal = refl
-line_by names known given steps WriteFault same equal = refl
-line_by names known given steps Memory same equal = refl
+line_at : (told : Option Told) (words names : List (List ℕ)) (given : ℕ) (status : Status) → AreNames told words status names → given ≡ steps_asked words → IsLine told words names given status
+line_at told words names given status are equal = record { known = names; are = are; line = ap (λ k. line_of names k status) equal }
+
+no_refusal : (asked : Option SourceFile) (names : List (List ℕ)) → IfSome asked (λ unit. IfRefused Memory (λ refusal. IsRefused unit refusal names))
+no_refusal None names = tt
+no_refusal (Some unit) names = tt
+
+-- want of memory has no names
+memory_names : (told : Option Told) (words : List (List ℕ)) → AreNames told words Memory (names_asked words)
+memory_names told words = record { begin = record { more = []; is = sym (append-nil _) }; files = tt; refused = no_refusal (unit_asked told words) (names_asked words) }
+
+pub line_by : (told : Option Told) (words names : List (List ℕ)) (given : ℕ) (status : Status) → (status ≢ Memory → AreNames told words status names) → given ≡ steps_asked words → IsLine told words names given status
+line_by told words names given Memory are equal = record { known = names_asked words; are = memory_names told words; line = refl }
+line_by told words names given Done are equal = line_at told words names given Done (are (λ e. let is : Done ≡ Memory = e in cc)) equal
+line_by told words names given (Exited s) are equal = line_at told words names given (Exited s) (are (λ e. let is : Exited s ≡ Memory = e in cc)) equal
+line_by told words names given StillRunning are equal = line_at told words names given StillRunning (are (λ e. let is : StillRunning ≡ Memory = e in cc)) equal
+line_by told words names given WentUndefined are equal = line_at told words names given WentUndefined (are (λ e. let is : WentUndefined ≡ Memory = e in cc)) equal
+line_by told words names given Usage are equal = line_at told words names given Usage (are (λ e. let is : Usage ≡ Memory = e in cc)) equal
+line_by told words names given (Refused r) are equal = line_at told words names given (Refused r) (are (λ e. let is : Refused r ≡ Memory = e in cc)) equal
+line_by told words names given (NotCil k) are equal = line_at told words names given (NotCil k) (are (λ e. let is : NotCil k ≡ Memory = e in cc)) equal
+line_by told words names given ReadFault are equal = line_at told words names given ReadFault (are (λ e. let is : ReadFault ≡ Memory = e in cc)) equal
+line_by told words names given WriteFault are equal = line_at told words names given WriteFault (are (λ e. let is : WriteFault ≡ Memory = e in cc)) equal

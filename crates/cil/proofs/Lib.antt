@@ -1,12 +1,12 @@
 pub mod Answered
 pub mod Bounds
 pub mod Candidates
-pub mod Found
 pub mod Fronts
 pub mod Lengths
-pub mod Lexing
+pub mod Numbers
 pub mod Merging
 pub mod Pieces
 pub mod Printing
 pub mod Units
 pub mod Words
+pub mod Tokens

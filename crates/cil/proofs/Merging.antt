@@ -1,11 +1,12 @@
 -- Device: the lowered program of a unit is a program of the form and keeps the unit's meaning.
-use Rattle.std.proofs.Common.{◌≡◌, ℕ, zero, suc, ◌≤◌, List, [], refl, ap, subst, inl, arith}
+use Rattle.std.proofs.Common.{◌≡◌, ℕ, zero, suc, ◌≤◌, [], refl, ap, subst, inl, arith}
 use Rattle.std.specs.Option.{option_and_then}
 use Rattle.cil_base.specs.declared.kinds.IntKind.TheVariants.{Int}
 use Rattle.cil_base.specs.declared.runs.Env.{Env}
 use Rattle.cil_base.specs.Arithmetic.{arith_of}
 use Rattle.cil_base.specs.Ends.{returned}
 use Rattle.cil_base.specs.Outcome.{Allows}
+use Rattle.c_meaning.specs.SourceFile.{SourceFile}
 use Rattle.c_meaning.specs.Grammar.{Expression, Constant, Parentheses, Binary, Level, Primary, Additive, IsAt, IsUnit, height}
 use Rattle.c_meaning.specs.Meaning.{value_of as c_value, RunC}
 use Rattle.c_meaning.proofs.Units.{same_expression}
@@ -25,7 +26,7 @@ depth-lowered (Constant value) = omega arith
 depth-lowered (Parentheses inner) = omega (arith, depth-lowered inner)
 depth-lowered (Binary op left right) = omega (arith, depth-lowered left, depth-lowered right)
 
-lowered-IsProgram : (unit : List ℕ) (e : Expression) → IsUnit unit e → IsProgram (lowered e)
+lowered-IsProgram : (unit : SourceFile) (e : Expression) → IsUnit unit e → IsProgram (lowered e)
 lowered-IsProgram unit e is = record { well_formed = lowered-IsExp Additive e is.grammatical; low = omega (arith, depth-lowered e, is.low) }
 
 value_of-lowered : (e : Expression) → c_value e ≡ value_of (lowered e)
@@ -39,7 +40,7 @@ same_run : (e : Expression) (env : Env) (steps : ℕ) → RunC e env steps ≡ R
 same_run e env zero = refl
 same_run e env (suc steps) = ap (λ v. returned v []) (value_of-lowered e)
 
-pub lowered-Merges : (unit : List ℕ) (e : Expression) → IsUnit unit e → Merges unit (lowered e)
+pub lowered-Merges : (unit : SourceFile) (e : Expression) → IsUnit unit e → Merges unit (lowered e)
 lowered-Merges unit e is = record {
   made = record { tree = e; unit_of = is; lowered_is = refl };
   program = lowered-IsProgram unit e is;

@@ -1,5 +1,5 @@
 -- Where a command's file stands among the words.
-use Rattle.std.proofs.Common.{◌≡◌, ℕ, suc, ◌<◌, Bool, true, false, List, [], ◌∷◌, String, map, length, get_or, codes, Option, Some, None, IfSome, unwrap_or, slice_get, ap, sym, subst, ◌∙◌, arith}
+use Rattle.std.proofs.Common.{◌≡◌, ℕ, suc, ◌<◌, Bool, true, false, List, [], ◌∷◌, ◌++◌, append-nil, String, map, length, get_or, codes, Option, Some, None, IfSome, unwrap_or, slice_get, ap, sym, subst, ◌∙◌, arith}
 use Rattle.std.proofs.lemmas.List.{length-map}
 use Rattle.std.specs.Prelude.{if◌then◌else◌}
 use Rattle.std.specs.Global.{Global}
@@ -10,8 +10,8 @@ use Rattle.std.proofs.lemmas.Option.{slice_get-map, slice_get-get_or}
 use Rattle.outside.specs.Named.{Told}
 use Rattle.cil.specs.Command.{command_of, command_in, merge_of, run_of, run_bounded_of, steps_of, are_words, names_file, file_position, merged_position, run_position, bound_of, file_of, steps_asked}
 use Rattle.cil.specs.Execute.{text_asked, RunSays}
-use Rattle.cil.specs.Merge.{unit_asked, bytes_under}
-use Rattle.cil.specs.Messages.{names_asked}
+use Rattle.cil.specs.Merge.{unit_asked, bytes_under, file_under, IsRefused, IfRefused}
+use Rattle.cil.specs.Messages.{names_asked, Begins, AreNames, HasFiles}
 use Rattle.cil.specs.declared.command.Command.{Command}
 use Rattle.cil.specs.declared.command.Command.TheVariants.{Merge, Run}
 use Rattle.cil.specs.declared.status.Status.{Status}
@@ -76,10 +76,14 @@ word_at words i d below = slice_get-map string_bytes words i ∙ ap (option_map 
 
 -- what the words ask for, by the command that they are
 pub unit_asked_is : (told : Option Told) (words : List (String Global)) (first : ℕ) (d : String Global) → command_of (map string_bytes words) ≡ Some (Merge first)
-    → unit_asked told (map string_bytes words) ≡ bytes_under told (string_bytes (get_or words first d))
+    → unit_asked told (map string_bytes words) ≡ file_under told (string_bytes (get_or words first d))
 unit_asked_is told words first d is =
-    ap (λ command. option_and_then (bytes_under told) (option_and_then (slice_get (map string_bytes words)) (option_and_then merged_position command))) is
-    ∙ ap (option_and_then (bytes_under told)) (word_at words first d (merge_within words first is))
+    ap (λ command. option_and_then (file_under told) (option_and_then (slice_get (map string_bytes words)) (option_and_then merged_position command))) is
+    ∙ ap (option_and_then (file_under told)) (word_at words first d (merge_within words first is))
+
+-- `run` asks for no unit
+pub no_unit_asked : (told : Option Told) (words : List (List ℕ)) (steps file : ℕ) → command_of words ≡ Some (Run steps file) → unit_asked told words ≡ None
+no_unit_asked told words steps file is = ap (λ command. option_and_then (file_under told) (option_and_then (slice_get words) (option_and_then merged_position command))) is
 
 pub text_asked_is : (told : Option Told) (words : List (String Global)) (steps file : ℕ) (d : String Global) → command_of (map string_bytes words) ≡ Some (Run steps file)
     → text_asked told (map string_bytes words) ≡ bytes_under told (string_bytes (get_or words file d))
@@ -101,7 +105,7 @@ pub steps_asked_is : (words : List (List ℕ)) (steps file : ℕ) → command_of
 steps_asked_is words steps file is = ap (λ command. unwrap_or (option_map bound_of command) 0) is
 
 -- what is said of one value is said of an equal one
-pub if_some_by : (asked there : Option (List ℕ)) (P : List ℕ → Type 0) → asked ≡ there → IfSome there P → IfSome asked P
+pub if_some_by : {A : Type 0} (asked there : Option A) (P : A → Type 0) → asked ≡ there → IfSome there P → IfSome asked P
 if_some_by asked there P is says = subst (λ o. IfSome o P) (sym is) says
 
 pub ran_by : (asked there : Option (List ℕ)) (given steps : ℕ) (status : Status) → asked ≡ there → given ≡ steps
@@ -109,5 +113,14 @@ pub ran_by : (asked there : Option (List ℕ)) (given steps : ℕ) (status : Sta
 ran_by asked there given steps status is same says =
     if_some_by asked there (λ bytes. RunSays bytes given status) is (subst (λ bound. IfSome there (λ bytes. RunSays bytes bound status)) (sym same) says)
 
-pub names_by : (names : List (List ℕ)) (words : List (List ℕ)) (name word : List ℕ) → names ≡ name ∷ [] → file_of words ≡ Some word → name ≡ word → names ≡ names_asked words
-names_by names words name word is file same = is ∙ ap (λ t. t ∷ []) same ∙ sym (ap option_to_list file)
+-- the names behind a command
+pub names_begin : (names : List (List ℕ)) (words : List (List ℕ)) (name word : List ℕ) → Begins (name ∷ []) names → file_of words ≡ Some word → name ≡ word → Begins (names_asked words) names
+names_begin names words name word begins file same =
+    subst (λ ns. Begins ns names) (ap (λ t. t ∷ []) same ∙ sym (ap option_to_list file)) begins
+
+pub run_names : (told : Option Told) (words names : List (List ℕ)) (status : Status) (steps at : ℕ) (name word : List ℕ) → command_of words ≡ Some (Run steps at) → names ≡ name ∷ [] → file_of words ≡ Some word → name ≡ word → HasFiles (length names) status → AreNames told words status names
+run_names told words names status steps at name word command is file same files = record {
+  files = files;
+  begin = record { more = []; is = is ∙ (ap (λ t. t ∷ []) same ∙ (sym (ap option_to_list file) ∙ sym (append-nil _))) };
+  refused = if_some_by (unit_asked told words) None (λ unit. IfRefused status (λ refusal. IsRefused unit refusal names)) (no_unit_asked told words steps at command) tt;
+}

@@ -3,6 +3,7 @@ pub mod Command
 pub mod Execute
 pub mod Lowering
 pub mod Merge
+pub mod Merged
 pub mod Messages
 pub mod Reader
 pub mod ReaderView

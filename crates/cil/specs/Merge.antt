@@ -1,42 +1,72 @@
 -- Definition: what `merge` answers (own).
 use Rattle.std.specs.Prelude.{◌≡◌, ℕ, ◌<◌, ◌≤◌, List, [], ◌++◌, length, Option, None}
-use Rattle.std.specs.Option.{option_and_then}
-use Rattle.cil_base.specs.declared.faults.Fault.TheVariants.{NotBuilt}
+use Rattle.std.specs.Option.{option_and_then, option_map}
+use Rattle.cil_base.specs.declared.faults.Fault.{Fault}
+use Rattle.cil_base.specs.declared.faults.Fault.TheVariants.{NotBuilt, Limit}
+use Rattle.cil_base.specs.declared.faults.What.TheVariants.{UnitBytes}
 use Rattle.cil_base.specs.declared.faults.Refusal.{Refusal}
+use Rattle.c_lexer.specs.Lexed.{IsTokenFault}
+use Rattle.c_lexer.specs.Tokens.{Refused}
+use Rattle.c_meaning.specs.SourceFile.{SourceFile, IsLexed, HasTokens, Spelled}
 use Rattle.c_meaning.specs.Grammar.{Expression, IsUnit}
 use Rattle.outside.specs.Named.{Told, find_file}
 use Rattle.cil.specs.Command.{merged_file}
 use Rattle.cil.specs.declared.status.Status.{Status}
-use Rattle.cil.specs.declared.status.Status.TheVariants.{Done, Exited, StillRunning, WentUndefined, Usage, Refused, NotCil, ReadFault, WriteFault, Memory}
+use Rattle.cil.specs.declared.status.Status.TheVariants.{Done, Exited, StillRunning, WentUndefined, Usage, Refused as IsRefusal, NotCil, ReadFault, WriteFault, Memory}
 
 -- the bytes under a name, where the files tell them and the name is there
 abbrev pub bytes_under : Option Told → List ℕ → Option (List ℕ)
 bytes_under told name = option_and_then (λ t. find_file name t.names) told
 
--- the unit that the words ask to be merged, where the files tell it
-abbrev pub unit_asked : Option Told → List (List ℕ) → Option (List ℕ)
-unit_asked told words = option_and_then (bytes_under told) (merged_file words)
+-- the file that the words ask to be merged, where the files tell it
+abbrev pub file_under : Option Told → List ℕ → Option SourceFile
+file_under told name = option_map (λ bytes. record { name = name; bytes = bytes }) (bytes_under told name)
 
--- the text is no unit of the form
-abbrev pub IsNoUnit : List ℕ → Type 0
+abbrev pub unit_asked : Option Told → List (List ℕ) → Option SourceFile
+unit_asked told words = option_and_then (file_under told) (merged_file words)
+
+-- the file is no unit of the form
+abbrev pub IsNoUnit : SourceFile → Type 0
 IsNoUnit unit = (e : Expression) → ¬ (IsUnit unit e)
 
--- the refusal of a unit that is not of the form, at the first token of the first unit, whose file is the pool's first name
-abbrev pub not_built : Refusal
-not_built = record { fault = NotBuilt; at = record { unit = record { 0 = 0 }; token = 0; file = record { 0 = 0 }; line = 1 }; other = None }
+-- refusals at the first token of the first unit, whose file is the pool's first name: of a unit with too many bytes, and of one that is not of the form
+abbrev pub refused_first : Fault → Refusal
+refused_first fault = record { fault = fault; at = record { unit = record { 0 = 0 }; token = 0; file = record { 0 = 0 }; line = 1 }; other = None }
 
--- the statuses that `merge` answers: a refusal is the one above
+abbrev pub too_large : Refusal
+too_large = refused_first (Limit UnitBytes)
+
+abbrev pub not_built : Refusal
+not_built = refused_first NotBuilt
+
+-- why a file is refused, with the names that its places' files are numbers in: it has too many bytes, or a token of it is refused, or its tokens are not of the form
+pub data IsRefused (unit : SourceFile) : Refusal → List (List ℕ) → Type 0 where
+  Large : (names : List (List ℕ)) → 4194304 < length unit.bytes → IsRefused unit too_large names
+  OfToken : (refusal : Refusal) (names : List (List ℕ)) → length unit.bytes ≤ 4194304 → IsLexed unit (Refused refusal names) → IsRefused unit refusal names
+  NotOfForm : (names : List (List ℕ)) (tokens : List Spelled) → HasTokens unit tokens → IsNoUnit unit → IsRefused unit not_built names
+
+-- the faults of `merge`
+abbrev pub IsMergeFault : Fault → Type 0
+IsMergeFault NotBuilt = Unit {0}
+IsMergeFault fault = IsTokenFault fault
+
+-- the statuses that `merge` answers; a refusal is of the first unit and has one place
 abbrev pub IsMergeAnswer : Status → Type 0
 IsMergeAnswer Done = Unit {0}
 IsMergeAnswer (Exited status) = ⊥
 IsMergeAnswer StillRunning = ⊥
 IsMergeAnswer WentUndefined = ⊥
 IsMergeAnswer Usage = ⊥
-IsMergeAnswer (Refused refusal) = refusal ≡ not_built
+IsMergeAnswer (IsRefusal refusal) = IsMergeFault refusal.fault × (refusal.at.unit ≡ record { 0 = 0 }) × (refusal.other ≡ None)
 IsMergeAnswer (NotCil byte) = ⊥
 IsMergeAnswer ReadFault = Unit {0}
 IsMergeAnswer WriteFault = Unit {0}
 IsMergeAnswer Memory = Unit {0}
+
+-- what a refusal says
+abbrev pub IfRefused : Status → (Refusal → Type 0) → Type 0
+IfRefused (IsRefusal refusal) Says = Says refusal
+IfRefused _ Says = Unit {0}
 
 -- what was read of a file: all of its bytes, or as many as the limit
 pub record IsFrontOf (limit : ℕ) (bytes file : List ℕ) : Type 0 where

@@ -1,5 +1,5 @@
 -- Definition: the exit code of each status, and the one line that tells it on standard error (own).
-use Rattle.std.specs.Prelude.{ℕ, ◌<◌, List, [], ◌∷◌, ◌++◌, codes, decimal, Option, Some, None, slice_get, unwrap_or}
+use Rattle.std.specs.Prelude.{◌≡◌, ℕ, ◌<◌, List, [], ◌∷◌, ◌++◌, length, codes, decimal, Option, Some, None, IfSome, slice_get, unwrap_or}
 use Rattle.std.specs.List.{concat}
 use Rattle.std.specs.Option.{ForSome, option_to_list}
 use Rattle.cil_base.specs.declared.faults.Fault.{Fault}
@@ -7,7 +7,9 @@ use Rattle.cil_base.specs.declared.faults.Fault.TheVariants.{Lexical, Excluded, 
 use Rattle.cil_base.specs.declared.faults.Place.{Place}
 use Rattle.cil_base.specs.declared.faults.Refusal.{Refusal}
 use Rattle.cil_base.specs.Fault.{feature_text, code_text, what_text}
+use Rattle.outside.specs.Named.{Told}
 use Rattle.cil.specs.Command.{file_of}
+use Rattle.cil.specs.Merge.{unit_asked, IsRefused, IfRefused}
 use Rattle.cil.specs.declared.status.Status.{Status}
 use Rattle.cil.specs.declared.status.Status.TheVariants.{Done, Exited, StillRunning, WentUndefined, Usage, Refused, NotCil, ReadFault, WriteFault, Memory}
 
@@ -71,6 +73,17 @@ abbrev pub HasFiles : ℕ → Status → Type 0
 HasFiles count (Refused refusal) = (refusal.at.file.0 < count) × ForSome refusal.other (λ place. place.file.0 < count)
 HasFiles count _ = Unit {0}
 
--- the names whose numbers stand in a status that these words give: the first is that of the file
+-- the first name: that of the file
 abbrev pub names_asked : List (List ℕ) → List (List ℕ)
 names_asked words = option_to_list (file_of words)
+
+-- names that begin with some
+pub record Begins (first names : List (List ℕ)) : Type 0 where
+  pub more : List (List ℕ)
+  pub is : names ≡ first ++ more
+
+-- the names whose numbers stand in a status: that of the file, and those that were asked for until a token was refused
+pub record AreNames (told : Option Told) (words : List (List ℕ)) (status : Status) (names : List (List ℕ)) : Type 0 where
+  pub begin : Begins (names_asked words) names
+  pub files : HasFiles (length names) status
+  pub refused : IfSome (unit_asked told words) (λ unit. IfRefused status (λ refusal. IsRefused unit refusal names))

@@ -1,17 +1,14 @@
 -- Device: what the types of the reader stand for in the executable reading.
-use Rattle.std.specs.Prelude.{◌≡◌, ℕ, ◌<◌, Bool, true, not, List, [], ◌∷◌, length, reverse, map, Option, Some, None, option_map}
-use Rattle.cil.specs.declared.reader.lexer.Tok.{Tok}
-use Rattle.cil.specs.declared.reader.lexer.Tok.TheVariants.{IntWord, MainWord, VoidWord, ReturnWord, Number, OpenParen, CloseParen, OpenBrace, CloseBrace, Semicolon, Plus, Minus}
+use Rattle.std.specs.Prelude.{List, reverse, map}
+use Rattle.cil.specs.declared.reader.token.Tok.{Tok}
+use Rattle.cil.specs.declared.reader.token.Tok.TheVariants.{IntWord, MainWord, VoidWord, ReturnWord, Number, OpenParen, CloseParen, OpenBrace, CloseBrace, Semicolon, Plus, Minus}
 use Rattle.cil.specs.declared.reader.automaton.Place.{Place}
 use Rattle.cil.specs.declared.reader.automaton.Place.TheVariants as places
 use Rattle.cil.specs.declared.reader.automaton.Context.{Context}
 use Rattle.cil.specs.declared.reader.automaton.Context.TheVariants as contexts
 use Rattle.cil.specs.declared.reader.automaton.State.{State}
 use Rattle.cil.specs.declared.reader.automaton.State.TheVariants as states
-use Rattle.cil.specs.declared.reader.lexer.Next.{Next}
-use Rattle.cil.specs.declared.reader.lexer.Next.TheVariants.{End, Token, Other}
-use Rattle.c_meaning.specs.Tokens.{is_blank}
-use Rattle.c_meaning.specs.Reading.{Terminal, Piece, Known, tokens_behind}
+use Rattle.c_meaning.specs.Reading.{Terminal}
 use Rattle.c_meaning.specs.Reading as reading
 use Rattle.c_meaning.specs.View.{expression_of}
 
@@ -28,22 +25,6 @@ terminal_of CloseBrace = reading.CloseBrace
 terminal_of Semicolon = reading.Semicolon
 terminal_of Plus = reading.Plus
 terminal_of Minus = reading.Minus
-
--- a token and how many bytes it has behind its first
-abbrev pub piece_of : Option (Tok × ℕ) → Piece
-piece_of None = reading.Other
-piece_of (Some p) = Known (terminal_of p.0) p.1
-
--- what a text begins with, blanks aside
-abbrev pub IsNext : List ℕ → Next → Type 0
-IsNext bytes End = tokens_behind 0 bytes ≡ Some []
-IsNext bytes (Token tok rest) = (tokens_behind 0 bytes ≡ option_map (λ others. terminal_of tok ∷ others) (tokens_behind 0 rest.now)) × (length rest.now < length bytes)
-IsNext bytes Other = tokens_behind 0 bytes ≡ None
-
--- no blank stands first
-abbrev pub begins_token : List ℕ → Bool
-begins_token [] = true
-begins_token (b ∷ bs) = not (is_blank b)
 
 abbrev pub place_of : Place → reading.Place
 place_of places.Specifier = reading.AtType

@@ -7,10 +7,10 @@ ghost use Rattle.outside.specs.Named.{find_file, names_of};
 ghost use Rattle.cil.specs.Merge.{bytes_under};
 ghost use Rattle.cil.specs.Execute.{IsNoText, IsRunAnswer, RunSays};
 
-use crate::file::{not_built, read_file};
+use crate::file::{read_file, refused_first};
 use crate::program_reader::read_program;
 use crate::status::Status;
-use cil_base::{Memory, NameId, NamePool};
+use cil_base::{Fault, Memory, NameId, NamePool};
 use cil_meaning::Exp;
 use cil_run::{Machine, RunEnd};
 use outside::{Files, ReadStop, Sink, Source};
@@ -84,7 +84,7 @@ fn run_text<I: Source, O: Sink>(
         return Status::Memory;
     };
     let Some(program) = found else {
-        return Status::Refused(not_built(file));
+        return Status::Refused(refused_first(Fault::NotBuilt, file));
     };
     run_program(program, names, words, steps, input, out)
 }

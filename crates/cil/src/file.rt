@@ -1,7 +1,7 @@
 ghost use Rattle.std.specs.Prelude.{◌≡◌, ◌≢◌, ◌^◌, ◌<◌, ◌≤◌, Err, None, IfOk, IfSome, IsErrOf};
 ghost use Rattle.outside.specs.Counts.{Rose};
 ghost use Rattle.outside.specs.Named.{find_file, names_of};
-ghost use Rattle.cil.specs.Merge.{bytes_under, IsFrontOf, not_built as the_refusal};
+ghost use Rattle.cil.specs.Merge.{bytes_under, IsFrontOf, refused_first as the_refusal};
 
 use cil_base::{Fault, NameId, Place, Refusal, UnitNo};
 use outside::{Files, ReadStop, read_all};
@@ -27,10 +27,10 @@ pub fn read_file<F: Files>(
     read_all(alloc, files, limit)
 }
 
-/// The refusal of a file that is not of the form, at the first token of the first unit, whose file is the first name. Own.
-pub fn not_built(file: NameId) -> Refusal
+/// A refusal at the first token of the first unit, whose file is the first name. Own.
+pub fn refused_first(fault: Fault, file: NameId) -> Refusal
     requires { file.0 ≡ 0 }
-    ensures { result ≡ the_refusal }
+    ensures { result ≡ the_refusal fault }
 {
     let at = Place {
         unit: UnitNo(0),
@@ -39,7 +39,7 @@ pub fn not_built(file: NameId) -> Refusal
         line: 1,
     };
     Refusal {
-        fault: Fault::NotBuilt,
+        fault,
         at,
         other: None,
     }

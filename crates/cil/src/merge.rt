@@ -1,34 +1,72 @@
-ghost use Rattle.std.specs.Prelude.{◌≡◌, ◌≢◌, ◌≤◌, ◌⊎◌, None, ◌<◌, [], ◌∷◌, Err, MatchOption, IfOk, IfSome, IsErrOf};
+ghost use Rattle.std.specs.Prelude.{◌≡◌, ◌≢◌, ◌≤◌, ◌⊎◌, None, [], ◌∷◌, length, IfOk, IfSome};
+ghost use Rattle.c_lexer.specs.Lexed.{Grows, IfRefused as IfStopped};
 ghost use Rattle.cil_meaning.specs.Program.{Exp};
 ghost use Rattle.cil_meaning.specs.Text.{Text, IsTextOf};
 ghost use Rattle.outside.specs.Counts.{Rose};
 ghost use Rattle.outside.specs.Moves.{Began, Wrote};
 ghost use Rattle.outside.specs.Named.{find_file, names_of};
 ghost use Rattle.cil.specs.Lowering.{Merges};
-ghost use Rattle.cil.specs.Merge.{bytes_under, IsNoUnit, IsFrontOf, IsMergeAnswer, not_built as the_refusal};
+ghost use Rattle.cil.specs.Merge.{bytes_under, file_under, IsFrontOf, IsMergeAnswer, IsRefused, IfRefused};
+ghost use Rattle.cil.specs.Merged.{file_in, IsAlone, IsOf, IsMergeRefusal};
+ghost use Rattle.cil.specs.Messages.{HasFiles, Begins};
 
-use crate::file::{not_built, read_file};
+use crate::file::{read_file, refused_first};
 use crate::lower::lower;
 use crate::printer::print;
 use crate::reader::unit_of;
 use crate::status::Status;
-use cil_base::{Memory, NameId, NamePool};
+use c_lexer::{Tokens, lex};
+use cil_base::{Fault, NameId, NamePool, Stop, UnitNo, What};
 use outside::{Files, ReadStop, Sink, write_all};
 use std::alloc::Global;
 
-// The greatest number of bytes in a translation unit, and one more: so many bytes show that a unit is too large.
-const READ_LIMIT: usize = 4_194_305;
+// The greatest number of bytes in a translation unit.
+const UNIT_BYTES: usize = 4_194_304;
 
-// The text of the program that a unit is merged to, or none where the unit is not of the form.
-fn merged_text(alloc: Global, unit: &[u8]) -> Result<Option<Vec<u8>>, Memory>
-    ensures { IfOk result (λ found. MatchOption found (IsNoUnit unit.now) (λ text. (p : Exp) × Merges unit.now p × (text.items ≡ Text p))) }
+// One byte more: so many bytes show that a unit is too large.
+const READ_LIMIT: usize = UNIT_BYTES + 1;
+
+// The tokens of the first unit, whose file is the only name of the pool.
+fn unit_tokens<'a>(
+    alloc: Global,
+    unit: &'a [u8],
+    file: NameId,
+    names: &mut NamePool,
+) -> Result<Tokens<'a>, Stop>
+    requires first { file.0 ≡ 0 }
+    requires alone { IsAlone names.old }
+    ensures tokens { IfOk result (λ t. IsOf (file_in names.old unit.now) t names.new) }
+    ensures refused { IfStopped result (λ refusal. IsRefused (file_in names.old unit.now) refusal names.new) }
+    ensures refusal { IfStopped result (IsMergeRefusal (length names.new)) }
+    ensures pool { Grows names.old names.new }
 {
-    let Some(tree) = unit_of(alloc, unit)? else {
-        return Ok(None);
+    if unit.len() > UNIT_BYTES {
+        return Err(Stop::Refused(refused_first(Fault::Limit(What::UnitBytes), file)));
+    }
+    lex(alloc, unit, UnitNo(0), file, names)
+}
+
+// The text of the program that the first unit is merged to.
+fn merged_text(
+    alloc: Global,
+    unit: &[u8],
+    file: NameId,
+    names: &mut NamePool,
+) -> Result<Vec<u8>, Stop>
+    requires first { file.0 ≡ 0 }
+    requires alone { IsAlone names.old }
+    ensures merged { IfOk result (λ text. (p : Exp) × Merges (file_in names.old unit.now) p × (text.items ≡ Text p)) }
+    ensures refused { IfStopped result (λ refusal. IsRefused (file_in names.old unit.now) refusal names.new) }
+    ensures refusal { IfStopped result (IsMergeRefusal (length names.new)) }
+    ensures pool { Grows names.old names.new }
+{
+    let tokens = unit_tokens(alloc, unit, file, names)?;
+    let Some(tree) = unit_of(alloc, &tokens)? else {
+        return Err(Stop::Refused(refused_first(Fault::NotBuilt, file)));
     };
     let program = lower(alloc, tree)?;
     let text = print(alloc, &program)?;
-    Ok(Some(text))
+    Ok(text)
 }
 
 // Writes the whole text.
@@ -46,26 +84,33 @@ fn write_text<O: Sink>(out: &mut O, text: &[u8]) -> Status
     }
 }
 
-// Merges a unit whose file has that number, and writes the text.
-fn merge_unit<O: Sink>(alloc: Global, file: NameId, unit: &[u8], out: &mut O) -> Status
-    requires { file.0 ≡ 0 }
+// Merges the first unit, whose file is the only name of the pool, and writes the text.
+fn merge_unit<O: Sink>(
+    alloc: Global,
+    unit: &[u8],
+    file: NameId,
+    names: &mut NamePool,
+    out: &mut O,
+) -> Status
+    requires first { file.0 ≡ 0 }
+    requires alone { IsAlone names.old }
     ensures kind { IsMergeAnswer result }
-    ensures done { result ≡ Status.Done → (p : Exp) × Merges unit.now p × Wrote (O.taken out.old) (O.taken out.new) (Text p) }
-    ensures part { result ≡ Status.WriteFault → (p : Exp) × Merges unit.now p × Began (O.taken out.old) (O.taken out.new) (Text p) }
+    ensures files { HasFiles (length names.new) result }
+    ensures pool { Grows names.old names.new }
+    ensures done { result ≡ Status.Done → (p : Exp) × Merges (file_in names.old unit.now) p × Wrote (O.taken out.old) (O.taken out.new) (Text p) }
+    ensures part { result ≡ Status.WriteFault → (p : Exp) × Merges (file_in names.old unit.now) p × Began (O.taken out.old) (O.taken out.new) (Text p) }
     ensures idle { result ≢ Status.Done → result ≢ Status.WriteFault → out.new ≡ out.old }
-    ensures refused { result ≡ Status.Refused the_refusal → IsNoUnit unit.now }
+    ensures refused { IfRefused result (λ refusal. IsRefused (file_in names.old unit.now) refusal names.new) }
     ensures no_read { result ≢ Status.ReadFault }
     ensures write { result ≡ Status.WriteFault → Rose (O.faults out.old) (O.faults out.new) }
     ensures calm_out { result ≢ Status.WriteFault → O.faults out.new ≡ O.faults out.old }
     ensures later_out { O.faults out.old ≤ O.faults out.new }
 {
-    let Ok(found) = merged_text(alloc, unit) else {
-        return Status::Memory;
-    };
-    let Some(text) = found else {
-        return Status::Refused(not_built(file));
-    };
-    write_text(out, &text)
+    match merged_text(alloc, unit, file, names) {
+        Ok(text) => write_text(out, &text),
+        Err(Stop::Refused(refusal)) => Status::Refused(refusal),
+        Err(Stop::Memory) => Status::Memory,
+    }
 }
 
 // Merges the file of that name, which becomes the first name of the pool, and writes the text.
@@ -78,11 +123,12 @@ pub fn merge<F: Files, O: Sink>(
 ) -> Status
     requires { names.old ≡ [] }
     ensures kind { IsMergeAnswer result }
-    ensures names { result ≢ Status.Memory → names.new ≡ name.now ∷ [] }
-    ensures done { result ≡ Status.Done → (p : Exp) × IsTextOf (Text p) p × Wrote (O.taken out.old) (O.taken out.new) (Text p) × IfSome (bytes_under (F.told files.old) name.now) (λ unit. Merges unit p) }
-    ensures part { result ≡ Status.WriteFault → (p : Exp) × IsTextOf (Text p) p × Began (O.taken out.old) (O.taken out.new) (Text p) × IfSome (bytes_under (F.told files.old) name.now) (λ unit. Merges unit p) }
+    ensures names { result ≢ Status.Memory → Begins (name.now ∷ []) names.new }
+    ensures files { HasFiles (length names.new) result }
+    ensures done { result ≡ Status.Done → (p : Exp) × IsTextOf (Text p) p × Wrote (O.taken out.old) (O.taken out.new) (Text p) × IfSome (file_under (F.told files.old) name.now) (λ unit. Merges unit p) }
+    ensures part { result ≡ Status.WriteFault → (p : Exp) × IsTextOf (Text p) p × Began (O.taken out.old) (O.taken out.new) (Text p) × IfSome (file_under (F.told files.old) name.now) (λ unit. Merges unit p) }
     ensures idle { result ≢ Status.Done → result ≢ Status.WriteFault → out.new ≡ out.old }
-    ensures refused { result ≡ Status.Refused the_refusal → IfSome (bytes_under (F.told files.old) name.now) IsNoUnit }
+    ensures refused { IfSome (file_under (F.told files.old) name.now) (λ unit. IfRefused result (λ refusal. IsRefused unit refusal names.new)) }
     ensures read { result ≡ Status.ReadFault → Rose (F.faults files.old) (F.faults files.new) }
     ensures calm { result ≢ Status.ReadFault → F.faults files.new ≡ F.faults files.old }
     ensures write { result ≡ Status.WriteFault → Rose (O.faults out.old) (O.faults out.new) }
@@ -97,7 +143,7 @@ pub fn merge<F: Files, O: Sink>(
         return Status::Memory;
     };
     match read_file(alloc, name, READ_LIMIT, files) {
-        Ok(unit) => merge_unit(alloc, file, &unit, out),
+        Ok(unit) => merge_unit(alloc, &unit, file, names, out),
         Err(ReadStop::Failed) => Status::ReadFault,
         Err(ReadStop::Memory) => Status::Memory,
     }

@@ -63,35 +63,39 @@ fn owned(alloc: Global, words: &[&str]) -> Result<Vec<String>, Fail> {
     Ok(owned)
 }
 
-// Units, the exit status of their merge, and the text of the expression that the program returns, or none.
-const UNITS: [(&[u8], u8, &str); 9] = [
-    (b"int main(void) { return 2 + 3; }", 0, "( 2 + 3 )"),
-    (b"int main(void) { return (2); }", 0, "2"),
-    (
-        b"int\tmain(void)\r\n<%\x0breturn 1-(2+3)-2147483647;\x0c%>",
-        0,
-        "( ( 1 - ( 2 + 3 ) ) - 2147483647 )",
-    ),
-    (b"", 65, ""),
-    (b"int main(void) { return 1--1; }", 65, ""),
-    (b"int main(void) { return 2147483648; }", 65, ""),
-    (b"int main(void) { return 007; }", 65, ""),
-    (b"int main(void) { return 1; }\0", 65, ""),
-    (b"\xff", 65, ""),
-];
+// Units, and the text of the expression that their program returns, or none where they are not of the form.
+fn units() -> &'static [(&'static [u8], &'static str)] {
+    &[
+        (b"int main(void) { return 2 + 3; }", "( 2 + 3 )"),
+        (b"int main(void) { return (2); }", "2"),
+        (
+            b"int\tmain(void)\r\n<%\x0breturn 1-(2+3)-2147483647;\x0c%>",
+            "( ( 1 - ( 2 + 3 ) ) - 2147483647 )",
+        ),
+        (
+            b"# 7 \"main.c\"\nint /* the\nstart */ main(void)\n{ return 1; // one\n}",
+            "1",
+        ),
+        (b"", ""),
+        (b"int main(void) { return 1--1; }", ""),
+        (b"int main(void) { return 2147483648; }", ""),
+        (b"int main(void) { return 007; }", ""),
+        (b"# 9 \"other.c\"\nint x;", ""),
+    ]
+}
 
 #[test]
-fn merges_units_of_the_form_and_refuses_others(rt: HostRuntime) -> Result<(), Fail> {
+fn merges_units_of_the_form_and_no_others(rt: HostRuntime) -> Result<(), Fail> {
     let alloc = rt.alloc();
-    for (unit, status, expression) in UNITS {
+    for (unit, expression) in units() {
         let answer = answer_to(alloc, &["merge", "a.c"], unit, &[], &[], &[])?;
         let text = format!(in alloc;
             "int main ( void ) ;\nint main ( void ) {{\n  return {expression} ;\n}}\n"
         )?;
-        let (written, told) = if status == 0 {
-            (text.as_str(), "")
+        let (status, written, told) = if expression.is_empty() {
+            (65, "", NOT_BUILT)
         } else {
-            ("", NOT_BUILT)
+            (0, text.as_str(), "")
         };
         assert_eq!(rt; answer.status, status, "{unit:?}");
         assert_eq!(rt; answer.written.as_slice(), written.as_bytes(), "{unit:?}");
@@ -100,33 +104,147 @@ fn merges_units_of_the_form_and_refuses_others(rt: HostRuntime) -> Result<(), Fa
     Ok(())
 }
 
+// Units with a token that is refused, and the line that tells it: each of what is excluded, then lexical faults, and the first of several.
+fn refused_units() -> &'static [(&'static [u8], &'static str)] {
+    &[
+        (b"double x;", "a.c:1: excluded: floating"),
+        (b"int a;\nfloat x;", "a.c:2: excluded: floating"),
+        (b"int x = 1.5;", "a.c:1: excluded: floating"),
+        (b"volatile int x;", "a.c:1: excluded: volatile"),
+        (b"__volatile__ int x;", "a.c:1: excluded: volatile"),
+        (b"_Complex x;", "a.c:1: excluded: complex"),
+        (b"int _Imaginary x;", "a.c:1: excluded: complex"),
+        (b"_Atomic int x;", "a.c:1: excluded: atomic"),
+        (b"_Thread_local int x;", "a.c:1: excluded: thread local"),
+        (b"__thread int x;", "a.c:1: excluded: thread local"),
+        (b"_Alignas(8) int x;", "a.c:1: excluded: alignas"),
+        (b"int x = _Generic(0, int: 1);", "a.c:1: excluded: generic"),
+        (b"int setjmp(int *);", "a.c:1: excluded: setjmp"),
+        (b"void longjmp(int *, int);", "a.c:1: excluded: setjmp"),
+        (b"asm(\"\");", "a.c:1: excluded: assembly"),
+        (b"int x __asm__(\"y\");", "a.c:1: excluded: assembly"),
+        (b"__builtin_va_list x;", "a.c:1: excluded: va_list"),
+        (b"int *x = L\"a\";", "a.c:1: excluded: prefixed literal"),
+        (b"int x = u'a';", "a.c:1: excluded: prefixed literal"),
+        (
+            b"int x = 'ab';",
+            "a.c:1: excluded: multi-character constant",
+        ),
+        (b"int \\u00e9;", "a.c:1: excluded: universal character name"),
+        (
+            b"char *x = \"\\u00e9\";",
+            "a.c:1: excluded: universal character name",
+        ),
+        (
+            b"int x;\n#pragma pack(1)\nint y;",
+            "a.c:2: excluded: pragma pack",
+        ),
+        (b"__int128 x;", "a.c:1: excluded: int128"),
+        (b"__func__", "a.c:1: excluded: function name"),
+        (b"typeof(int) x;", "a.c:1: excluded: typeof"),
+        (b"__auto_type x = 1;", "a.c:1: excluded: typeof"),
+        (
+            b"int x\n__attribute__\n((packed));",
+            "a.c:2: excluded: attribute",
+        ),
+        (b"int a;\nchar *s = \"ab", "a.c:2: lexical fault"),
+        (b"int x = 08;", "a.c:1: lexical fault"),
+        (b"int x = 1uu;", "a.c:1: lexical fault"),
+        (b"int x = '';", "a.c:1: lexical fault"),
+        (b"int x = '\\e';", "a.c:1: lexical fault"),
+        (b"int @;", "a.c:1: lexical fault"),
+        (b"int x;\n/* open", "a.c:2: lexical fault"),
+        (b"int # x;", "a.c:1: lexical fault"),
+        (b"#line 5\nint x;", "a.c:1: lexical fault"),
+        (b"int x;\n# 5\nint y;", "a.c:2: lexical fault"),
+        (b"int x __attribute__((unused;", "a.c:1: lexical fault"),
+        (b"int main(void) { return 1; }\0", "a.c:1: lexical fault"),
+        (b"\xff", "a.c:1: lexical fault"),
+        (
+            b"# 12 \"dir/x.h\" 1\nint main(void)\n{ return 1.0; }",
+            "dir/x.h:13: excluded: floating",
+        ),
+        (b"# 3 \"q\\\"b\\\\.h\"\n@", "q\"b\\.h:3: lexical fault"),
+        (b"double 08;", "a.c:1: excluded: floating"),
+        (b"08 double;", "a.c:1: lexical fault"),
+    ]
+}
+
+#[test]
+fn tells_the_first_token_that_is_refused(rt: HostRuntime) -> Result<(), Fail> {
+    let alloc = rt.alloc();
+    for (unit, told) in refused_units() {
+        let answer = answer_to(alloc, &["merge", "a.c"], unit, &[], &[], &[])?;
+        let line = format!(in alloc; "cil: {told}\n")?;
+        assert_eq!(rt; answer.status, 65, "{unit:?}");
+        assert_eq!(rt; answer.written.as_slice(), b"".as_slice(), "{unit:?}");
+        assert_eq!(rt; answer.told.as_slice(), line.as_bytes(), "{unit:?}");
+    }
+    Ok(())
+}
+
+// How many bytes of one kind follow what a unit begins with, and the exit status and what is told.
+fn long() -> &'static [(&'static str, u8, usize, u8, &'static str)] {
+    &[
+        (SUM, b' ', 4_194_272, 0, ""),
+        (SUM, b' ', 4_194_273, 65, "cil: a.c:1: limit: unit bytes\n"),
+        ("@", b' ', 4_194_304, 65, "cil: a.c:1: limit: unit bytes\n"),
+        ("int ", b'a', 1024, 65, NOT_BUILT),
+        ("int\n", b'a', 1025, 65, "cil: a.c:2: limit: name bytes\n"),
+    ]
+}
+
+#[test]
+fn tells_what_passes_a_limit(rt: HostRuntime) -> Result<(), Fail> {
+    let alloc = rt.alloc();
+    for (front, byte, count, status, told) in long() {
+        let mut unit = front.as_bytes().to_vec(alloc)?;
+        for _ in 0..*count {
+            unit.push(*byte)?;
+        }
+        let answer = answer_to(alloc, &["merge", "a.c"], &unit, &[], &[], &[])?;
+        assert_eq!(rt; answer.status, *status, "{count}");
+        assert_eq!(rt; answer.told.as_slice(), told.as_bytes(), "{count}");
+    }
+    Ok(())
+}
+
 // Calls that fail on files, standard output and standard error in the merge of a sum, and the exit status, how many bytes of the
 // text were written, and what was told.
-const FAILS: [(&[u64], &[u64], &[u64], u8, usize, &str); 16] = [
-    (&[0], &[], &[], 74, 0, "cil: read fault\n"),
-    (&[1], &[], &[], 74, 0, "cil: read fault\n"),
-    (&[2], &[], &[], 74, 0, "cil: read fault\n"),
-    (&[], &[0], &[], 74, 0, "cil: write fault\n"),
-    (&[], &[1], &[], 74, 10, "cil: write fault\n"),
-    (&[], &[2], &[], 74, 20, "cil: write fault\n"),
-    (&[], &[3], &[], 74, 30, "cil: write fault\n"),
-    (&[], &[4], &[], 74, 40, "cil: write fault\n"),
-    (&[], &[5], &[], 74, 50, "cil: write fault\n"),
-    (&[], &[6], &[], 74, 60, "cil: write fault\n"),
-    (&[], &[1], &[0], 74, 10, ""),
-    (&[], &[1], &[1], 74, 10, "cil: "),
-    (&[], &[1], &[2], 74, 10, "cil: write"),
-    (&[], &[1], &[3], 74, 10, "cil: write faul"),
-    (&[3], &[7], &[], 0, 63, ""),
-    (&[], &[], &[0], 0, 63, ""),
-];
+fn fails() -> &'static [(
+    &'static [u64],
+    &'static [u64],
+    &'static [u64],
+    u8,
+    usize,
+    &'static str,
+)] {
+    &[
+        (&[0], &[], &[], 74, 0, "cil: read fault\n"),
+        (&[1], &[], &[], 74, 0, "cil: read fault\n"),
+        (&[2], &[], &[], 74, 0, "cil: read fault\n"),
+        (&[], &[0], &[], 74, 0, "cil: write fault\n"),
+        (&[], &[1], &[], 74, 10, "cil: write fault\n"),
+        (&[], &[2], &[], 74, 20, "cil: write fault\n"),
+        (&[], &[3], &[], 74, 30, "cil: write fault\n"),
+        (&[], &[4], &[], 74, 40, "cil: write fault\n"),
+        (&[], &[5], &[], 74, 50, "cil: write fault\n"),
+        (&[], &[6], &[], 74, 60, "cil: write fault\n"),
+        (&[], &[1], &[0], 74, 10, ""),
+        (&[], &[1], &[1], 74, 10, "cil: "),
+        (&[], &[1], &[2], 74, 10, "cil: write"),
+        (&[], &[1], &[3], 74, 10, "cil: write faul"),
+        (&[3], &[7], &[], 0, 63, ""),
+        (&[], &[], &[0], 0, 63, ""),
+    ]
+}
 
 #[test]
 fn tells_each_failed_call(rt: HostRuntime) -> Result<(), Fail> {
-    for (files, out, err, status, count, told) in FAILS {
+    for (files, out, err, status, count, told) in fails() {
         let written = SUM_TEXT
             .as_bytes()
-            .get(..count)
+            .get(..*count)
             .ok_or("a count past the text")?;
         let answer = answer_to(
             rt.alloc(),
@@ -136,7 +254,7 @@ fn tells_each_failed_call(rt: HostRuntime) -> Result<(), Fail> {
             out,
             err,
         )?;
-        assert_eq!(rt; answer.status, status, "{files:?} {out:?} {err:?}");
+        assert_eq!(rt; answer.status, *status, "{files:?} {out:?} {err:?}");
         assert_eq!(rt;
             answer.written.as_slice(),
             written,
@@ -152,26 +270,28 @@ fn tells_each_failed_call(rt: HostRuntime) -> Result<(), Fail> {
 }
 
 // Words that are no command that is built.
-const NO_COMMANDS: [&[&str]; 14] = [
-    &[],
-    &["merge"],
-    &["merge", ""],
-    &["merge", "-x"],
-    &["merge", "a.c", "a.c"],
-    &["run"],
-    &["run", "-p"],
-    &["run", "--steps", "0", "p"],
-    &["run", "--steps", "01", "p"],
-    &["run", "--steps", "+1", "p"],
-    &["run", "--steps", "1000000000001", "p"],
-    &["run", "--steps", "5"],
-    &["sample", "1", "0"],
-    &["--help"],
-];
+fn no_commands() -> &'static [&'static [&'static str]] {
+    &[
+        &[],
+        &["merge"],
+        &["merge", ""],
+        &["merge", "-x"],
+        &["merge", "a.c", "a.c"],
+        &["run"],
+        &["run", "-p"],
+        &["run", "--steps", "0", "p"],
+        &["run", "--steps", "01", "p"],
+        &["run", "--steps", "+1", "p"],
+        &["run", "--steps", "1000000000001", "p"],
+        &["run", "--steps", "5"],
+        &["sample", "1", "0"],
+        &["--help"],
+    ]
+}
 
 #[test]
 fn tells_words_that_are_no_command(rt: HostRuntime) -> Result<(), Fail> {
-    for words in NO_COMMANDS {
+    for words in no_commands() {
         let answer = answer_to(rt.alloc(), words, SUM.as_bytes(), &[], &[], &[])?;
         assert_eq!(rt; answer.status, 64, "{words:?}");
         assert_eq!(rt; answer.written.as_slice(), b"".as_slice(), "{words:?}");
@@ -181,33 +301,35 @@ fn tells_words_that_are_no_command(rt: HostRuntime) -> Result<(), Fail> {
 }
 
 // Words, the bytes of `a.c`, and the exit status and what was told.
-const RUNS: [(&[&str], &str, u8, &str); 9] = [
-    (&["run", "a.c"], SUM_TEXT, 5, ""),
-    (&["run", "--steps", "1", "a.c"], SUM_TEXT, 5, ""),
-    (&["run", "--steps", "1000000000000", "a.c"], SUM_TEXT, 5, ""),
-    (&["run", "a.c", "-x", "--steps", ""], SUM_TEXT, 5, ""),
-    (
-        &["run", "a.c"],
-        "int main ( void ) ;\nint main ( void ) {\n  return ( 2147483647 + 1 ) ;\n}\n",
-        125,
-        "cil: undefined behaviour\n",
-    ),
-    (
-        &["run", "a.c"],
-        "int main ( void ) ;\nint main ( void ) {\n  return 258 ;\n}\n",
-        2,
-        "",
-    ),
-    (&["run", "a.c"], SUM, 65, NOT_BUILT),
-    (&["run", "a.c"], "", 65, NOT_BUILT),
-    (&["run", "b.c"], SUM_TEXT, 74, "cil: read fault\n"),
-];
+fn runs() -> &'static [(&'static [&'static str], &'static str, u8, &'static str)] {
+    &[
+        (&["run", "a.c"], SUM_TEXT, 5, ""),
+        (&["run", "--steps", "1", "a.c"], SUM_TEXT, 5, ""),
+        (&["run", "--steps", "1000000000000", "a.c"], SUM_TEXT, 5, ""),
+        (&["run", "a.c", "-x", "--steps", ""], SUM_TEXT, 5, ""),
+        (
+            &["run", "a.c"],
+            "int main ( void ) ;\nint main ( void ) {\n  return ( 2147483647 + 1 ) ;\n}\n",
+            125,
+            "cil: undefined behaviour\n",
+        ),
+        (
+            &["run", "a.c"],
+            "int main ( void ) ;\nint main ( void ) {\n  return 258 ;\n}\n",
+            2,
+            "",
+        ),
+        (&["run", "a.c"], SUM, 65, NOT_BUILT),
+        (&["run", "a.c"], "", 65, NOT_BUILT),
+        (&["run", "b.c"], SUM_TEXT, 74, "cil: read fault\n"),
+    ]
+}
 
 #[test]
 fn runs_texts_of_programs_and_refuses_others(rt: HostRuntime) -> Result<(), Fail> {
-    for (words, text, status, told) in RUNS {
+    for (words, text, status, told) in runs() {
         let answer = answer_to(rt.alloc(), words, text.as_bytes(), &[], &[], &[])?;
-        assert_eq!(rt; answer.status, status, "{words:?} {text}");
+        assert_eq!(rt; answer.status, *status, "{words:?} {text}");
         assert_eq!(rt;
             answer.written.as_slice(),
             b"".as_slice(),

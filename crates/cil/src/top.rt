@@ -1,4 +1,4 @@
-ghost use Rattle.std.specs.Prelude.{◌≡◌, ◌≢◌, ◌≤◌, ◌↔◌, ◌⊎◌, [], None, Some, length, map, unwrap_or, IfSome};
+ghost use Rattle.std.specs.Prelude.{◌≡◌, ◌≢◌, ◌≤◌, ◌↔◌, ◌⊎◌, ℕ, List, [], None, Some, length, map, unwrap_or, IfSome};
 ghost use Rattle.std.specs.String.{string_bytes};
 ghost use Rattle.c_meaning.specs.Grammar.{Expression, IsUnit};
 ghost use Rattle.cil_meaning.specs.Program.{Exp};
@@ -9,12 +9,13 @@ ghost use Rattle.outside.specs.Moves.{Began, Wrote};
 ghost use Rattle.outside.specs.Named.{find_file, names_of};
 ghost use Rattle.std.specs.Option.{option_map, option_and_then};
 ghost use Rattle.cil_base.specs.declared.runs.Env.{Env};
+ghost use Rattle.cil_base.specs.declared.faults.Refusal.{Refusal};
 ghost use Rattle.cil.specs.Answers.{IsAnswerTo};
 ghost use Rattle.cil.specs.Command.{command_of, file_of, bound_of, steps_asked};
 ghost use Rattle.cil.specs.Execute.{text_asked, IsNoText, IsRunAnswer, RunSays, Tells};
 ghost use Rattle.cil.specs.Lowering.{Merges};
-ghost use Rattle.cil.specs.Merge.{unit_asked, bytes_under, IsNoUnit, IsMergeAnswer, not_built};
-ghost use Rattle.cil.specs.Messages.{line_of, names_asked, IsQuiet, HasFiles};
+ghost use Rattle.cil.specs.Merge.{unit_asked, bytes_under, IsMergeAnswer, IsRefused, IfRefused, not_built};
+ghost use Rattle.cil.specs.Messages.{line_of, AreNames, IsQuiet, HasFiles};
 ghost use Rattle.cil.specs.Sent.{Sent};
 
 use crate::command::{Command, read_words};
@@ -30,8 +31,9 @@ use std::alloc::Global;
 ///
 /// `merge FILE` reads the file as a C translation unit and writes the text of the CIL program that it is merged to. Where it is
 /// `Done`, out took the whole text of a program that is made of the unit and whose run is, in every environment and at every bound
-/// of steps, one that the unit's run allows. It is `Refused` exactly where no call on the files failed and the unit is not of the
-/// form `int main(void) { return E; }`; then, as in each other case but `Done` and `WriteFault`, out took nothing.
+/// of steps, one that the unit's run allows. Where no call on the files failed it is `Refused` exactly for the first of these: the
+/// unit has more than 4,194,304 bytes; a token of it is a lexical fault, excluded or a name that is too long; its tokens are not
+/// those of the form `int main(void) { return E; }`. Then, as in each other case but `Done` and `WriteFault`, out took nothing.
 ///
 /// `run [--steps N] FILE [ARG...]` reads the file as a CIL text and runs its program: it is `Exited`, `StillRunning` or
 /// `WentUndefined` as the program's run in every environment is, bounded by N steps. It is `Refused` exactly where no call on the
@@ -54,8 +56,8 @@ pub fn cil<F: Files, I: Source, O: Sink, E: Sink>(
     // merge
     ensures done { result ≡ Status.Done → (p : Exp) × IsTextOf (Text p) p × Wrote (O.taken out.old) (O.taken out.new) (Text p) × IfSome (unit_asked (F.told files.old) (map string_bytes words.now)) (λ unit. Merges unit p) }
     ensures accepted { IfSome (unit_asked (F.told files.old) (map string_bytes words.now)) (λ unit. (e : Expression) → IsUnit unit e → ¬ (Rose (F.faults files.old) (F.faults files.new)) → ¬ (Rose (O.faults out.old) (O.faults out.new)) → (result ≡ Status.Done) ⊎ (result ≡ Status.Memory)) }
-    ensures refused { result ≡ Status.Refused not_built → IfSome (unit_asked (F.told files.old) (map string_bytes words.now)) IsNoUnit }
-    ensures not_of_the_form { IfSome (unit_asked (F.told files.old) (map string_bytes words.now)) (λ unit. IsNoUnit unit → ¬ (Rose (F.faults files.old) (F.faults files.new)) → (result ≡ Status.Refused not_built) ⊎ (result ≡ Status.Memory)) }
+    ensures refused { IfSome (unit_asked (F.told files.old) (map string_bytes words.now)) (λ unit. IfRefused result (λ refusal. (names : List (List ℕ)) × IsRefused unit refusal names)) }
+    ensures refuses { IfSome (unit_asked (F.told files.old) (map string_bytes words.now)) (λ unit. (refusal : Refusal) (names : List (List ℕ)) → IsRefused unit refusal names → ¬ (Rose (F.faults files.old) (F.faults files.new)) → (result ≡ Status.Refused refusal) ⊎ (result ≡ Status.Memory)) }
 
     // Where a write failed, out took a front of the text of such a program.
     ensures part { result ≡ Status.WriteFault → (p : Exp) × IsTextOf (Text p) p × Began (O.taken out.old) (O.taken out.new) (Text p) × IfSome (unit_asked (F.told files.old) (map string_bytes words.now)) (λ unit. Merges unit p) }
@@ -78,7 +80,7 @@ pub fn cil<F: Files, I: Source, O: Sink, E: Sink>(
     ensures out_later { O.faults out.old ≤ O.faults out.new }
     ensures strays { IfSome (option_and_then (bytes_under (F.told files.old)) (file_of (map string_bytes words.now))) (λ _. F.strays files.new ≡ F.strays files.old) }
 
-    ensures line { Sent (E.taken err.old) (E.taken err.new) (E.faults err.old) (E.faults err.new) (line_of (names_asked (map string_bytes words.now)) (steps_asked (map string_bytes words.now)) result) }
+    ensures line { (names : List (List ℕ)) × AreNames (F.told files.old) (map string_bytes words.now) result names × Sent (E.taken err.old) (E.taken err.new) (E.faults err.old) (E.faults err.new) (line_of names (steps_asked (map string_bytes words.now)) result) }
     ensures quiet { IsQuiet result → err.new ≡ err.old }
     ensures err_later { E.faults err.old ≤ E.faults err.new }
 {
@@ -114,12 +116,12 @@ fn run_command<F: Files, I: Source, O: Sink>(
     requires command { command.now ≡ command_of (map string_bytes words.now) }
     ensures kind { IsAnswerTo (command_of (map string_bytes words.now)) result }
     ensures usage { (result ≡ Status.Usage) ↔ (command_of (map string_bytes words.now) ≡ None) }
-    ensures names { result ≢ Status.Memory → names.new ≡ names_asked (map string_bytes words.now) }
+    ensures names { result ≢ Status.Memory → AreNames (F.told files.old) (map string_bytes words.now) result names.new }
     ensures files { HasFiles (length names.new) result }
     ensures done { result ≡ Status.Done → (p : Exp) × IsTextOf (Text p) p × Wrote (O.taken out.old) (O.taken out.new) (Text p) × IfSome (unit_asked (F.told files.old) (map string_bytes words.now)) (λ unit. Merges unit p) }
     ensures accepted { IfSome (unit_asked (F.told files.old) (map string_bytes words.now)) (λ unit. (e : Expression) → IsUnit unit e → ¬ (Rose (F.faults files.old) (F.faults files.new)) → ¬ (Rose (O.faults out.old) (O.faults out.new)) → (result ≡ Status.Done) ⊎ (result ≡ Status.Memory)) }
-    ensures not_of_the_form { IfSome (unit_asked (F.told files.old) (map string_bytes words.now)) (λ unit. IsNoUnit unit → ¬ (Rose (F.faults files.old) (F.faults files.new)) → (result ≡ Status.Refused not_built) ⊎ (result ≡ Status.Memory)) }
-    ensures refused { result ≡ Status.Refused not_built → IfSome (unit_asked (F.told files.old) (map string_bytes words.now)) IsNoUnit }
+    ensures refuses { IfSome (unit_asked (F.told files.old) (map string_bytes words.now)) (λ unit. (refusal : Refusal) (names : List (List ℕ)) → IsRefused unit refusal names → ¬ (Rose (F.faults files.old) (F.faults files.new)) → (result ≡ Status.Refused refusal) ⊎ (result ≡ Status.Memory)) }
+    ensures refused { IfSome (unit_asked (F.told files.old) (map string_bytes words.now)) (λ unit. IfRefused result (λ refusal. (others : List (List ℕ)) × IsRefused unit refusal others)) }
     ensures runs { IfSome (text_asked (F.told files.old) (map string_bytes words.now)) (λ bytes. (p : Exp) → IsTextOf bytes p → ¬ (Rose (F.faults files.old) (F.faults files.new)) → ((env : Env) → Tells result (RunCil p env (steps_asked (map string_bytes words.now)))) ⊎ (result ≡ Status.Memory)) }
     ensures no_text { IfSome (text_asked (F.told files.old) (map string_bytes words.now)) (λ bytes. IsNoText bytes → ¬ (Rose (F.faults files.old) (F.faults files.new)) → (result ≡ Status.Refused not_built) ⊎ (result ≡ Status.Memory)) }
     ensures ran { IfSome (text_asked (F.told files.old) (map string_bytes words.now)) (λ bytes. RunSays bytes (steps_asked (map string_bytes words.now)) result) }
@@ -159,12 +161,12 @@ fn merge_words<F: Files, O: Sink>(
     requires empty { names.old ≡ [] }
     requires command { command_of (map string_bytes words.now) ≡ Some (Command.Merge first) }
     ensures kind { IsMergeAnswer result }
-    ensures names { result ≢ Status.Memory → names.new ≡ names_asked (map string_bytes words.now) }
+    ensures names { result ≢ Status.Memory → AreNames (F.told files.old) (map string_bytes words.now) result names.new }
     ensures files { HasFiles (length names.new) result }
     ensures done { result ≡ Status.Done → (p : Exp) × IsTextOf (Text p) p × Wrote (O.taken out.old) (O.taken out.new) (Text p) × IfSome (unit_asked (F.told files.old) (map string_bytes words.now)) (λ unit. Merges unit p) }
     ensures accepted { IfSome (unit_asked (F.told files.old) (map string_bytes words.now)) (λ unit. (e : Expression) → IsUnit unit e → ¬ (Rose (F.faults files.old) (F.faults files.new)) → ¬ (Rose (O.faults out.old) (O.faults out.new)) → (result ≡ Status.Done) ⊎ (result ≡ Status.Memory)) }
-    ensures not_of_the_form { IfSome (unit_asked (F.told files.old) (map string_bytes words.now)) (λ unit. IsNoUnit unit → ¬ (Rose (F.faults files.old) (F.faults files.new)) → (result ≡ Status.Refused not_built) ⊎ (result ≡ Status.Memory)) }
-    ensures refused { result ≡ Status.Refused not_built → IfSome (unit_asked (F.told files.old) (map string_bytes words.now)) IsNoUnit }
+    ensures refuses { IfSome (unit_asked (F.told files.old) (map string_bytes words.now)) (λ unit. (refusal : Refusal) (names : List (List ℕ)) → IsRefused unit refusal names → ¬ (Rose (F.faults files.old) (F.faults files.new)) → (result ≡ Status.Refused refusal) ⊎ (result ≡ Status.Memory)) }
+    ensures refused { IfSome (unit_asked (F.told files.old) (map string_bytes words.now)) (λ unit. IfRefused result (λ refusal. (others : List (List ℕ)) × IsRefused unit refusal others)) }
     ensures part { result ≡ Status.WriteFault → (p : Exp) × IsTextOf (Text p) p × Began (O.taken out.old) (O.taken out.new) (Text p) × IfSome (unit_asked (F.told files.old) (map string_bytes words.now)) (λ unit. Merges unit p) }
     ensures read { result ≡ Status.ReadFault → Rose (F.faults files.old) (F.faults files.new) }
     ensures read_told { result ≢ Status.ReadFault → F.faults files.new ≡ F.faults files.old }
@@ -195,7 +197,7 @@ fn run_words<F: Files, I: Source, O: Sink>(
     requires empty { names.old ≡ [] }
     requires command { command_of (map string_bytes words.now) ≡ Some (Command.Run steps file) }
     ensures kind { IsRunAnswer result }
-    ensures names { result ≢ Status.Memory → names.new ≡ names_asked (map string_bytes words.now) }
+    ensures names { result ≢ Status.Memory → AreNames (F.told files.old) (map string_bytes words.now) result names.new }
     ensures files { HasFiles (length names.new) result }
     ensures runs { IfSome (text_asked (F.told files.old) (map string_bytes words.now)) (λ bytes. (p : Exp) → IsTextOf bytes p → ¬ (Rose (F.faults files.old) (F.faults files.new)) → ((env : Env) → Tells result (RunCil p env (steps_asked (map string_bytes words.now)))) ⊎ (result ≡ Status.Memory)) }
     ensures no_text { IfSome (text_asked (F.told files.old) (map string_bytes words.now)) (λ bytes. IsNoText bytes → ¬ (Rose (F.faults files.old) (F.faults files.new)) → (result ≡ Status.Refused not_built) ⊎ (result ≡ Status.Memory)) }

@@ -4,7 +4,7 @@ ghost use Rattle.c_meaning.specs.View.{expression_of};
 ghost use Rattle.c_meaning.specs.Reading.{passed, placed, opened, closed, ended, fed, result_of, Operand, Whole, Returned, Context as Awaited};
 ghost use Rattle.cil.specs.Reader.{terminal_of, place_of, context_of, state_of, stack_of};
 
-use super::lexer::Tok;
+use super::token::Tok;
 use c_meaning::Expr;
 use cil_base::BinOp;
 use std::alloc::{AllocError, Global};

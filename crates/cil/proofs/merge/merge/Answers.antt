@@ -1,8 +1,12 @@
-use Rattle.std.proofs.Common.{subst}
-use Rattle.cil.specs.Merge.{IsNoUnit}
-use Rattle.cil.proofs.Units.{no_unit_asked}
+use Rattle.cil.specs.Merge.{bytes_under}
+use Rattle.cil.proofs.Units.{begun_names, merge_refused}
 use Rattle.cil.proofs.merge.merge.Goals as goal
+
+pub returns-in-Ok-read_file-clause-names : goal.returns-in-Ok-read_file-clause-names
+returns-in-Ok-read_file-clause-names g c = λ known.
+    begun_names c.args.names.now c.intern.new.self c.merge_unit.new.names c.args.name.now c.as_bytes.result.now _ c.requires c.as_bytes.ensures.value c.in-Ok.ensures.ok c.merge_unit.ensures.pool
 
 pub returns-in-Ok-read_file-clause-refused : goal.returns-in-Ok-read_file-clause-refused
 returns-in-Ok-read_file-clause-refused g c =
-    λ refused. no_unit_asked _ c.in-Ok-read_file.unit.items c.in-Ok-read_file.ensures.ok (subst IsNoUnit c.deref.ensures.value (c.merge_unit.ensures.refused refused))
+    merge_refused (bytes_under (g.F.Files.told c.args.files.now) c.args.name.now) c.args.names.now c.intern.new.self c.merge_unit.new.names c.args.name.now c.as_bytes.result.now c.in-Ok-read_file.unit.items c.deref.result.now _ c.merge_unit.result
+    c.requires c.as_bytes.ensures.value c.in-Ok.ensures.ok c.deref.ensures.value c.in-Ok-read_file.ensures.ok c.merge_unit.ensures.refused

@@ -5,14 +5,14 @@ use Rattle.cil.specs.Command.{file_of, steps_asked}
 use Rattle.cil.specs.Execute.{text_asked}
 use Rattle.cil.specs.Merge.{bytes_under}
 use Rattle.cil.proofs.Answered.{runs_by, no_text_by, run_files}
-use Rattle.cil.proofs.Words.{text_asked_is, run_file_is, steps_asked_is, if_some_by, ran_by, names_by}
+use Rattle.cil.proofs.Words.{text_asked_is, run_file_is, steps_asked_is, if_some_by, ran_by, run_names}
 use Rattle.cil.proofs.top.run_words.Goals as goal
 
 pub returns-clause-names : goal.returns-clause-names
 returns-clause-names g c = λ known.
-    names_by c.execute.new.names (map string_bytes c.args.words.now) c.as_str.result.now (string_bytes (get_or c.args.words.now c.args.file c.index-words-file.result))
-    (c.execute.ensures.names known) (run_file_is c.args.words.now c.args.steps c.args.file c.index-words-file.result c.requires.command)
-    (c.as_str.ensures.value ∙ ap string_bytes c.index-words-file.is)
+    run_names (g.F.Files.told c.args.files.now) (map string_bytes c.args.words.now) c.execute.new.names c.execute.result c.args.steps c.args.file c.as_str.result.now (string_bytes (get_or c.args.words.now c.args.file c.index-words-file.result))
+    c.requires.command (c.execute.ensures.names known) (run_file_is c.args.words.now c.args.steps c.args.file c.index-words-file.result c.requires.command)
+    (c.as_str.ensures.value ∙ ap string_bytes c.index-words-file.is) (run_files c.execute.result c.execute.new.names c.as_str.result.now c.execute.ensures.kind c.execute.ensures.names)
 
 pub returns-clause-ran : goal.returns-clause-ran
 returns-clause-ran g c =

@@ -1,7 +1,7 @@
 use Rattle.std.proofs.Common.{◌≡◌, ◌≢◌, ◌<◌, ◌^◌, ℕ, sym, ap, ◌∙◌, decimal, None, option_map, rules}
 use Rattle.c_meaning.specs.Reading.{Number}
-use Rattle.cil.proofs.Lexing.{is_number, no_number, other_text}
-use Rattle.cil.proofs.reader.lexer.number.Goals as goal
+use Rattle.cil.proofs.Numbers.{is_number, no_number, other_text}
+use Rattle.cil.proofs.reader.token.number.Goals as goal
 
 pub returns-in_err-value : goal.returns-in_err-value
 returns-in_err-value c =

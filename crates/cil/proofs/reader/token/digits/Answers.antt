@@ -1,8 +1,8 @@
 use Rattle.std.proofs.Common.{◌≡◌, ◌<◌, ◌≤◌, ◌^◌, ◌+◌, length, take, get_or, true, false, rules, arith}
 use Rattle.std.specs.Char.{is_ascii_digit}
 use Rattle.std.specs.Str.Parse.{digits_value}
-use Rattle.cil.proofs.Lexing.{no_digit, too_great, digit_more}
-use Rattle.cil.proofs.reader.lexer.digits.Goals as goal
+use Rattle.cil.proofs.Numbers.{no_digit, too_great, digit_more}
+use Rattle.cil.proofs.reader.token.digits.Goals as goal
 
 pub returns-then-not-is_ascii_digit : goal.returns-then-not-is_ascii_digit
 returns-then-not-is_ascii_digit c = λ n small same.
