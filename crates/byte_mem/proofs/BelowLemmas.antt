@@ -1,5 +1,5 @@
 -- Device: each load, store and operator keeps the order of memories under a one-to-one map of names.
-use Rattle.std.proofs.Common.{◌≡◌, ℕ, zero, suc, ◌+◌, ◌*◌, ◌/◌, Bool, true, false, cond, ◌&&◌, ◌||◌, not, List, [], ◌∷◌, ◌++◌, length, take, drop, replicate, Option, Some, None, ℤ, pos, ◌+ℤ◌, ◌*ℤ◌, ◌-ℤ◌, neg_ℤ, int_div, int_rem, int_lt, int_le, refl, sym, ap, ◌∙◌, subst, arith}
+use Rattle.std.proofs.Common.{◌≡◌, ◌≢◌, ℕ, zero, suc, ◌+◌, ◌*◌, ◌/◌, Bool, true, false, cond, ◌&&◌, ◌||◌, not, List, [], ◌∷◌, ◌++◌, length, take, drop, replicate, Option, Some, None, ℤ, pos, ◌+ℤ◌, ◌*ℤ◌, ◌-ℤ◌, neg_ℤ, int_div, int_rem, int_lt, int_le, refl, sym, ap, ◌∙◌, subst, arith}
 use Rattle.std.specs.Prelude.{nat_eq, nat_lt}
 use Rattle.std.specs.Option.{option_map}
 use Rattle.std.specs.Ordering.{int_eq}
@@ -24,8 +24,8 @@ use Rattle.byte_mem.specs.declared.values.Value.TheVariants.{Int, Ptr, Unknown, 
 use Rattle.byte_mem.specs.Steps.{◌>>=◌, only_if}
 use Rattle.byte_mem.specs.Name.{same_name, same_pointer}
 use Rattle.byte_mem.specs.Scalar.{kind_of, scalar_size, is_boolean, number_of, low_bytes, parts_of, number_value, goes_on, whole_pointer, lone_part, parts_value, value_with, value_of, bytes_of}
-use Rattle.byte_mem.specs.Object.{Held, part_at, with_part, inside, aligned, load_held, load_part, write_at, store_held, store_part, fill_part, new_held, function_held}
-use Rattle.byte_mem.specs.Memory.{Memory, with_held, make, make_function, end_object, load, load_bytes, changed, store, store_bytes, fill}
+use Rattle.byte_mem.specs.Object.{Held, part_at, with_part, inside, aligned, load_held, load_part, write_at, store_held, store_part, fill_part, new_held, function_held, protect_held}
+use Rattle.byte_mem.specs.Memory.{Memory, with_held, make, make_function, end_object, protect, load, load_bytes, changed, store, store_bytes, fill}
 use Rattle.byte_mem.specs.Operator.{is_boolean_scalar, converted, converted_pointer, converted_part, number_in, pointer_in, place_of, in_reach, reached, truth, is_past_end, equal_pointers, equal_null, equal, offsets_in, offsets, ordered, compared, further_pointer, further, pointer_sum, pointer_less, distance, pointer_difference, member_place, computed, unary}
 use Rattle.byte_mem.specs.Below.{Names, IsOneToOne, moved, BelowByte, BelowBytes, BelowValue, Lift, Same, BelowHeld, BelowMemory}
 use Rattle.byte_mem.proofs.NameLemmas.{name_same, name_itself}
@@ -316,6 +316,35 @@ end_first_below f m n x r y = by (same_name x y)
     by : (t : Bool) → Lift (BelowHeld f) (cond t None (m y)) (n (f y))
     by true = tt
     by false = r y
+
+lift_protected : (f : Names) (h k : Option Held) (t u : Bool) → (t ≡ false → u ≡ false) → Lift (BelowHeld f) h k → Lift (BelowHeld f) (option_map (λ a. protect_held a t) h) (option_map (λ a. protect_held a u) k)
+lift_protected f h k t u w r =
+    lift_map (BelowHeld f) (BelowHeld f) h k (λ a. protect_held a t) (λ a. protect_held a u) r (λ a b q. record { function = q.function; writable = w; bytes = q.bytes })
+
+pub protect_below : (f : Names) → IsOneToOne f → (m n : Memory) (x : ObjName) (t u : Bool) → BelowMemory f m n → (t ≡ false → u ≡ false) → BelowMemory f (protect m x t) (protect n (f x) u)
+protect_below f o m n x t u r w =
+    with_below f o m n x (option_map (λ h. protect_held h t) (m x)) (option_map (λ h. protect_held h u) (n (f x))) r (lift_protected f (m x) (n (f x)) t u w (r x))
+
+-- an object may become read-only in the first memory alone
+read_only_first : (f : Names) (h k : Option Held) → Lift (BelowHeld f) h k → Lift (BelowHeld f) (option_map (λ a. protect_held a true) h) k
+read_only_first f None k r = tt
+read_only_first f (Some a) None r = absurd r
+read_only_first f (Some a) (Some b) r = record { function = r.function; writable = λ e. absurd (false≢true (sym e)); bytes = r.bytes }
+
+pub protect_first_below : (f : Names) (m n : Memory) (x : ObjName) → BelowMemory f m n → BelowMemory f (protect m x true) n
+protect_first_below f m n x r y = by (same_name x y) refl
+  where
+    by : (t : Bool) → same_name x y ≡ t → Lift (BelowHeld f) (cond t (option_map (λ a. protect_held a true) (m x)) (m y)) (n (f y))
+    by true e = subst (λ (z : ObjName). Lift (BelowHeld f) (option_map (λ a. protect_held a true) (m x)) (n (f z))) (name_same x y e) (read_only_first f (m x) (n (f x)) (r x))
+    by false e = r y
+
+-- a name that the map gives to nothing may change in the second memory alone
+pub second_alone_below : (f : Names) (m n : Memory) (y : ObjName) (o : Option Held) → ((x : ObjName) → f x ≢ y) → BelowMemory f m n → BelowMemory f m (with_held n y o)
+second_alone_below f m n y o away r x = by (same_name y (f x)) refl
+  where
+    by : (t : Bool) → same_name y (f x) ≡ t → Lift (BelowHeld f) (m x) (cond t o (n (f x)))
+    by true e = absurd (away x (sym (name_same y (f x) e)))
+    by false e = r x
 
 -- operators
 

@@ -1,5 +1,5 @@
 -- Definition: what memory promises over all states: an object keeps what is stored (C11 6.2.4p2), and what is known in a memory stays known in one that says more (own).
-use Rattle.std.specs.Prelude.{◌≡◌, ℕ, Bool, false, List, length, Some}
+use Rattle.std.specs.Prelude.{◌≡◌, ◌≢◌, ℕ, Bool, true, false, List, length, Option, Some}
 use Rattle.cil_base.specs.declared.kinds.Abi.{Abi}
 use Rattle.cil_base.specs.declared.kinds.IntKind.{IntKind}
 use Rattle.cil_base.specs.declared.operators.BinOp.{BinOp}
@@ -11,7 +11,8 @@ use Rattle.byte_mem.specs.declared.values.Scalar.{Scalar}
 use Rattle.byte_mem.specs.declared.values.Value.{Value}
 use Rattle.byte_mem.specs.Name.{same_name}
 use Rattle.byte_mem.specs.Scalar.{IsValue, value_of, bytes_of}
-use Rattle.byte_mem.specs.Memory.{Memory, make, make_function, end_object, load, load_bytes, store, store_bytes, fill}
+use Rattle.byte_mem.specs.Object.{Held}
+use Rattle.byte_mem.specs.Memory.{Memory, with_held, make, make_function, end_object, protect, load, load_bytes, store, store_bytes, fill}
 use Rattle.byte_mem.specs.Operator.{converted, place_of, truth, compared, pointer_sum, pointer_less, pointer_difference, member_place, computed, unary}
 use Rattle.byte_mem.specs.Below.{Names, IsOneToOne, moved, BelowByte, BelowBytes, BelowValue, Lift, Same, BelowMemory}
 
@@ -28,6 +29,11 @@ pub record MemoryKeepsOrder (f : Names) : Type 0 where
   pub make_function : (m n : Memory) (x : ObjName) → BelowMemory f m n → BelowMemory f (make_function m x) (make_function n (f x))
   pub end : (m n : Memory) (x : ObjName) → BelowMemory f m n → BelowMemory f (end_object m x) (end_object n (f x))
   pub end_first : (m n : Memory) (x : ObjName) → BelowMemory f m n → BelowMemory f (end_object m x) n
+  -- the first memory may refuse more
+  pub protect_first : (m n : Memory) (x : ObjName) → BelowMemory f m n → BelowMemory f (protect m x true) n
+  pub protect : (m n : Memory) (x : ObjName) (t u : Bool) → BelowMemory f m n → (t ≡ false → u ≡ false) → BelowMemory f (protect m x t) (protect n (f x) u)
+  -- what has no name in the first memory may be anything in the second
+  pub second_alone : (m n : Memory) (y : ObjName) (o : Option Held) → ((x : ObjName) → f x ≢ y) → BelowMemory f m n → BelowMemory f m (with_held n y o)
   pub load : (abi : Abi) (m n : Memory) (p : Pointer) (s : Scalar) → BelowMemory f m n → Lift (BelowValue f) (load abi m p s) (load abi n (moved f p) s)
   pub load_bytes : (m n : Memory) (p : Pointer) (len : ℕ) → BelowMemory f m n → Lift (BelowBytes f) (load_bytes m p len) (load_bytes n (moved f p) len)
   pub store : (abi : Abi) (m n : Memory) (p : Pointer) (s : Scalar) (v w : Value) → BelowMemory f m n → BelowValue f v w → Lift (BelowMemory f) (store abi m p s v) (store abi n (moved f p) s w)

@@ -1,5 +1,5 @@
 -- Device: laws of the bytes of the live objects of malloc.
-use Rattle.std.proofs.Common.{◌≡◌, ◌≢◌, ℕ, zero, suc, ◌+◌, ◌-◌, ◌<◌, ◌≤◌, ◌⊎◌, inl, inr, Bool, true, false, cond, ◌&&◌, List, length, replicate, Option, Some, None, unwrap_or, ℤ, pos, negsuc, refl, sym, ap, ◌∙◌, subst, arith, add-one}
+use Rattle.std.proofs.Common.{◌≡◌, ◌≢◌, ℕ, zero, suc, ◌+◌, ◌-◌, ◌<◌, ◌≤◌, ◌⊎◌, inl, inr, Bool, true, false, cond, ◌&&◌, List, length, replicate, Option, Some, None, Result, Ok, Err, unwrap_or, ℤ, pos, negsuc, refl, sym, ap, ◌∙◌, subst, arith, add-one}
 use Rattle.std.specs.Prelude.{nat_eq, nat_lt, nat_le, unsigned_abs}
 use Rattle.std.specs.Option.{option_map}
 use Rattle.std.specs.Ordering.{int_eq}
@@ -19,6 +19,8 @@ use Rattle.byte_mem.specs.Steps.{◌>>=◌, only_if}
 use Rattle.byte_mem.specs.Name.{same_name}
 use Rattle.byte_mem.specs.Object.{Held, inside, with_part, fill_part, write_at, new_held}
 use Rattle.byte_mem.specs.Memory.{Memory, no_memory, with_held, make, end_object, live_size, fill}
+use Rattle.byte_mem.specs.declared.stores.Store.{Store}
+use Rattle.byte_mem.specs.Store.{memory, Put}
 use Rattle.byte_mem.proofs.NameLemmas.{name_same}
 use Rattle.byte_mem.proofs.AgainLemmas.{changed_some, write_some, inside_room, length_with, held_here}
 use Rattle.host_calls.specs.declared.calls.HostResult.{HostResult}
@@ -74,6 +76,17 @@ size_other m i j o ne = by (nat_eq i j) refl
 
 size_here : (m : Memory) (i : ℕ) (o : Option Held) → live_size (with_held m (Heap i) o) (Heap i) ≡ option_map (λ h. length h.bytes) o
 size_here m i o = ap (option_map (λ h. length h.bytes)) (held_here m (Heap i) o)
+
+-- what is no object of malloc does not count
+pub counted_apart : (s : HostState) (n : ObjName) (o : Option Held) → ((i : ℕ) → same_name n (Heap i) ≡ false) → IsCounted s → IsCounted (record s { memory = with_held s.memory n o })
+counted_apart s n o apart h = record { live = h.live ∙ sym (total_same s.memory (with_held s.memory n o) s.heap (λ i l. same i)); fresh = λ i l. same i ∙ h.fresh i l }
+  where
+    same : (i : ℕ) → live_size (with_held s.memory n o) (Heap i) ≡ live_size s.memory (Heap i)
+    same i = ap (λ t. option_map (λ x. length x.bytes) (cond t o (s.memory (Heap i)))) (apart i)
+
+pub counted_put : {E : Type 0} (r : Result (Unit {0}) E) (old new : Store) (io : Io) (n : ObjName) (o : Option Held) → ((i : ℕ) → same_name n (Heap i) ≡ false) → Put r old new (with_held (memory old) n o) → IsCounted (state (memory old) io) → IsCounted (state (memory new) io)
+counted_put (Ok u) old new io n o apart p h = subst (λ (m : Memory). IsCounted (state m io)) (sym p.0) (counted_apart (state (memory old) io) n o apart h)
+counted_put (Err e) old new io n o apart p h = subst (λ (m : Memory). IsCounted (state m io)) (sym p.0) h
 
 size_made : (m : Memory) (i n : ℕ) → live_size (make m (Heap i) n Unknown false) (Heap i) ≡ Some n
 size_made m i n = size_here m i (Some (new_held n Unknown false)) ∙ ap Some (length-replicate n Unknown)

@@ -146,9 +146,9 @@ fn is_memset(long: Scalar, args: &[(Scalar, Value)]) -> bool
 /// memory and what the host keeps beside it.
 ///
 /// Undefined where the row of the function says so, where an argument is Unknown, a part of a pointer, or a
-/// pointer in an integer type, and where the kinds differ from the row's (own). NeedsInput exactly for
-/// `getchar` where nothing is ready; then nothing has changed. After Undefined and want of memory nothing has
-/// changed either.
+/// pointer in an integer type, and where the kinds differ from the row's (own). NeedsInput exactly for a call
+/// of `getchar` of the row's kinds where nothing is ready; then nothing has changed. After Undefined and want
+/// of memory nothing has changed either.
 pub fn host(
     alloc: Global,
     name: HostName,

@@ -1,5 +1,6 @@
-//! So many stores and loads of an int over 1,000 objects of 64 bytes, calls with four locals, or an object of
-//! 64 MiB, as its arguments tell, with a checksum on standard output: what the store of objects is timed by.
+//! So many stores and loads of an int over 1,000 objects of 64 bytes, calls with four locals, an object of
+//! 64 MiB, so many objects of 64 bytes or so many that are freed, as its arguments tell, with a checksum on
+//! standard output: what the store of objects is measured by.
 //!
 //! It promises that what it prints depends on its arguments alone.
 //!
@@ -122,10 +123,32 @@ fn block(alloc: Global) -> Result<u64, Memory> {
     Ok(store.live_size(ObjName::Heap(0)).map_or(0, u64::from))
 }
 
+/// So many objects of `malloc` of 64 bytes that live together.
+fn small(alloc: Global, count: u64) -> Result<u64, Memory> {
+    let mut store = Store::new(alloc);
+    for i in 0..count {
+        store.make(ObjName::Heap(i), 64, Byte::Unknown, false)?;
+    }
+    Ok(count)
+}
+
+/// So many objects of `malloc` that each end when the next one is made, and a last one that lives.
+fn freed(alloc: Global, count: u64) -> Result<u64, Memory> {
+    let mut store = Store::new(alloc);
+    store.make(ObjName::Heap(0), 1, Byte::Unknown, false)?;
+    for i in 0..count {
+        store.make(ObjName::Heap(i + 1), 1, Byte::Unknown, false)?;
+        store.end(ObjName::Heap(i));
+    }
+    Ok(count)
+}
+
 fn checksum(alloc: Global, mode: &str, count: u64) -> Result<u64, Memory> {
     match mode {
         "calls" => calls(alloc, count),
         "block" => block(alloc),
+        "small" => small(alloc, count),
+        "freed" => freed(alloc, count),
         "locals" => Ok(accesses(&mut locals(alloc)?, true, false, count)),
         "heap" => Ok(accesses(&mut heap(alloc)?, false, true, count)),
         _ => Ok(accesses(&mut globals(alloc)?, false, false, count)),
