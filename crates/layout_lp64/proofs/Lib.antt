@@ -3,3 +3,4 @@ pub mod AlignLaws
 pub mod TableLaws
 pub mod OffsetLaws
 pub mod UpdateLaws
+pub mod RenamingLaws

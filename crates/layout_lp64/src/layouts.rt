@@ -28,6 +28,11 @@ pub enum LayoutStop {
 }
 
 impl From<Memory> for LayoutStop {
+    ghost use Rattle.std.specs.Prelude.{◌≡◌};
+    ghost use Rattle.layout_lp64.specs.declared.layouts.LayoutStop.TheVariants as stop;
+
+    ghost from_gives = { λ _ e. e ≡ stop.Memory };
+
     fn from(_memory: Memory) -> Self {
         LayoutStop::Memory
     }

@@ -1,3 +1,5 @@
 pub mod Parameters
 pub mod Reflexive
 pub mod Composing
+pub mod PairLaws
+pub mod Idempotent

@@ -3,3 +3,4 @@ pub mod Kinds
 pub mod Compatible
 pub mod Composed
 pub mod Functions
+pub mod Pairs

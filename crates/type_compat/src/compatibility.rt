@@ -1,8 +1,10 @@
 ghost use Rattle.std.specs.Prelude.{◌≡◌, ◌<◌, length};
 ghost use Rattle.type_graph.specs.Shapes.{shape, shape_of, shapes_of, VoidType, IntType, PtrType, ArrayType, FuncType, AggType};
 ghost use Rattle.type_graph.specs.Arena.{EachType};
+ghost use Rattle.type_compat.specs.Pairs.{AllCompatible};
 ghost use Rattle.type_compat.specs.Compatible.{same_quals, same_bounds, is_enum, survives, plain_prototype, compatible_shape, compatible_shapes};
 
+use crate::pairs::Known;
 use cil_base::{AggId, IntKind, TypeId};
 use type_graph::{AggKind, Node, QualType, Quals, TypeGraph};
 
@@ -65,28 +67,76 @@ fn plain(g: &TypeGraph, params: &[TypeId], variadic: bool) -> bool
     true
 }
 
+/// A function's parameters, and whether they are a prototype's.
+#[derive(Clone, Copy)]
+struct Prototype<'a> {
+    params: &'a [TypeId],
+    proto: bool,
+    variadic: bool,
+}
+
 /// Whether two types of one graph are compatible (C11 6.2.7p1). An enum is compatible with int
 /// (6.7.2.2p4, own).
-#[cycle(compatible)]
+///
+/// No pair of types is compared twice while there is memory to note it.
 pub fn compatible(g: &TypeGraph, a: TypeId, b: TypeId) -> bool
     requires left { a.0 < length g.now.nodes }
     requires right { b.0 < length g.now.nodes }
     ensures { result ≡ compatible_shape g.now.aggs (shape g.now.nodes a.0) (shape g.now.nodes b.0) }
 {
+    let mut known = Known::new(g.alloc());
+    fits(g, &mut known, a, b)
+}
+
+/// Whether two types are compatible, among pairs that are known to be.
+#[cycle(fits)]
+fn fits(g: &TypeGraph, known: &mut Known, a: TypeId, b: TypeId) -> bool
+    requires left { a.0 < length g.now.nodes }
+    requires right { b.0 < length g.now.nodes }
+    requires pairs { AllCompatible g.now known.old }
+    ensures tells { result ≡ compatible_shape g.now.aggs (shape g.now.nodes a.0) (shape g.now.nodes b.0) }
+    ensures pairs { AllCompatible g.now known.new }
+{
     if a == b {
         return true;
     }
+    if known.has(a, b) {
+        return true;
+    }
+    if parts_fit(g, known, a, b) {
+        known.note(a, b);
+        return true;
+    }
+    false
+}
+
+/// Whether two types are compatible, by their parts.
+#[cycle(fits)]
+fn parts_fit(g: &TypeGraph, known: &mut Known, a: TypeId, b: TypeId) -> bool
+    requires left { a.0 < length g.now.nodes }
+    requires right { b.0 < length g.now.nodes }
+    requires pairs { AllCompatible g.now known.old }
+    ensures tells { result ≡ compatible_shape g.now.aggs (shape g.now.nodes a.0) (shape g.now.nodes b.0) }
+    ensures pairs { AllCompatible g.now known.new }
+{
     match g.node(a) {
         Node::Void => is_void(g, b),
         Node::Int(kind) => int_fits(g, *kind, b),
-        Node::Ptr(pointee) => pointer_fits(g, *pointee, b),
-        Node::Array(element, bound) => array_fits(g, *element, *bound, b),
+        Node::Ptr(pointee) => pointer_fits(g, known, *pointee, b),
+        Node::Array(element, bound) => array_fits(g, known, *element, *bound, b),
         Node::Func {
             ret,
             params,
             proto,
             variadic,
-        } => function_fits(g, *ret, params.as_slice(), *proto, *variadic, b),
+        } => {
+            let prototype = Prototype {
+                params: params.as_slice(),
+                proto: *proto,
+                variadic: *variadic,
+            };
+            function_fits(g, known, *ret, prototype, b)
+        }
         Node::Agg(a) => aggregate_fits(g, *a, b),
     }
 }
@@ -128,50 +178,61 @@ fn aggregate_fits(g: &TypeGraph, a: AggId, b: TypeId) -> bool
 }
 
 /// Whether a type is compatible with a pointer (C11 6.7.6.1p2).
-#[cycle(compatible)]
-fn pointer_fits(g: &TypeGraph, pointee: QualType, b: TypeId) -> bool
+#[cycle(fits)]
+fn pointer_fits(g: &TypeGraph, known: &mut Known, pointee: QualType, b: TypeId) -> bool
     requires left { pointee.of.0 < length g.now.nodes }
     requires right { b.0 < length g.now.nodes }
-    ensures { result ≡ compatible_shape g.now.aggs (PtrType pointee.quals (shape g.now.nodes pointee.of.0)) (shape g.now.nodes b.0) }
+    requires pairs { AllCompatible g.now known.old }
+    ensures tells { result ≡ compatible_shape g.now.aggs (PtrType pointee.quals (shape g.now.nodes pointee.of.0)) (shape g.now.nodes b.0) }
+    ensures pairs { AllCompatible g.now known.new }
 {
     match g.node(b) {
         Node::Ptr(other) => {
-            alike(pointee.quals, other.quals) && compatible(g, pointee.of, other.of)
+            alike(pointee.quals, other.quals) && fits(g, known, pointee.of, other.of)
         }
         _ => false,
     }
 }
 
 /// Whether a type is compatible with an array (C11 6.7.6.2p6).
-#[cycle(compatible)]
-fn array_fits(g: &TypeGraph, element: QualType, bound: Option<u64>, b: TypeId) -> bool
+#[cycle(fits)]
+fn array_fits(
+    g: &TypeGraph,
+    known: &mut Known,
+    element: QualType,
+    bound: Option<u64>,
+    b: TypeId,
+) -> bool
     requires left { element.of.0 < length g.now.nodes }
     requires right { b.0 < length g.now.nodes }
-    ensures { result ≡ compatible_shape g.now.aggs (ArrayType element.quals (shape g.now.nodes element.of.0) bound) (shape g.now.nodes b.0) }
+    requires pairs { AllCompatible g.now known.old }
+    ensures pairs { AllCompatible g.now known.new }
+    ensures tells { result ≡ compatible_shape g.now.aggs (ArrayType element.quals (shape g.now.nodes element.of.0) bound) (shape g.now.nodes b.0) }
 {
     match g.node(b) {
         Node::Array(other, other_bound) => {
             alike(element.quals, other.quals)
                 && bounds_agree(bound, *other_bound)
-                && compatible(g, element.of, other.of)
+                && fits(g, known, element.of, other.of)
         }
         _ => false,
     }
 }
 
 /// Whether a type is compatible with a function (C11 6.7.6.3p15).
-#[cycle(compatible)]
+#[cycle(fits)]
 fn function_fits(
     g: &TypeGraph,
+    known: &mut Known,
     ret: TypeId,
-    params: &[TypeId],
-    proto: bool,
-    variadic: bool,
+    prototype: Prototype,
     b: TypeId,
 ) -> bool
-    requires left { (ret.0 < length g.now.nodes) × EachType (length g.now.nodes) params.now }
+    requires left { (ret.0 < length g.now.nodes) × EachType (length g.now.nodes) prototype.params.now }
     requires right { b.0 < length g.now.nodes }
-    ensures { result ≡ compatible_shape g.now.aggs (FuncType (shape g.now.nodes ret.0) (shapes_of (shape g.now.nodes) params.now) proto variadic) (shape g.now.nodes b.0) }
+    requires pairs { AllCompatible g.now known.old }
+    ensures tells { result ≡ compatible_shape g.now.aggs (FuncType (shape g.now.nodes ret.0) (shapes_of (shape g.now.nodes) prototype.entry.params.now) prototype.entry.proto prototype.entry.variadic) (shape g.now.nodes b.0) }
+    ensures pairs { AllCompatible g.now known.new }
 {
     match g.node(b) {
         Node::Func {
@@ -180,36 +241,39 @@ fn function_fits(
             proto: other_proto,
             variadic: other_variadic,
         } => {
-            if !compatible(g, ret, *other) {
+            if !fits(g, known, ret, *other) {
                 return false;
             }
-            if !proto && !*other_proto {
+            if !prototype.proto && !*other_proto {
                 return true;
             }
-            if !proto {
+            if !prototype.proto {
                 return plain(g, others.as_slice(), *other_variadic);
             }
             if !*other_proto {
-                return plain(g, params, variadic);
+                return plain(g, prototype.params, prototype.variadic);
             }
-            variadic == *other_variadic && parameters_fit(g, params, others.as_slice())
+            prototype.variadic == *other_variadic
+                && parameters_fit(g, known, prototype.params, others.as_slice())
         }
         _ => false,
     }
 }
 
 /// Whether lists of parameters are compatible: as many, each with its counterpart (C11 6.7.6.3p15).
-#[cycle(compatible)]
-fn parameters_fit(g: &TypeGraph, params: &[TypeId], others: &[TypeId]) -> bool
+#[cycle(fits)]
+fn parameters_fit(g: &TypeGraph, known: &mut Known, params: &[TypeId], others: &[TypeId]) -> bool
     requires left { EachType (length g.now.nodes) params.now }
     requires right { EachType (length g.now.nodes) others.now }
-    ensures { result ≡ compatible_shapes g.now.aggs (shapes_of (shape g.now.nodes) params.now) (shapes_of (shape g.now.nodes) others.now) }
+    requires pairs { AllCompatible g.now known.old }
+    ensures tells { result ≡ compatible_shapes g.now.aggs (shapes_of (shape g.now.nodes) params.now) (shapes_of (shape g.now.nodes) others.now) }
+    ensures pairs { AllCompatible g.now known.new }
 {
     if params.len() != others.len() {
         return false;
     }
     for i in 0..params.len() {
-        if !compatible(g, params[i], others[i]) {
+        if !fits(g, known, params[i], others[i]) {
             return false;
         }
     }

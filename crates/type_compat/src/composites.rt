@@ -1,38 +1,91 @@
-ghost use Rattle.std.specs.Prelude.{◌≡◌, ◌<◌, ◌≤◌, ◌++◌, ℕ, true, false, length, IfOk, OnOk, OnErr, MatchOption, IfSome, Some, None};
+ghost use Rattle.std.specs.Prelude.{◌≡◌, ◌<◌, ◌≤◌, ◌++◌, ℕ, true, false, length, IfOk, OnOk, OnErr, Ok, MatchOption, IfSome, Some, None};
 ghost use Rattle.type_graph.specs.Shapes.{shape, shape_of, shapes_of, VoidType, IntType, PtrType, ArrayType, FuncType, AggType};
 ghost use Rattle.type_graph.specs.Arena.{EachType, IsArena};
-ghost use Rattle.type_graph.specs.Growth.{Grows};
+ghost use Rattle.type_graph.specs.Growth.{Grows, KeepsAggregates};
+ghost use Rattle.type_compat.specs.Pairs.{AllComposed};
 ghost use Rattle.type_compat.specs.Composed.{known_bound, composite_shape, composite_shapes, IsPointee, IsElement};
 ghost use Rattle.type_compat.specs.Functions.{is_function, IsFunction, PartsBelow, composite_with};
 
+use crate::pairs::Composites;
 use cil_base::{Memory, TypeId};
 use std::alloc::Global;
 use type_graph::{Node, QualType, TypeGraph, TypeList};
 
 /// The composite of two compatible types (C11 6.2.7p3). It is the first, the earlier declaration's, but
 /// an array of unknown bound takes the bound of the other, and a function without a prototype takes the
-/// prototype of the other.
+/// prototype of the other. No pair of types is composed twice.
 ///
 /// After Memory the graph has perhaps gained types.
-#[cycle(composite)]
 pub fn composite(alloc: Global, g: &mut TypeGraph, a: TypeId, b: TypeId) -> Result<TypeId, Memory>
     requires left { a.0 < length g.old.nodes }
     requires right { b.0 < length g.old.nodes }
     ensures is { IfOk result (λ t. shape g.new.nodes t.0 ≡ composite_shape (shape g.old.nodes a.0) (shape g.old.nodes b.0)) }
     ensures there { IfOk result (λ t. t.0 < length g.new.nodes) }
+    ensures same { a ≡ b → result ≡ Ok a }
     ensures grows { Grows g.old g.new }
+    ensures aggregates { KeepsAggregates g.old g.new }
+{
+    let mut answers = Composites::new(alloc);
+    composed(g, &mut answers, a, b)
+}
+
+/// The composite of two types, among composites that are known.
+#[cycle(composed)]
+fn composed(
+    g: &mut TypeGraph,
+    answers: &mut Composites,
+    a: TypeId,
+    b: TypeId,
+) -> Result<TypeId, Memory>
+    requires left { a.0 < length g.old.nodes }
+    requires right { b.0 < length g.old.nodes }
+    requires pairs { AllComposed g.old answers.old }
+    ensures is { IfOk result (λ t. shape g.new.nodes t.0 ≡ composite_shape (shape g.old.nodes a.0) (shape g.old.nodes b.0)) }
+    ensures there { IfOk result (λ t. t.0 < length g.new.nodes) }
+    ensures same { a ≡ b → result ≡ Ok a }
+    ensures grows { Grows g.old g.new }
+    ensures aggregates { KeepsAggregates g.old g.new }
+    ensures pairs { OnOk result (AllComposed g.new answers.new) }
+{
+    if a == b {
+        return Ok(a);
+    }
+    if let Some(t) = answers.get(a, b) {
+        return Ok(t);
+    }
+    let t = parts_composed(g, answers, a, b)?;
+    answers.note(a, b, t)?;
+    Ok(t)
+}
+
+/// The composite of two types, by their parts.
+#[cycle(composed)]
+fn parts_composed(
+    g: &mut TypeGraph,
+    answers: &mut Composites,
+    a: TypeId,
+    b: TypeId,
+) -> Result<TypeId, Memory>
+    requires left { a.0 < length g.old.nodes }
+    requires right { b.0 < length g.old.nodes }
+    requires pairs { AllComposed g.old answers.old }
+    ensures is { IfOk result (λ t. shape g.new.nodes t.0 ≡ composite_shape (shape g.old.nodes a.0) (shape g.old.nodes b.0)) }
+    ensures there { IfOk result (λ t. t.0 < length g.new.nodes) }
+    ensures grows { Grows g.old g.new }
+    ensures aggregates { KeepsAggregates g.old g.new }
+    ensures pairs { OnOk result (AllComposed g.new answers.new) }
 {
     match g.node(a) {
         Node::Ptr(pointee) => {
             let pointee = *pointee;
-            composite_pointer(alloc, g, a, pointee, b)
+            composite_pointer(g, answers, a, pointee, b)
         }
         Node::Array(element, bound) => {
             let element = *element;
             let bound = *bound;
-            composite_array(alloc, g, a, element, bound, b)
+            composite_array(g, answers, a, element, bound, b)
         }
-        Node::Func { .. } => composite_function(alloc, g, a, b),
+        Node::Func { .. } => composite_function(g, answers, a, b),
         Node::Void | Node::Int(_) | Node::Agg(_) => Ok(a),
     }
 }
@@ -62,10 +115,10 @@ fn element_of(g: &TypeGraph, b: TypeId) -> Option<(QualType, Option<u64>)>
 }
 
 /// The composite of a pointer and another type.
-#[cycle(composite)]
+#[cycle(composed)]
 fn composite_pointer(
-    alloc: Global,
     g: &mut TypeGraph,
+    answers: &mut Composites,
     a: TypeId,
     pointee: QualType,
     b: TypeId,
@@ -74,14 +127,17 @@ fn composite_pointer(
     requires there { a.0 < length g.old.nodes }
     requires right { b.0 < length g.old.nodes }
     requires node { shape g.old.nodes a.0 ≡ PtrType pointee.quals (shape g.old.nodes pointee.of.0) }
+    requires pairs { AllComposed g.old answers.old }
     ensures is { IfOk result (λ t. shape g.new.nodes t.0 ≡ composite_shape (shape g.old.nodes a.0) (shape g.old.nodes b.0)) }
     ensures there { IfOk result (λ t. t.0 < length g.new.nodes) }
     ensures grows { Grows g.old g.new }
+    ensures aggregates { KeepsAggregates g.old g.new }
+    ensures pairs { OnOk result (AllComposed g.new answers.new) }
 {
     match pointee_of(g, b) {
         None => Ok(a),
         Some(other) => {
-            let of = composite(alloc, g, pointee.of, other.of)?;
+            let of = composed(g, answers, pointee.of, other.of)?;
             g.add_node(Node::Ptr(QualType {
                 quals: pointee.quals,
                 of,
@@ -91,10 +147,10 @@ fn composite_pointer(
 }
 
 /// The composite of an array and another type.
-#[cycle(composite)]
+#[cycle(composed)]
 fn composite_array(
-    alloc: Global,
     g: &mut TypeGraph,
+    answers: &mut Composites,
     a: TypeId,
     element: QualType,
     bound: Option<u64>,
@@ -104,14 +160,17 @@ fn composite_array(
     requires there { a.0 < length g.old.nodes }
     requires right { b.0 < length g.old.nodes }
     requires node { shape g.old.nodes a.0 ≡ ArrayType element.quals (shape g.old.nodes element.of.0) bound }
+    requires pairs { AllComposed g.old answers.old }
     ensures is { IfOk result (λ t. shape g.new.nodes t.0 ≡ composite_shape (shape g.old.nodes a.0) (shape g.old.nodes b.0)) }
     ensures there { IfOk result (λ t. t.0 < length g.new.nodes) }
     ensures grows { Grows g.old g.new }
+    ensures aggregates { KeepsAggregates g.old g.new }
+    ensures pairs { OnOk result (AllComposed g.new answers.new) }
 {
     match element_of(g, b) {
         None => Ok(a),
         Some((other, other_bound)) => {
-            let of = composite(alloc, g, element.of, other.of)?;
+            let of = composed(g, answers, element.of, other.of)?;
             let quals = element.quals;
             g.add_node(Node::Array(QualType { quals, of }, known(bound, other_bound)))
         }
@@ -174,6 +233,7 @@ fn add_function(
     ensures is { IfOk result (λ t. shape g.new.nodes t.0 ≡ FuncType (shape g.old.nodes ret.0) (shapes_of (shape g.old.nodes) params.items) proto variadic) }
     ensures there { IfOk result (λ t. t.0 < length g.new.nodes) }
     ensures grows { Grows g.old g.new }
+    ensures aggregates { KeepsAggregates g.old g.new }
 {
     g.add_node(Node::Func {
         ret,
@@ -184,76 +244,85 @@ fn add_function(
 }
 
 /// The composite of a function and another type (C11 6.2.7p3).
-#[cycle(composite)]
+#[cycle(composed)]
 fn composite_function(
-    alloc: Global,
     g: &mut TypeGraph,
+    answers: &mut Composites,
     a: TypeId,
     b: TypeId,
 ) -> Result<TypeId, Memory>
     requires node { is_function (shape g.old.nodes a.0) ≡ true }
     requires left { a.0 < length g.old.nodes }
     requires right { b.0 < length g.old.nodes }
+    requires pairs { AllComposed g.old answers.old }
     ensures is { IfOk result (λ t. shape g.new.nodes t.0 ≡ composite_shape (shape g.old.nodes a.0) (shape g.old.nodes b.0)) }
     ensures there { IfOk result (λ t. t.0 < length g.new.nodes) }
     ensures grows { Grows g.old g.new }
+    ensures aggregates { KeepsAggregates g.old g.new }
+    ensures pairs { OnOk result (AllComposed g.new answers.new) }
 {
-    let Some(first) = function_of(alloc, g, a)? else {
+    let Some(first) = function_of(g.alloc(), g, a)? else {
         return Ok(a);
     };
-    let Some(second) = function_of(alloc, g, b)? else {
+    let Some(second) = function_of(g.alloc(), g, b)? else {
         return Ok(a);
     };
-    let ret = composite(alloc, g, first.ret, second.ret)?;
+    let ret = composed(g, answers, first.ret, second.ret)?;
     if !second.proto {
         return add_function(g, ret, first.params, first.proto, first.variadic);
     }
     if !first.proto {
         return add_function(g, ret, second.params, true, second.variadic);
     }
-    let params = composites(alloc, g, &first.params, &second.params)?;
+    let params = composites(g, answers, &first.params, &second.params)?;
     add_function(g, ret, params, true, first.variadic)
 }
 
 /// The composites of parameters, each with its counterpart where there is one.
-#[cycle(composite)]
+#[cycle(composed)]
 fn composites(
-    alloc: Global,
     g: &mut TypeGraph,
+    answers: &mut Composites,
     params: &[TypeId],
     others: &[TypeId],
 ) -> Result<Vec<TypeId>, Memory>
     requires left { EachType (length g.old.nodes) params.now }
     requires right { EachType (length g.old.nodes) others.now }
+    requires pairs { AllComposed g.old answers.old }
     ensures is { IfOk result (λ v. shapes_of (shape g.new.nodes) v.items ≡ composite_shapes (shapes_of (shape g.old.nodes) params.now) (shapes_of (shape g.old.nodes) others.now)) }
     ensures there { IfOk result (λ v. EachType (length g.new.nodes) v.items) }
     ensures grows { Grows g.old g.new }
+    ensures aggregates { KeepsAggregates g.old g.new }
+    ensures pairs { OnOk result (AllComposed g.new answers.new) }
 {
-    let mut done = Vec::new(alloc);
+    let mut done = Vec::new(g.alloc());
     for i in 0..params.len() {
-        let t = composite_at(alloc, g, params[i], others, i)?;
+        let t = composite_at(g, answers, params[i], others, i)?;
         done.push(t)?;
     }
     Ok(done)
 }
 
 /// The composite of a parameter with the one at its place, if there is one.
-#[cycle(composite)]
+#[cycle(composed)]
 fn composite_at(
-    alloc: Global,
     g: &mut TypeGraph,
+    answers: &mut Composites,
     param: TypeId,
     others: &[TypeId],
     i: usize,
 ) -> Result<TypeId, Memory>
     requires left { param.0 < length g.old.nodes }
     requires right { EachType (length g.old.nodes) others.now }
+    requires pairs { AllComposed g.old answers.old }
     ensures is { IfOk result (λ t. shape g.new.nodes t.0 ≡ composite_with (shape g.old.nodes) (shape g.old.nodes param.0) others.now i) }
     ensures there { IfOk result (λ t. t.0 < length g.new.nodes) }
     ensures grows { Grows g.old g.new }
+    ensures aggregates { KeepsAggregates g.old g.new }
+    ensures pairs { OnOk result (AllComposed g.new answers.new) }
 {
     if i < others.len() {
-        composite(alloc, g, param, others[i])
+        composed(g, answers, param, others[i])
     } else {
         Ok(param)
     }

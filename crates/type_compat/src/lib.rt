@@ -8,6 +8,7 @@
 
 mod compatibility;
 mod composites;
+mod pairs;
 
 pub use compatibility::compatible;
 pub use composites::composite;

@@ -29,11 +29,6 @@ EachBelow-nodes ns more order r [] h = tt
 EachBelow-nodes ns more order r (m ∷ ms) (within, below, rest) =
     (omega (arith, length-append ns more), subst (HeldBelow order r) (sym (shape_append ns more m.ty.of.0 within)) below, EachBelow-nodes ns more order r ms rest)
 
-EachFits-nodes : (aggs : List Aggregate) (ns more : List Node) (order : List AggId) (r : ℕ) (ms : List Member) → EachBelow ns order r ms → EachFits aggs ns ms → EachFits aggs (ns ++ more) ms
-EachFits-nodes aggs ns more order r [] b h = tt
-EachFits-nodes aggs ns more order r (m ∷ ms) (within, below, others) (fit, rest) =
-    (subst (λ (s : Shape). has_room aggs s ≡ true) (sym (shape_append ns more m.ty.of.0 within)) fit, EachFits-nodes aggs ns more order r ms others rest)
-
 -- complete types stay complete when aggregates get members
 pub complete_stays : (xs ys : List Aggregate) (s : Shape) → ((a : ℕ) → is_some (members_of xs a) ≡ true → is_some (members_of ys a) ≡ true) → complete_shape xs s ≡ true → complete_shape ys s ≡ true
 complete_stays xs ys VoidType k h = cc
@@ -44,34 +39,51 @@ complete_stays xs ys (ArrayType quals s (Some n)) k h = complete_stays xs ys s k
 complete_stays xs ys (FuncType ret params proto variadic) k h = cc
 complete_stays xs ys (AggType a) k h = k a h
 
-room_stays : (xs ys : List Aggregate) (s : Shape) → ((a : ℕ) → is_some (members_of xs a) ≡ true → is_some (members_of ys a) ≡ true) → has_room xs s ≡ true → has_room ys s ≡ true
-room_stays xs ys VoidType k h = cc
-room_stays xs ys (IntType kind) k h = refl
-room_stays xs ys (PtrType quals s) k h = refl
-room_stays xs ys (ArrayType quals s None) k h = complete_stays xs ys s k h
-room_stays xs ys (ArrayType quals s (Some n)) k h = plain (complete_shape ys s) (complete_stays xs ys s k (plain_back (complete_shape xs s) h))
+flexible_stays : (xs ys : List Aggregate) (s : Shape) → ((a : ℕ) → is_some (members_of xs a) ≡ true → is_some (members_of ys a) ≡ true) → flexible_shape xs s ≡ true → flexible_shape ys s ≡ true
+flexible_stays xs ys VoidType k h = cc
+flexible_stays xs ys (IntType kind) k h = cc
+flexible_stays xs ys (PtrType quals s) k h = cc
+flexible_stays xs ys (ArrayType quals s None) k h = complete_stays xs ys s k h
+flexible_stays xs ys (ArrayType quals s (Some n)) k h = cc
+flexible_stays xs ys (FuncType ret params proto variadic) k h = cc
+flexible_stays xs ys (AggType a) k h = cc
+
+fits_one : (p q r : Bool) → ((p || q) && r) ≡ true → ((p ≡ true) ⊎ (q ≡ true)) × (r ≡ true)
+fits_one true q true h = (inl refl, refl)
+fits_one true q false h = cc
+fits_one false true true h = (inr refl, refl)
+fits_one false true false h = cc
+fits_one false false r h = cc
+
+fits_both : (p q r : Bool) → (p ≡ true) ⊎ (q ≡ true) → r ≡ true → ((p || q) && r) ≡ true
+fits_both p q r (inl h) e = ap (λ b. (b || q) && r) h ∙ e
+fits_both true q r (inr h) e = e
+fits_both false q r (inr h) e = ap (λ b. b && r) h ∙ e
+
+flexible_kept : (p q r s t : Bool) → (s ≡ true → t ≡ true) → (p && (q && (r && s))) ≡ true → (p && (q && (r && t))) ≡ true
+flexible_kept true true true s t k h = k h
+flexible_kept true true false s t k h = cc
+flexible_kept true false r s t k h = cc
+flexible_kept false q r s t k h = cc
+
+-- members that fit still fit where types that were complete, or flexible, are
+pub fit_stays : (g h : Graph) (kind : AggKind) (behind : Bool) (ms : List Member) → ((t : ℕ) → complete g t ≡ true → complete h t ≡ true) → ((t : ℕ) → flexible_shape g.aggs (shape g.nodes t) ≡ true → flexible_shape h.aggs (shape h.nodes t) ≡ true) → members_fit g kind behind ms ≡ true → members_fit h kind behind ms ≡ true
+fit_stays g h kind behind [] k f e = refl
+fit_stays g h kind behind (m ∷ ms) k f e =
+    let parts = fits_one (complete g m.ty.of.0) (is_struct kind && (behind && (is_last ms && flexible_shape g.aggs (shape g.nodes m.ty.of.0)))) (members_fit g kind true ms) e in
+    fits_both (complete h m.ty.of.0) (is_struct kind && (behind && (is_last ms && flexible_shape h.aggs (shape h.nodes m.ty.of.0)))) (members_fit h kind true ms) (one parts.0) (fit_stays g h kind true ms k f parts.1)
   where
-    plain : (b : Bool) → b ≡ true → (b || false) ≡ true
-    plain true e = refl
-    plain false e = cc
+    one : (complete g m.ty.of.0 ≡ true) ⊎ ((is_struct kind && (behind && (is_last ms && flexible_shape g.aggs (shape g.nodes m.ty.of.0)))) ≡ true) → (complete h m.ty.of.0 ≡ true) ⊎ ((is_struct kind && (behind && (is_last ms && flexible_shape h.aggs (shape h.nodes m.ty.of.0)))) ≡ true)
+    one (inl p) = inl (k m.ty.of.0 p)
+    one (inr p) = inr (flexible_kept (is_struct kind) behind (is_last ms) (flexible_shape g.aggs (shape g.nodes m.ty.of.0)) (flexible_shape h.aggs (shape h.nodes m.ty.of.0)) (f m.ty.of.0) p)
 
-    plain_back : (b : Bool) → (b || false) ≡ true → b ≡ true
-    plain_back true e = refl
-    plain_back false e = cc
-room_stays xs ys (FuncType ret params proto variadic) k h = cc
-room_stays xs ys (AggType a) k h = plain (is_some (members_of ys a)) (k a (plain_back (is_some (members_of xs a)) h))
-  where
-    plain : (b : Bool) → b ≡ true → (b || false) ≡ true
-    plain true e = refl
-    plain false e = cc
-
-    plain_back : (b : Bool) → (b || false) ≡ true → b ≡ true
-    plain_back true e = refl
-    plain_back false e = cc
-
-pub EachFits-stays : (xs ys : List Aggregate) (ns : List Node) (ms : List Member) → ((a : ℕ) → is_some (members_of xs a) ≡ true → is_some (members_of ys a) ≡ true) → EachFits xs ns ms → EachFits ys ns ms
-EachFits-stays xs ys ns [] k h = tt
-EachFits-stays xs ys ns (m ∷ ms) k (fit, rest) = (room_stays xs ys (shape ns m.ty.of.0) k fit, EachFits-stays xs ys ns ms k rest)
+-- members that fit still fit when aggregates are added or get members
+pub fit_defined : (g : Graph) (ys : List Aggregate) (kind : AggKind) (ms : List Member) → ((a : ℕ) → is_some (members_of g.aggs a) ≡ true → is_some (members_of ys a) ≡ true) → (h : Graph) → h.aggs ≡ ys → h.nodes ≡ g.nodes → members_fit g kind false ms ≡ true → members_fit h kind false ms ≡ true
+fit_defined g ys kind ms k h e q fit =
+    fit_stays g h kind false ms
+    (λ t c. ap (λ (xs : List Aggregate). complete_shape xs (shape h.nodes t)) e ∙ ap (λ (ns : List Node). complete_shape ys (shape ns t)) q ∙ complete_stays g.aggs ys (shape g.nodes t) k c)
+    (λ t c. ap (λ (xs : List Aggregate). flexible_shape xs (shape h.nodes t)) e ∙ ap (λ (ns : List Node). flexible_shape ys (shape ns t)) q ∙ flexible_stays g.aggs ys (shape g.nodes t) k c)
+    fit
 
 count_undefined : (xs : List Aggregate) (x : Aggregate) → x.members ≡ None → defined_count (xs ++ x ∷ []) ≡ defined_count xs
 count_undefined [] x e = ap (λ (o : Option (List Member)). elim o [ None ↦ 0 | Some ms ↦ suc 0 ]) e
@@ -97,6 +109,19 @@ count_within (x ∷ xs) = by x.members (count_within xs)
     by None h = omega arith
     by (Some ms) h = omega arith
 
+-- a type that fits as a member is there
+complete_within : (g : Graph) (t : ℕ) → complete g t ≡ true → t < length g.nodes
+complete_within g t h = elim (cases t (length g.nodes)) [ inl l ↦ l | inr l ↦ absurd (true≢false (sym h ∙ ap (complete_shape g.aggs) (shape_past g.nodes t l))) ]
+  where
+    cases : (m n : ℕ) → (m < n) ⊎ (n ≤ m)
+    cases m n = grind arith
+
+flexible_within : (g : Graph) (t : ℕ) → flexible_shape g.aggs (shape g.nodes t) ≡ true → t < length g.nodes
+flexible_within g t h = elim (cases t (length g.nodes)) [ inl l ↦ l | inr l ↦ absurd (true≢false (sym h ∙ ap (flexible_shape g.aggs) (shape_past g.nodes t l))) ]
+  where
+    cases : (m n : ℕ) → (m < n) ⊎ (n ≤ m)
+    cases m n = grind arith
+
 pub IsArena-empty : (g : Graph) → g.nodes ≡ [] → g.aggs ≡ [] → g.completed ≡ [] → IsArena g
 IsArena-empty g ns xs order = record {
   few_nodes = omega (arith, ap length ns);
@@ -105,13 +130,16 @@ IsArena-empty g ns xs order = record {
   kinds = λ t n e. absurd (no_node t n e);
   once = λ s t n p q. absurd (no_node s n p);
   nested = λ a ms e. absurd (no_members a ms e);
-  fitting = λ a ms e. absurd (no_members a ms e);
+  fitting = λ a x ms e q. absurd (no_agg a x e);
   counted = ap length order ∙ ap defined_count (sym xs);
   ordered = λ i a e. absurd (no_order i a e);
 }
   where
     no_node : (t : ℕ) (n : Node) → slice_get g.nodes t ≡ Some n → ⊥
     no_node t n e = let l : t < length g.nodes = slice_get_within g.nodes t n e in omega (arith, ap length ns)
+
+    no_agg : (a : ℕ) (x : Aggregate) → slice_get g.aggs a ≡ Some x → ⊥
+    no_agg a x e = let l : a < length g.aggs = slice_get_within g.aggs a x e in omega (arith, ap length xs)
 
     no_order : (i : ℕ) (a : AggId) → slice_get g.completed i ≡ Some a → ⊥
     no_order i a e = let l : i < length g.completed = slice_get_within g.completed i a e in omega (arith, ap length order)
@@ -127,11 +155,17 @@ IsArena-node g n w names kind absent room = record {
   kinds = λ t x e. kinds t x (get_push g.nodes n t x e);
   once = λ s t x p q. once s t x (get_push g.nodes n s x p) (get_push g.nodes n t x q);
   nested = λ a ms e. ((w.nested a ms e).0, EachBelow-nodes g.nodes (n ∷ []) g.completed (rank g.completed a) ms (w.nested a ms e).1);
-  fitting = λ a ms e. EachFits-nodes g.aggs g.nodes (n ∷ []) g.completed (rank g.completed a) ms (w.nested a ms e).1 (w.fitting a ms e);
+  fitting = λ a x ms e q. fit_stays g (record g { nodes = g.nodes ++ n ∷ [] }) x.kind false ms still_complete still_flexible (w.fitting a x ms e q);
   counted = w.counted;
   ordered = w.ordered;
 }
   where
+    still_complete : (t : ℕ) → complete g t ≡ true → complete_shape g.aggs (shape (g.nodes ++ n ∷ []) t) ≡ true
+    still_complete t c = ap (complete_shape g.aggs) (shape_append g.nodes (n ∷ []) t (complete_within g t c)) ∙ c
+
+    still_flexible : (t : ℕ) → flexible_shape g.aggs (shape g.nodes t) ≡ true → flexible_shape g.aggs (shape (g.nodes ++ n ∷ []) t) ≡ true
+    still_flexible t c = ap (flexible_shape g.aggs) (shape_append g.nodes (n ∷ []) t (flexible_within g t c)) ∙ c
+
     grounded : (t : ℕ) (x : Node) → (slice_get g.nodes t ≡ Some x) ⊎ ((t ≡ length g.nodes) × (n ≡ x)) → NamesBelow t (length g.aggs) x
     grounded t x (inl h) = w.grounded t x h
     grounded t x (inr (place, same)) = subst (λ k. NamesBelow k (length g.aggs) x) (sym place) (subst (NamesBelow (length g.nodes) (length g.aggs)) same names)
@@ -174,7 +208,7 @@ IsArena-agg g x w none room = record {
   kinds = w.kinds;
   once = w.once;
   nested = λ a ms e. w.nested a ms (members_before g.aggs x a ms none e);
-  fitting = λ a ms e. EachFits-stays g.aggs (g.aggs ++ x ∷ []) g.nodes ms defined (w.fitting a ms (members_before g.aggs x a ms none e));
+  fitting = λ a y ms e q. fitting a y ms (get_push g.aggs x a y e) q;
   counted = w.counted ∙ sym (count_undefined g.aggs x none);
   ordered = λ i a e. (defined a.0 (w.ordered i a e).0, (w.ordered i a e).1);
 }
@@ -183,6 +217,10 @@ IsArena-agg g x w none room = record {
     defined a d =
         let there = some_there (members_of g.aggs a) d in
         is_some_from (members_of (g.aggs ++ x ∷ []) a) there.0 (members_stay g.aggs (x ∷ []) a there.0 there.1)
+
+    fitting : (a : ℕ) (y : Aggregate) (ms : List Member) → (slice_get g.aggs a ≡ Some y) ⊎ ((a ≡ length g.aggs) × (x ≡ y)) → y.members ≡ Some ms → members_fit (with_agg g x) y.kind false ms ≡ true
+    fitting a y ms (inl e) q = fit_defined g (g.aggs ++ x ∷ []) y.kind ms defined (with_agg g x) refl refl (w.fitting a y ms e q)
+    fitting a y ms (inr e) q = let some : None ≡ Some ms = sym none ∙ ap (λ (z : Aggregate). z.members) e.1 ∙ q in cc
 
 pub rank_within : (order : List AggId) (b : ℕ) → rank order b ≤ length order
 rank_within [] b = omega arith
@@ -228,31 +266,11 @@ held_flexible aggs (ArrayType quals s (Some n)) b h e = cc
 held_flexible aggs (FuncType ret params proto variadic) b h e = cc
 held_flexible aggs (AggType a) b h e = cc
 
-fits_one : (p q r : Bool) → ((p || q) && r) ≡ true → ((p ≡ true) ⊎ (q ≡ true)) × (r ≡ true)
-fits_one true q true h = (inl refl, refl)
-fits_one true q false h = cc
-fits_one false true true h = (inr refl, refl)
-fits_one false true false h = cc
-fits_one false false r h = cc
-
 flexible_last : (p q r s : Bool) → (p && (q && (r && s))) ≡ true → s ≡ true
 flexible_last true true true s h = h
 flexible_last true true false s h = cc
 flexible_last true false r s h = cc
 flexible_last false q r s h = cc
-
--- a type that fits as a member is there
-complete_within : (g : Graph) (t : ℕ) → complete g t ≡ true → t < length g.nodes
-complete_within g t h = elim (cases t (length g.nodes)) [ inl l ↦ l | inr l ↦ absurd (true≢false (sym h ∙ ap (complete_shape g.aggs) (shape_past g.nodes t l))) ]
-  where
-    cases : (m n : ℕ) → (m < n) ⊎ (n ≤ m)
-    cases m n = grind arith
-
-flexible_within : (g : Graph) (t : ℕ) → flexible_shape g.aggs (shape g.nodes t) ≡ true → t < length g.nodes
-flexible_within g t h = elim (cases t (length g.nodes)) [ inl l ↦ l | inr l ↦ absurd (true≢false (sym h ∙ ap (flexible_shape g.aggs) (shape_past g.nodes t l))) ]
-  where
-    cases : (m n : ℕ) → (m < n) ⊎ (n ≤ m)
-    cases m n = grind arith
 
 HeldBelow-from : (order : List AggId) (r : ℕ) (s : Shape) → ((b : ℕ) → held s ≡ Some b → rank order b < r) → HeldBelow order r s
 HeldBelow-from order r s h = by (held s) h
@@ -322,7 +340,7 @@ IsArena-complete g a x ms w at none fit = record {
   kinds = w.kinds;
   once = w.once;
   nested = λ b bs e. nested b bs (eqb_tells b a.0) e;
-  fitting = λ b bs e. fitting b bs (eqb_tells b a.0) e;
+  fitting = λ b y bs e q. fitting b y bs (eqb_tells b a.0) e q;
   counted = length-append g.completed (a ∷ []) ∙ add-one (length g.completed) ∙ ap suc w.counted ∙ sym (count_defined g.aggs a.0 x (record x { members = Some ms }) ms at (sym (members_at g.aggs a.0 x at) ∙ none) refl);
   ordered = λ i b e. ordered i b (get_push g.completed a i b e);
 }
@@ -363,11 +381,14 @@ IsArena-complete g a x ms w at none fit = record {
         one (inl h) = ap (λ k. is_some (members_of (set g.aggs a.0 (record x { members = Some ms })) k)) h.1 ∙ ap is_some now
         one (inr h) = ap is_some (others b h.1) ∙ d
 
-    fitting : (b : ℕ) (bs : List Member) → ((nat_eq b a.0 ≡ true) × (b ≡ a.0)) ⊎ ((nat_eq b a.0 ≡ false) × (b ≢ a.0)) → members_of (set g.aggs a.0 (record x { members = Some ms })) b ≡ Some bs → EachFits (set g.aggs a.0 (record x { members = Some ms })) g.nodes bs
-    fitting b bs (inl h) e =
-        let same : ms ≡ bs = let p : Some ms ≡ Some bs = sym now ∙ ap (members_of (set g.aggs a.0 (record x { members = Some ms }))) (sym h.1) ∙ e in cc in
-        EachFits-stays g.aggs (set g.aggs a.0 (record x { members = Some ms })) g.nodes bs stays (subst (EachFits g.aggs g.nodes) same (EachFits-fit g x.kind false ms fit))
-    fitting b bs (inr h) e = EachFits-stays g.aggs (set g.aggs a.0 (record x { members = Some ms })) g.nodes bs stays (w.fitting b bs (sym (others b h.1) ∙ e))
+    fitting : (b : ℕ) (z : Aggregate) (bs : List Member) → ((nat_eq b a.0 ≡ true) × (b ≡ a.0)) ⊎ ((nat_eq b a.0 ≡ false) × (b ≢ a.0)) → slice_get (set g.aggs a.0 (record x { members = Some ms })) b ≡ Some z → z.members ≡ Some bs → members_fit (with_members g a x ms) z.kind false bs ≡ true
+    fitting b z bs (inl h) e q =
+        let same : record x { members = Some ms } ≡ z = let p : Some (record x { members = Some ms }) ≡ Some z = sym (get_set_same g.aggs a.0 x (record x { members = Some ms }) at) ∙ ap (slice_get (set g.aggs a.0 (record x { members = Some ms }))) (sym h.1) ∙ e in cc in
+        let members : ms ≡ bs = let p : Some ms ≡ Some bs = ap (λ (v : Aggregate). v.members) same ∙ q in cc in
+        subst (λ (v : Aggregate). members_fit (with_members g a x ms) v.kind false bs ≡ true) same
+        (subst (λ (l : List Member). members_fit (with_members g a x ms) x.kind false l ≡ true) members
+        (fit_defined g (set g.aggs a.0 (record x { members = Some ms })) x.kind ms stays (with_members g a x ms) refl refl fit))
+    fitting b z bs (inr h) e q = fit_defined g (set g.aggs a.0 (record x { members = Some ms })) z.kind bs stays (with_members g a x ms) refl refl (w.fitting b z bs (sym (get_set_other g.aggs a.0 b (record x { members = Some ms }) h.1) ∙ e) q)
 
     ordered : (i : ℕ) (b : AggId) → (slice_get g.completed i ≡ Some b) ⊎ ((i ≡ length g.completed) × (a ≡ b)) → (is_some (members_of (set g.aggs a.0 (record x { members = Some ms })) b.0) ≡ true) × (rank (g.completed ++ a ∷ []) b.0 ≡ i)
     ordered i b (inl e) =
@@ -376,3 +397,16 @@ IsArena-complete g a x ms w at none fit = record {
         (ap is_some (others b.0 (unlisted i b e)) ∙ old.0, rank_stays g.completed (a ∷ []) b.0 (subst (λ k. k < length g.completed) (sym old.1) within) ∙ old.1)
     ordered i b (inr (place, same)) =
         (ap (λ (c : AggId). is_some (members_of (set g.aggs a.0 (record x { members = Some ms })) c.0)) (sym same) ∙ ap is_some now, ap (λ (c : AggId). rank (g.completed ++ a ∷ []) c.0) (sym same) ∙ last ∙ sym place)
+
+pub agg_there : (aggs : List Aggregate) (a : ℕ) (ms : List Member) → members_of aggs a ≡ Some ms → (x : Aggregate) × (slice_get aggs a ≡ Some x) × (x.members ≡ Some ms)
+agg_there aggs a ms e = by (slice_get aggs a) e
+  where
+    by : (o : Option Aggregate) → option_and_then (λ (x : Aggregate). x.members) o ≡ Some ms → (x : Aggregate) × (o ≡ Some x) × (x.members ≡ Some ms)
+    by None q = cc
+    by (Some x) q = (x, refl, q)
+
+-- each member of an arena's aggregate has room
+pub each_has_room : (g : Graph) → IsArena g → (a : ℕ) (ms : List Member) → members_of g.aggs a ≡ Some ms → EachFits g.aggs g.nodes ms
+each_has_room g w a ms e =
+    let x = agg_there g.aggs a ms e in
+    EachFits-fit g x.0.kind false ms (w.fitting a x.0 ms x.1 x.2)

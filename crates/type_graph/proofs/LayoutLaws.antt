@@ -13,11 +13,11 @@ use Rattle.type_graph.specs.Shapes.{Shape, VoidType, IntType, PtrType, ArrayType
 use Rattle.type_graph.specs.Arena.{Graph, IsArena, members_of, complete, complete_shape, has_room, held, rank, EachBelow, EachFits}
 use Rattle.type_graph.specs.Growth.{Grows}
 use Rattle.type_graph.specs.Layouts.{AggLayout, Placed, layout_in, member_in, placed_behind, placed_over, placed_all, nothing_placed, finished, members_layout, aggregate_in, whole_of, agg_at, agg_layout, layout, array_of, without_elements}
-use Rattle.type_graph.proofs.ArenaLaws.{some_there, is_some_from, HeldBelow-at, count_within, rank_within}
+use Rattle.type_graph.proofs.ArenaLaws.{some_there, is_some_from, each_has_room, HeldBelow-at, count_within, rank_within}
 use Rattle.type_graph.proofs.ShapeLaws.{kept}
 
 -- what is there stays
-abbrev Keeps : {T : Type 0} → Option T → Option T → Type 0
+abbrev pub Keeps : {T : Type 0} → Option T → Option T → Type 0
 Keeps {T} o u = (x : T) → o ≡ Some x → u ≡ Some x
 
 keeps_map : {S T : Type 0} (f : S → T) (o u : Option S) → Keeps o u → Keeps (option_map f o) (option_map f u)
@@ -28,13 +28,13 @@ keeps_then : {S T : Type 0} (f g : S → Option T) (o u : Option S) → Keeps o 
 keeps_then f g None u k h x e = cc
 keeps_then f g (Some s) u k h x e = ap (option_and_then g) (k s refl) ∙ h s x e
 
-both_keep : {T : Type 0} (o u : Option T) → Keeps o u → Keeps u o → o ≡ u
+pub both_keep : {T : Type 0} (o u : Option T) → Keeps o u → Keeps u o → o ≡ u
 both_keep None None p q = refl
 both_keep None (Some x) p q = q x refl
 both_keep (Some x) u p q = sym (p x refl)
 
 -- a layout depends on the aggregates within the type
-layout_in-keeps : (abi : Abi) (f g : ℕ → Option Layout) (s : Shape) → ((b : ℕ) → held s ≡ Some b → Keeps (f b) (g b)) → Keeps (layout_in abi f s) (layout_in abi g s)
+pub layout_in-keeps : (abi : Abi) (f g : ℕ → Option Layout) (s : Shape) → ((b : ℕ) → held s ≡ Some b → Keeps (f b) (g b)) → Keeps (layout_in abi f s) (layout_in abi g s)
 layout_in-keeps abi f g VoidType k x e = cc
 layout_in-keeps abi f g (IntType kind) k x e = e
 layout_in-keeps abi f g (PtrType quals s) k x e = e
@@ -72,7 +72,7 @@ each_keeps abi ns order r f g (m ∷ ms) (within, below, rest) k =
     (member_in-keeps abi f g (shape ns m.ty.of.0) (λ b e. k b (HeldBelow-at order r (shape ns m.ty.of.0) b below e)), each_keeps abi ns order r f g ms rest k)
 
 -- the layout of an aggregate whose members are known
-at_members : (g : Graph) (f : ℕ → Option Layout) (a : ℕ) (x : Aggregate) (ms : List Member) → slice_get g.aggs a ≡ Some x → x.members ≡ Some ms → option_and_then (aggregate_in g.abi g.nodes f) (slice_get g.aggs a) ≡ members_layout x.kind (λ (m : Member). member_in g.abi f (shape g.nodes m.ty.of.0)) ms
+pub at_members : (g : Graph) (f : ℕ → Option Layout) (a : ℕ) (x : Aggregate) (ms : List Member) → slice_get g.aggs a ≡ Some x → x.members ≡ Some ms → option_and_then (aggregate_in g.abi g.nodes f) (slice_get g.aggs a) ≡ members_layout x.kind (λ (m : Member). member_in g.abi f (shape g.nodes m.ty.of.0)) ms
 at_members g f a x ms at some = ap (option_and_then (aggregate_in g.abi g.nodes f)) at ∙ ap (option_and_then (members_layout x.kind (λ (m : Member). member_in g.abi f (shape g.nodes m.ty.of.0)))) some
 
 -- a layout that is there has members
@@ -197,7 +197,7 @@ agg_there g w (suc k) a h d =
     let at : members_of g.aggs a ≡ Some ms.0 = members_at g.aggs a agg.0 agg.1 ∙ ms.1 in
     ap is_some (agg_layout_is g w a ∙ at_members g (λ b. whole_of (agg_layout g b)) a agg.0 ms.0 agg.1 ms.1)
     ∙ members_layout-there agg.0.kind (λ (m : Member). member_in g.abi (λ b. whole_of (agg_layout g b)) (shape g.nodes m.ty.of.0)) ms.0
-    (each_there g.abi g.aggs g.nodes g.completed (rank g.completed a) (λ b. whole_of (agg_layout g b)) ms.0 (w.nested a ms.0 at).1 (w.fitting a ms.0 at)
+    (each_there g.abi g.aggs g.nodes g.completed (rank g.completed a) (λ b. whole_of (agg_layout g b)) ms.0 (w.nested a ms.0 at).1 (each_has_room g w a ms.0 at)
     (λ b below q. mapped (λ (x : AggLayout). x.whole) (agg_layout g b) (agg_there g w k b (omega arith) q)))
 
 -- exactly the complete aggregates have layouts

@@ -5,4 +5,7 @@ pub mod ArenaLaws
 pub mod GrowthLaws
 pub mod StepLaws
 pub mod LayoutLaws
+pub mod RenamingLaws
+pub mod OffsetLaws
 mod LayoutRows
+pub mod NumberLaws

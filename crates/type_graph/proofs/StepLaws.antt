@@ -1,19 +1,21 @@
 -- Device: what the fields of an arena are after a step, and the arena that contracts see.
-use Rattle.std.proofs.Common.{◌≡◌, ◌≢◌, ℕ, ◌^◌, ◌<◌, true, false, nat_eq, zero, suc, List, [], ◌∷◌, ◌++◌, length, slice_get, is_some, Option, Some, None, ◌⊎◌, inl, inr, refl, sym, ap, ◌∙◌, subst}
+use Rattle.std.proofs.Common.{◌≡◌, ◌≢◌, ℕ, ◌^◌, ◌<◌, Bool, true, false, ◌&&◌, ◌||◌, nat_eq, zero, suc, List, [], ◌∷◌, ◌++◌, length, slice_get, is_some, Option, Some, None, ◌⊎◌, inl, inr, refl, sym, ap, ◌∙◌, subst}
 use Rattle.std.proofs.Math.ListN.{set, length-set}
 use Rattle.std.proofs.lemmas.Bool.Decides.{eqb_tells}
 use Rattle.std.specs.Option.{option_and_then, option_map}
 use Rattle.cil_base.specs.declared.kinds.Abi.{Abi}
 use Rattle.cil_base.specs.declared.numbers.AggId.{AggId}
 use Rattle.cil_base.specs.declared.numbers.NameId.{NameId}
+use Rattle.type_graph.specs.declared.aggregates.AggKind.{AggKind}
 use Rattle.type_graph.specs.declared.aggregates.Member.{Member}
 use Rattle.type_graph.specs.declared.aggregates.Aggregate.{Aggregate}
 use Rattle.type_graph.specs.declared.nodes.Node.{Node}
+use Rattle.type_graph.specs.Shapes.{shape}
 use Rattle.type_graph.specs.Renaming.{renamed_members}
-use Rattle.type_graph.specs.Arena.{Graph, IsArena, NamesBelow, members_of, rank, EachBelow, EachFits, defined_count}
+use Rattle.type_graph.specs.Arena.{Graph, IsArena, NamesBelow, members_of, complete, flexible_shape, members_fit, is_struct, is_last, rank, EachBelow, defined_count}
 use Rattle.type_graph.specs.Growth.{with_agg, with_members, renamed}
 use Rattle.type_graph.proofs.Lists.{get_set_same, get_set_other}
-use Rattle.type_graph.proofs.ArenaLaws.{some_there, is_some_from, EachFits-stays}
+use Rattle.type_graph.proofs.ArenaLaws.{some_there, is_some_from, fit_defined}
 
 abbrev pub graph : Abi → List Node → List Aggregate → List AggId → Graph
 graph abi nodes aggs order = record { abi = abi; nodes = nodes; aggs = aggs; completed = order }
@@ -63,10 +65,17 @@ count_renamed (z ∷ xs) zero x tag names at =
     count_mapped (defined_count xs) names x.members ∙ ap (λ (y : Aggregate). count (defined_count xs) y.members) (sym same)
 count_renamed (z ∷ xs) (suc a) x tag names at = ap (λ n. elim z.members [ None ↦ n | Some ms ↦ suc n ]) (count_renamed xs a x tag names at)
 
-EachFits-renamed : (aggs : List Aggregate) (ns : List Node) (ms : List Member) (names : List NameId) → EachFits aggs ns ms → EachFits aggs ns (renamed_members ms names)
-EachFits-renamed aggs ns [] names h = tt
-EachFits-renamed aggs ns (m ∷ ms) [] h = h
-EachFits-renamed aggs ns (m ∷ ms) (n ∷ names) (fit, rest) = (fit, EachFits-renamed aggs ns ms names rest)
+last_renamed : (ms : List Member) (names : List NameId) → is_last (renamed_members ms names) ≡ is_last ms
+last_renamed [] names = refl
+last_renamed (m ∷ ms) [] = refl
+last_renamed (m ∷ ms) (n ∷ names) = refl
+
+fit_renamed : (g : Graph) (kind : AggKind) (behind : Bool) (ms : List Member) (names : List NameId) → members_fit g kind behind (renamed_members ms names) ≡ members_fit g kind behind ms
+fit_renamed g kind behind [] names = refl
+fit_renamed g kind behind (m ∷ ms) [] = refl
+fit_renamed g kind behind (m ∷ ms) (n ∷ names) =
+    ap (λ (l : Bool). (complete g m.ty.of.0 || (is_struct kind && (behind && (l && flexible_shape g.aggs (shape g.nodes m.ty.of.0))))) && members_fit g kind true (renamed_members ms names)) (last_renamed ms names)
+    ∙ ap (λ (r : Bool). (complete g m.ty.of.0 || (is_struct kind && (behind && (is_last ms && flexible_shape g.aggs (shape g.nodes m.ty.of.0))))) && r) (fit_renamed g kind true ms names)
 
 pub IsArena-renamed : (g : Graph) (a : AggId) (x : Aggregate) (tag : NameId) (names : List NameId) → IsArena g → slice_get g.aggs a.0 ≡ Some x → IsArena (record g { aggs = set g.aggs a.0 (renamed x tag names) })
 IsArena-renamed g a x tag names w at = record {
@@ -76,7 +85,7 @@ IsArena-renamed g a x tag names w at = record {
   kinds = w.kinds;
   once = w.once;
   nested = λ b bs e. nested b bs (eqb_tells b a.0) e;
-  fitting = λ b bs e. fitting b bs (eqb_tells b a.0) e;
+  fitting = λ b z bs e q. fitting b z bs (eqb_tells b a.0) e q;
   counted = w.counted ∙ sym (count_renamed g.aggs a.0 x tag names at);
   ordered = λ i b e. (defined b.0 (w.ordered i b e).0 (eqb_tells b.0 a.0), (w.ordered i b e).1);
 }
@@ -106,9 +115,14 @@ IsArena-renamed g a x tag names w at = record {
         is_some_from (members_of (set g.aggs a.0 (renamed x tag names)) b) (renamed_members there.0 names) (ap (members_of (set g.aggs a.0 (renamed x tag names))) h.1 ∙ now ∙ ap (option_map (λ (ms : List Member). renamed_members ms names)) (sym was ∙ ap (members_of g.aggs) (sym h.1) ∙ there.1))
     defined b d (inr h) = ap is_some (others b h.1) ∙ d
 
-    fitting : (b : ℕ) (bs : List Member) → ((nat_eq b a.0 ≡ true) × (b ≡ a.0)) ⊎ ((nat_eq b a.0 ≡ false) × (b ≢ a.0)) → members_of (set g.aggs a.0 (renamed x tag names)) b ≡ Some bs → EachFits (set g.aggs a.0 (renamed x tag names)) g.nodes bs
-    fitting b bs (inl h) e =
-        let some = renamed_some x.members names bs (sym now ∙ ap (members_of (set g.aggs a.0 (renamed x tag names))) (sym h.1) ∙ e) in
-        let old = w.fitting b some.0 (ap (members_of g.aggs) h.1 ∙ was ∙ some.1) in
-        EachFits-stays g.aggs (set g.aggs a.0 (renamed x tag names)) g.nodes bs (λ k d. defined k d (eqb_tells k a.0)) (subst (EachFits g.aggs g.nodes) some.2 (EachFits-renamed g.aggs g.nodes some.0 names old))
-    fitting b bs (inr h) e = EachFits-stays g.aggs (set g.aggs a.0 (renamed x tag names)) g.nodes bs (λ k d. defined k d (eqb_tells k a.0)) (w.fitting b bs (sym (others b h.1) ∙ e))
+    still : (k : ℕ) → is_some (members_of g.aggs k) ≡ true → is_some (members_of (set g.aggs a.0 (renamed x tag names)) k) ≡ true
+    still k d = defined k d (eqb_tells k a.0)
+
+    fitting : (b : ℕ) (z : Aggregate) (bs : List Member) → ((nat_eq b a.0 ≡ true) × (b ≡ a.0)) ⊎ ((nat_eq b a.0 ≡ false) × (b ≢ a.0)) → slice_get (set g.aggs a.0 (renamed x tag names)) b ≡ Some z → z.members ≡ Some bs → members_fit (record g { aggs = set g.aggs a.0 (renamed x tag names) }) z.kind false bs ≡ true
+    fitting b z bs (inl h) e q =
+        let same : renamed x tag names ≡ z = let p : Some (renamed x tag names) ≡ Some z = sym (get_set_same g.aggs a.0 x (renamed x tag names) at) ∙ ap (slice_get (set g.aggs a.0 (renamed x tag names))) (sym h.1) ∙ e in cc in
+        let some = renamed_some x.members names bs (ap (λ (v : Aggregate). v.members) same ∙ q) in
+        subst (λ (v : Aggregate). members_fit (record g { aggs = set g.aggs a.0 (renamed x tag names) }) v.kind false bs ≡ true) same
+        (fit_defined g (set g.aggs a.0 (renamed x tag names)) x.kind bs still (record g { aggs = set g.aggs a.0 (renamed x tag names) }) refl refl
+        (subst (λ (l : List Member). members_fit g x.kind false l ≡ true) some.2 (fit_renamed g x.kind false some.0 names ∙ w.fitting a.0 x some.0 at some.1)))
+    fitting b z bs (inr h) e q = fit_defined g (set g.aggs a.0 (renamed x tag names)) z.kind bs still (record g { aggs = set g.aggs a.0 (renamed x tag names) }) refl refl (w.fitting b z bs (sym (get_set_other g.aggs a.0 b (renamed x tag names) h.1) ∙ e) q)

@@ -133,6 +133,6 @@ pub record IsArena (g : Graph) : Type 0 where
   pub kinds : (t : ℕ) (n : Node) → slice_get g.nodes t ≡ Some n → HasKind g.abi n
   pub once : (s t : ℕ) (n : Node) → slice_get g.nodes s ≡ Some n → slice_get g.nodes t ≡ Some n → s ≡ t
   pub nested : (a : ℕ) (ms : List Member) → members_of g.aggs a ≡ Some ms → (rank g.completed a < length g.completed) × EachBelow g.nodes g.completed (rank g.completed a) ms
-  pub fitting : (a : ℕ) (ms : List Member) → members_of g.aggs a ≡ Some ms → EachFits g.aggs g.nodes ms
+  pub fitting : (a : ℕ) (x : Aggregate) (ms : List Member) → slice_get g.aggs a ≡ Some x → x.members ≡ Some ms → members_fit g x.kind false ms ≡ true
   pub counted : length g.completed ≡ defined_count g.aggs
   pub ordered : (i : ℕ) (a : AggId) → slice_get g.completed i ≡ Some a → (is_some (members_of g.aggs a.0) ≡ true) × (rank g.completed a.0 ≡ i)

@@ -22,6 +22,10 @@ pub record Grows (old new : Graph) : Type 0 where
   pub aggs : (a : ℕ) (x : Aggregate) → slice_get old.aggs a ≡ Some x → (y : Aggregate) × (slice_get new.aggs a ≡ Some y) × AggGrows x y
   pub completed : (more : List AggId) × (new.completed ≡ old.completed ++ more)
 
+-- the aggregates, and the order in which they were completed, stay
+abbrev pub KeepsAggregates : Graph → Graph → Type 0
+KeepsAggregates old new = (new.aggs ≡ old.aggs) × (new.completed ≡ old.completed)
+
 -- a node is asked for: a known one keeps its number, a new one gets the next
 pub record AddsNode (old new : Graph) (n : Node) (t : ℕ) : Type 0 where
   pub number : slice_get new.nodes t ≡ Some n

@@ -47,11 +47,13 @@ impl Model for Members {
 }
 
 impl Members {
-    /// The members of a vector.
+    /// The members of a vector, without the room that it has for more.
     pub fn new(members: Vec<Member>) -> Self
         ensures { result ≡ members.items }
     {
-        Members { kept: members }
+        let mut kept = members;
+        kept.shrink_to_fit();
+        Members { kept }
     }
 
     /// The members, as a slice.

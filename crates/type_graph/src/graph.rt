@@ -1,4 +1,4 @@
-ghost use Rattle.std.specs.Prelude.{◌≡◌, ◌≤◌, ◌<◌, true, false, Some, None, [], ◌∷◌, ◌++◌, length, is_some, MatchOption, IsOk, IfOk, OnOk, OnErr, slice_get, slice_set, ℕ};
+ghost use Rattle.std.specs.Prelude.{◌≡◌, ◌≤◌, ◌<◌, true, false, Some, None, [], ◌∷◌, ◌++◌, length, is_some, IsTrue, MatchOption, IsOk, IfOk, OnOk, OnErr, slice_get, slice_set, ℕ};
 ghost use Rattle.cil_base.specs.declared.kinds.Abi.TheVariants.{Lp64};
 ghost use Rattle.cil_base.specs.declared.numbers.AggId.{AggId};
 ghost use Rattle.type_graph.specs.declared.aggregates.Aggregate.{Aggregate};
@@ -6,7 +6,7 @@ ghost use Rattle.type_graph.specs.declared.aggregates.Member.{Member};
 ghost use Rattle.std.specs.Prelude.{List};
 ghost use Rattle.type_graph.specs.Shapes.{shape, shape_of};
 ghost use Rattle.type_graph.specs.Arena.{IsArena, NamesBelow, HasKind, empty_graph, complete, members_of, members_fit, member_count};
-ghost use Rattle.type_graph.specs.Growth.{Grows, AddsNode, with_agg, with_members, renamed};
+ghost use Rattle.type_graph.specs.Growth.{Grows, AddsNode, KeepsAggregates, with_agg, with_members, renamed};
 
 use crate::aggregates::{AggKind, Aggregate, Members};
 use crate::nodes::Node;
@@ -66,6 +66,11 @@ impl TypeGraph {
         self.abi
     }
 
+    /// The allocator that the graph takes memory from.
+    pub fn alloc(&self) -> Global {
+        self.alloc
+    }
+
     /// The number of types.
     pub fn len(&self) -> u32
         ensures count { result ≡ length self.now.nodes }
@@ -82,6 +87,19 @@ impl TypeGraph {
         ensures shape { shape self.now.nodes t.0 ≡ shape_of (shape self.now.nodes) result.now }
     {
         &self.nodes[t.0 as usize]
+    }
+
+    /// Whether two types are one. Types of one shape have one number, so no part is looked at.
+    #[tactic(auto, using(crate::proofs::NumberLaws::one_number))]
+    pub fn is_same(&self, a: TypeId, b: TypeId) -> bool
+        requires left { a.0 < length self.now.nodes }
+        requires right { b.0 < length self.now.nodes }
+        ensures same { IsTrue result → shape self.now.nodes a.0 ≡ shape self.now.nodes b.0 }
+        ensures one { shape self.now.nodes a.0 ≡ shape self.now.nodes b.0 → IsTrue result }
+    {
+        // What is known of an arena is known where it is read.
+        let _types = self.len();
+        a == b
     }
 
     /// The number of aggregates.
@@ -134,6 +152,7 @@ impl TypeGraph {
         ensures known { (s : ℕ) → slice_get self.old.nodes s ≡ Some n → IsOk result }
         ensures err { OnErr result (self.new ≡ self.old) }
         ensures grows { Grows self.old self.new }
+        ensures aggregates { KeepsAggregates self.old self.new }
         ensures arena { IsArena self.new }
     {
         match self.find(&n) {

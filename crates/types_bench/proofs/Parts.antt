@@ -1,5 +1,5 @@
 -- Device: the parts of the arena that is built.
-use Rattle.std.proofs.Common.{◌≡◌, ℕ, ◌<◌, Bool, true, ◌&&◌, ◌||◌, List, [], ◌∷◌, ◌++◌, length, is_some, IsSome, None, refl, sym, ap, ◌∙◌, arith, length-append}
+use Rattle.std.proofs.Common.{◌≡◌, ℕ, ◌<◌, Bool, true, ◌&&◌, ◌||◌, List, [], ◌∷◌, ◌++◌, length, slice_get, is_some, IsSome, Some, None, refl, sym, ap, ◌∙◌, arith, length-append}
 use Rattle.type_graph.specs.declared.aggregates.AggKind.{AggKind}
 use Rattle.type_graph.specs.declared.aggregates.Aggregate.{Aggregate}
 use Rattle.type_graph.specs.declared.aggregates.Member.{Member}
@@ -7,8 +7,12 @@ use Rattle.type_graph.specs.Shapes.{shape}
 use Rattle.type_graph.specs.Arena.{Graph, IsArena, members_of, members_fit, complete, is_struct, is_last, flexible_shape}
 use Rattle.type_graph.specs.Growth.{Grows}
 use Rattle.type_graph.proofs.LayoutLaws.{layout_there}
+use Rattle.type_graph.proofs.OffsetLaws.{offset_there}
+use Rattle.type_graph.specs.declared.nodes.Node.TheVariants.{Agg}
+use Rattle.cil_base.specs.declared.numbers.AggId.{AggId}
+use Rattle.std.specs.Option.{option_and_then}
 use Rattle.layout_lp64.specs.declared.layouts.Layouts.{Layouts}
-use Rattle.layout_lp64.specs.Tables.{InStep, WereInStep, found}
+use Rattle.layout_lp64.specs.Tables.{InStep, WereInStep, found, found_offset}
 use Rattle.types_bench.specs.Members.{EachComplete}
 
 pub each_push : (g : Graph) (ms : List Member) (m : Member) → EachComplete g ms → complete g m.ty.of.0 ≡ true → EachComplete g (ms ++ m ∷ [])
@@ -34,3 +38,8 @@ were l g h w s e = record { before = g; arena = w; step = s; grows = e }
 
 pub found_some : (l : Layouts) (g : Graph) (t : ℕ) (b : Bool) → IsArena g → InStep l g → b ≡ complete g t → b ≡ true → IsSome (found l t)
 found_some l g t b w s e q = ap is_some (s.sizes t) ∙ layout_there g w t ∙ sym e ∙ q
+
+-- each member of a complete aggregate has an offset in the layouts
+pub offset_found : (l : Layouts) (g : Graph) (t : ℕ) (a : AggId) (x : Aggregate) (ms : List Member) (i : ℕ) → IsArena g → InStep l g → slice_get g.nodes t ≡ Some (Agg a) → slice_get g.aggs a.0 ≡ Some x → x.members ≡ Some ms → i < length ms → IsSome (found_offset l a.0 i)
+offset_found l g t a x ms i w s at agg members within =
+    ap is_some (s.offsets t a at i) ∙ offset_there g w a.0 ms i (ap (option_and_then (λ (y : Aggregate). y.members)) agg ∙ members) within
