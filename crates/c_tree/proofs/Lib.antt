@@ -1,0 +1,4 @@
+pub mod Views
+pub mod CappedLemmas
+pub mod UnitLemmas
+mod Rows

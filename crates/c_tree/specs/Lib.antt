@@ -1,0 +1,10 @@
+pub mod Syntax
+pub mod Units
+pub mod View
+pub mod UnitView
+pub mod Spelling
+pub mod UnitSpelling
+pub mod Height
+pub mod Levels
+pub mod Placed
+pub mod Capped

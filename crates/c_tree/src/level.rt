@@ -1,0 +1,21 @@
+/// The levels of the grammar of expressions (C11 6.5.1 to 6.5.17), the tightest first.
+#[derive(Clone, Copy, Debug, PartialEq, Eq)]
+pub enum Level {
+    Primary,
+    Postfix,
+    Unary,
+    Cast,
+    Multiplicative,
+    Additive,
+    Shift,
+    Relational,
+    Equality,
+    BitAnd,
+    ExclusiveOr,
+    InclusiveOr,
+    LogicalAnd,
+    LogicalOr,
+    Conditional,
+    Assignment,
+    Comma,
+}

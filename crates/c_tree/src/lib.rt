@@ -1,0 +1,28 @@
+//! The syntax trees of C: each production of C11 Annex A has its constructor, as far as the project's profile reads it.
+//!
+//! Its definitions say what tokens a tree has, what its productions ask of their parts, how high it is and which token each node begins with; its
+//! public contract gives the height of an external declaration. The definitions are of plain trees, and a view takes the code's trees to them.
+//!
+//! The rules come from C11 6.5 to 6.9 and Annex A; the height is the project's own.
+#![tactic(auto)]
+
+mod expression;
+mod level;
+mod measure;
+mod statement;
+mod unit_measure;
+mod words;
+
+pub use expression::{
+    ArrayBound, Declarator, Designator, Enumerator, Expr, Init, InitItem, MemberDeclaration,
+    MemberDeclarator, Parameter, Specifier, StaticAssert, TypeName,
+};
+pub use level::Level;
+pub use statement::{
+    BlockItem, Declaration, ExtDecl, ForStart, FunctionDefinition, InitDeclarator, Stmt, Unit,
+};
+pub use unit_measure::height;
+pub use words::{
+    BasicType, FunctionSpecifier, LogicalOp, Qualifier, StepOp, StorageClass, StructKind, TagKind,
+    UnaryOp,
+};
