@@ -1,0 +1,49 @@
+-- Device: the table of greatest elements.
+use Rattle.std.proofs.Common.{◌≡◌, ℕ, zero, suc, ◌<◌, ◌≤◌, max, true, ◌&&◌, Option, Some, None, nat_lt, nat_le, List, [], ◌∷◌, length, drop, get_or, sym, ap, ◌∙◌, arith, ◌⊎◌}
+use Rattle.cil_base.specs.declared.numbers.TypeId.{TypeId}
+use Rattle.type_graph.specs.declared.aggregates.Member.{Member}
+use Rattle.type_graph.specs.Shapes.{Shape, Shapes, VoidType, IntType, PtrType, ArrayType, FuncType, AggType, NoTypes, MoreTypes, shape, shapes_of}
+use Rattle.type_graph.specs.Arena.{Graph, held}
+use Rattle.cil_tree.specs.WellFormedTypes.{holds_below, elements_below, all_elements_below}
+use Rattle.cil_check.specs.Rules.{held_top, element_top, elements_top, member_is_after}
+use Rattle.cil_check.proofs.TypeSteps.{cases}
+
+-- the greatest entry of the parameters from one on
+pub tops_next : (at : ℕ → Shape) (ts : List TypeId) (i : ℕ) (d : TypeId) (top : ℕ) → i < length ts →
+    max top (elements_top (shapes_of at (drop i ts))) ≡ max (max top (element_top (at (get_or ts i d).0))) (elements_top (shapes_of at (drop (suc i) ts)))
+tops_next at [] i d top h = absurd (omega arith)
+tops_next at (t ∷ ts) zero d top h = omega arith
+tops_next at (t ∷ ts) (suc i) d top h = tops_next at ts i d top (omega arith)
+
+-- a number is at least the greater of two where it is at least each
+most : (m n a : ℕ) → nat_le (max m n) a ≡ nat_le m a && nat_le n a
+most m n a = by (cases m a) (cases n a)
+  where
+    by : (m ≤ a) ⊎ (a < m) → (n ≤ a) ⊎ (a < n) → nat_le (max m n) a ≡ nat_le m a && nat_le n a
+    by h k = grind arith
+
+held_is : (a : ℕ) (s : Shape) → holds_below a s ≡ nat_le (held_top s) a
+held_is a s = by (held s)
+  where
+    by : (o : Option ℕ) → elim o [ None ↦ true | Some b ↦ nat_lt b a ] ≡ nat_le (elim o [ None ↦ 0 | Some b ↦ suc b ]) a
+    by None = grind arith
+    by (Some b) = grind arith
+
+mutual
+  elements_are : (a : ℕ) (s : Shape) → elements_below a s ≡ nat_le (element_top s) a
+  elements_are a VoidType = grind arith
+  elements_are a (IntType kind) = grind arith
+  elements_are a (PtrType q s) = elements_are a s
+  elements_are a (ArrayType q s bound) = ap (λ b. b && elements_below a s) (held_is a s) ∙ ap (λ b. nat_le (held_top s) a && b) (elements_are a s) ∙ sym (most (held_top s) (element_top s) a)
+  elements_are a (FuncType ret params proto variadic) = ap (λ b. b && all_elements_below a params) (elements_are a ret) ∙ ap (λ b. nat_le (element_top ret) a && b) (all_elements_are a params) ∙ sym (most (element_top ret) (elements_top params) a)
+  elements_are a (AggType b) = grind arith
+
+  all_elements_are : (a : ℕ) (ss : Shapes) → all_elements_below a ss ≡ nat_le (elements_top ss) a
+  all_elements_are a NoTypes = grind arith
+  all_elements_are a (MoreTypes s more) = ap (λ b. b && all_elements_below a more) (elements_are a s) ∙ ap (λ b. nat_le (element_top s) a && b) (all_elements_are a more) ∙ sym (most (element_top s) (elements_top more) a)
+
+-- both bounds of a member at once
+pub after_is : (g : Graph) (a : ℕ) (m : Member) (x y : ℕ) → x ≡ held_top (shape g.nodes m.ty.of.0) → y ≡ element_top (shape g.nodes m.ty.of.0) → member_is_after g a m ≡ nat_le (max x y) a
+after_is g a m x y h e =
+    ap (λ b. b && elements_below a (shape g.nodes m.ty.of.0)) (held_is a (shape g.nodes m.ty.of.0)) ∙ ap (λ b. nat_le (held_top (shape g.nodes m.ty.of.0)) a && b) (elements_are a (shape g.nodes m.ty.of.0))
+    ∙ sym (most (held_top (shape g.nodes m.ty.of.0)) (element_top (shape g.nodes m.ty.of.0)) a) ∙ ap (λ k. nat_le (max k (element_top (shape g.nodes m.ty.of.0))) a) (sym h) ∙ ap (λ k. nat_le (max x k) a) (sym e)

@@ -1,0 +1,4 @@
+pub mod TypeSteps
+pub mod ElementTable
+pub mod AggregateRules
+pub mod TypeRules

@@ -1,0 +1,12 @@
+pub mod Tree
+pub mod Typing
+pub mod View
+pub mod Lines
+pub mod Declarators
+pub mod Text
+pub mod WellFormedTypes
+pub mod Bodies
+pub mod Names
+pub mod Globals
+pub mod Programs
+pub mod LaidOut
