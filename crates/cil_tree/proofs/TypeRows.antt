@@ -63,7 +63,7 @@ types_fit = refl
 -- an array of an incomplete aggregate, of functions, of bound 0
 abbrev wider : Graph
 wider = record graph {
-  nodes = graph.nodes ++ Array (plain 0) None ∷ Ptr (record { quals = record { constant = true; restricted = false }; of = record { 0 = 0 } }) ∷ Array (plain 2) (Some 3) ∷ Ptr (plain 10) ∷ Array (plain 7) (Some 1) ∷ Func (record { 0 = 0 }) [] true false ∷ Array (plain 13) (Some 1) ∷ Array (plain 0) (Some 0) ∷ [];
+  nodes = graph.nodes ++ Array (plain 0) None ∷ Ptr (record { quals = record { constant = true; restricted = false }; of = record { 0 = 0 } }) ∷ Array (plain 2) (Some 3) ∷ Ptr (plain 10) ∷ Array (plain 7) (Some 1) ∷ Func true false (record { 0 = 0 }) [] ∷ Array (plain 13) (Some 1) ∷ Array (plain 0) (Some 0) ∷ [];
 }
 
 types_refused :

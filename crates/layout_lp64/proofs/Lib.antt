@@ -1,5 +1,7 @@
 pub mod CapLaws
 pub mod AlignLaws
+mod CompactLaws
+mod EntryLaws
 pub mod TableLaws
 pub mod OffsetLaws
 pub mod UpdateLaws

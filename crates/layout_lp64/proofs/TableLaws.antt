@@ -22,11 +22,9 @@ use Rattle.type_graph.specs.Arena.{Graph, IsArena, NamesBelow, rank, held, EachB
 use Rattle.type_graph.specs.Layouts.{AggLayout, Placed, member_in, without_elements, members_layout, aggregate_in, whole_of, agg_layout}
 use Rattle.type_graph.proofs.LayoutLaws.{step_same, agg_layout_is}
 use Rattle.layout_lp64.specs.declared.layouts.Layouts.{Layouts}
-use Rattle.layout_lp64.specs.declared.placing.AggregateLayout.{AggregateLayout}
 use Rattle.layout_lp64.specs.declared.spans.Span.{Span}
 use Rattle.layout_lp64.specs.declared.spans.Span.TheVariants.{Nothing, Fixed, Copies}
 use Rattle.layout_lp64.specs.Capped.{capped, capped_agg, times, span_of, span_shape, copies, resolve, member_span, capped_all, capped_step, capped_members, capped_aggregate}
-use Rattle.layout_lp64.specs.Placements.{seen}
 use Rattle.layout_lp64.specs.Tables.{agg_found, whole_found, known, AreSpans, AreTables, AreAligned, AddsSpan, AddsLayout}
 use Rattle.layout_lp64.proofs.CapLaws.{Aligned, cases, resolve_times, member_is, members_are}
 use Rattle.layout_lp64.proofs.AlignLaws.{size_aligned, pointer_aligned, agg_aligned, whole_aligned, member_in_aligned, mapped_from}
@@ -80,13 +78,13 @@ positive a (inr (inr (inl h))) = omega arith
 positive a (inr (inr (inr h))) = omega arith
 
 module _ (l : Layouts) (g : Graph) (t : AreTables l g) where
-  found_part : (b : ℕ) → whole_found l.aggs.items b ≡ option_map capped (part g l.completed b)
+  found_part : (b : ℕ) → whole_found l.aggs b ≡ option_map capped (part g l.completed b)
   found_part b = ap (option_map (λ (x : AggLayout). x.whole)) (t.layouts b) ∙ part_is g l.completed b
 
-  pub found_parts : whole_found l.aggs.items ≡ (λ b. option_map capped (part g l.completed b))
+  pub found_parts : whole_found l.aggs ≡ (λ b. option_map capped (part g l.completed b))
   found_parts = fun_ext found_part
 
-  pub are_aligned : AreAligned l.aggs.items
+  pub are_aligned : AreAligned l.aggs
   are_aligned = record { each = λ b x e. one b x (sym (found_part b) ∙ e) }
     where
       one : (b : ℕ) (x : Layout) → option_map capped (part g l.completed b) ≡ Some x → 0 < x.align
@@ -142,7 +140,7 @@ held_node ns t m b Void n rest e = cc
 held_node ns t m b (Int kind) n rest e = cc
 held_node ns t m b (Ptr q) n rest e = cc
 held_node ns t m b (Array q bound) n rest e = rest q.of.0 n e
-held_node ns t m b (Func ret params proto variadic) n rest e = cc
+held_node ns t m b (Func proto variadic ret params) n rest e = cc
 held_node ns t m b (Agg a) n rest e = let same : a.0 ≡ b = cc in omega arith
 
 get_there : {K : Type 0} (xs : List K) (i : ℕ) → i < length xs → (x : K) × (slice_get xs i ≡ Some x)
@@ -178,10 +176,10 @@ completed_there g w i a e = by (slice_get g.aggs a.0) refl (w.ordered i a e).0
     by None q h = cc
     by (Some x) q h = slice_get_within g.aggs a.0 x q
 
-pub span_aligned : (l : Layouts) (g : Graph) (s : Shape) (x : Layout) → AreAligned l.aggs.items → Some x ≡ member_span g.abi (whole_found l.aggs.items) s → 0 < x.align
-span_aligned l g s x h e = member_positive g.abi (whole_found l.aggs.items) s h.each x (sym e)
+pub span_aligned : (l : Layouts) (g : Graph) (s : Shape) (x : Layout) → AreAligned l.aggs → Some x ≡ member_span g.abi (whole_found l.aggs) s → 0 < x.align
+span_aligned l g s x h e = member_positive g.abi (whole_found l.aggs) s h.each x (sym e)
 
-pub placed_positive : (l : Layouts) (g : Graph) (f : Member → Option Layout) (ms : List Member) (i : ℕ) (d : Member) (x : Layout) → AreAligned l.aggs.items → ((m : Member) → f m ≡ member_span g.abi (whole_found l.aggs.items) (shape g.nodes m.ty.of.0)) → Some x ≡ f (get_or ms i d) → 0 < x.align
+pub placed_positive : (l : Layouts) (g : Graph) (f : Member → Option Layout) (ms : List Member) (i : ℕ) (d : Member) (x : Layout) → AreAligned l.aggs → ((m : Member) → f m ≡ member_span g.abi (whole_found l.aggs) (shape g.nodes m.ty.of.0)) → Some x ≡ f (get_or ms i d) → 0 < x.align
 placed_positive l g f ms i d x h same e = span_aligned l g (shape g.nodes (get_or ms i d).ty.of.0) x h (e ∙ same (get_or ms i d))
 
 -- the layout of an aggregate from what is known of those within it
@@ -197,7 +195,7 @@ aggregate_is abi ns f h (Some x) = by x.members
     by (Some ms) = ap (λ (k : Member → Option Layout). capped_members x.kind k ms) same ∙ members_are x.kind (λ (m : Member). member_in abi f (shape ns m.ty.of.0)) (λ m l e. member_in_aligned abi f (shape ns m.ty.of.0) h l e) ms
 
 -- the next aggregate's layout, from the tables so far
-pub next_layout : (l : Layouts) (g : Graph) (t : AreTables l g) → IsArena g → (a : AggId) → slice_get g.completed l.completed ≡ Some a → option_and_then (capped_aggregate g.abi g.nodes (whole_found l.aggs.items)) (slice_get g.aggs a.0) ≡ option_map capped_agg (agg_layout g a.0)
+pub next_layout : (l : Layouts) (g : Graph) (t : AreTables l g) → IsArena g → (a : AggId) → slice_get g.completed l.completed ≡ Some a → option_and_then (capped_aggregate g.abi g.nodes (whole_found l.aggs)) (slice_get g.aggs a.0) ≡ option_map capped_agg (agg_layout g a.0)
 unfolding part
 next_layout l g t w a e =
     ap (λ (f : ℕ → Option Layout). option_and_then (capped_aggregate g.abi g.nodes f) (slice_get g.aggs a.0)) (found_parts l g t)
@@ -217,7 +215,7 @@ span_of_is abi ns spans n m (Int kind) l h b = refl
 span_of_is abi ns spans n m (Ptr q) l h b = refl
 span_of_is abi ns spans n m (Array q None) l h b = refl
 span_of_is abi ns spans n m (Array q (Some k)) l h b = ap (times k) (get_or_from_slice_get spans q.of.0 (span_shape abi (shape ns q.of.0)) Nothing (h q.of.0 (omega arith)))
-span_of_is abi ns spans n m (Func ret params proto variadic) l h b = refl
+span_of_is abi ns spans n m (Func proto variadic ret params) l h b = refl
 span_of_is abi ns spans n m (Agg a) l h b = refl
 
 pub push_get : {K : Type 0} (xs : List K) (y : K) (i : ℕ) (x : K) → slice_get (xs ++ y ∷ []) i ≡ Some x → (slice_get xs i ≡ Some x) ⊎ ((i ≡ length xs) × (y ≡ x))
@@ -249,10 +247,10 @@ spans_pushed spans g sp w within e = record {
     one t (inr h) = ap (slice_get (spans ++ sp ∷ [])) h ∙ get_last spans sp ∙ ap Some e ∙ ap (λ k. Some (span_shape g.abi (shape g.nodes k))) (sym h)
 
 -- the span of the next type
-pub next_span : (l : Layouts) (g : Graph) → AreTables l g → (t m : ℕ) (x : Node) → t ≡ length l.spans.items → NamesBelow t m x → shape g.nodes t ≡ shape_of (shape g.nodes) x → span_of g.abi (λ k. get_or l.spans.items k Nothing) x ≡ span_shape g.abi (shape g.nodes (length l.spans.items))
-next_span l g w t m x e b s = span_of_is g.abi g.nodes l.spans.items t m x (omega arith) w.spans.each b ∙ ap (span_shape g.abi) (sym s) ∙ ap (λ k. span_shape g.abi (shape g.nodes k)) e
+pub next_span : (l : Layouts) (g : Graph) → AreTables l g → (t m : ℕ) (x : Node) → t ≡ length l.spans → NamesBelow t m x → shape g.nodes t ≡ shape_of (shape g.nodes) x → span_of g.abi (λ k. get_or l.spans k Nothing) x ≡ span_shape g.abi (shape g.nodes (length l.spans))
+next_span l g w t m x e b s = span_of_is g.abi g.nodes l.spans t m x (omega arith) w.spans.each b ∙ ap (span_shape g.abi) (sym s) ∙ ap (λ k. span_shape g.abi (shape g.nodes k)) e
 
-pub span_from : (l : Layouts) (g : Graph) → AreTables l g → (abi : Abi) (spans : List Span) (t m : ℕ) (x : Node) (sp : Span) → abi ≡ g.abi → spans ≡ l.spans.items → sp ≡ span_of abi (λ k. get_or spans k Nothing) x → t ≡ length l.spans.items → NamesBelow t m x → shape g.nodes t ≡ shape_of (shape g.nodes) x → sp ≡ span_shape g.abi (shape g.nodes (length l.spans.items))
+pub span_from : (l : Layouts) (g : Graph) → AreTables l g → (abi : Abi) (spans : List Span) (t m : ℕ) (x : Node) (sp : Span) → abi ≡ g.abi → spans ≡ l.spans → sp ≡ span_of abi (λ k. get_or spans k Nothing) x → t ≡ length l.spans → NamesBelow t m x → shape g.nodes t ≡ shape_of (shape g.nodes) x → sp ≡ span_shape g.abi (shape g.nodes (length l.spans))
 span_from l g w abi spans t m x sp a s e p b q =
     e ∙ ap (λ (i : Abi). span_of i (λ k. get_or spans k Nothing) x) a ∙ ap (λ (ss : List Span). span_of g.abi (λ k. get_or ss k Nothing) x) s ∙ next_span l g w t m x p b q
 
@@ -262,9 +260,9 @@ most_covers xs i v k m h e q =
     let same : get_or (set xs i m) i 0 ≡ m = get_or-set_same xs i m 0 h in
     (omega arith, omega arith)
 
-pub span_within : (l : Layouts) (g : Graph) → IsArena g → AreTables l g → (t : ℕ) (a : AggId) (k : ℕ) (sp : Span) → t ≡ length l.spans.items → t < length g.nodes → sp ≡ span_shape g.abi (shape g.nodes (length l.spans.items)) → sp ≡ Copies a k → a.0 < length l.most.items
+pub span_within : (l : Layouts) (g : Graph) → IsArena g → AreTables l g → (t : ℕ) (a : AggId) (k : ℕ) (sp : Span) → t ≡ length l.spans → t < length g.nodes → sp ≡ span_shape g.abi (shape g.nodes (length l.spans)) → sp ≡ Copies a k → a.0 < length l.most.items
 span_within l g arena w t a k sp e within is copy =
-    subst (λ n. a.0 < n) (sym w.most_count) (copies_within g arena (length l.spans.items) a k (subst (λ n. n < length g.nodes) e within) (sym is ∙ copy))
+    subst (λ n. a.0 < n) (sym w.most_count) (copies_within g arena (length l.spans) a k (subst (λ n. n < length g.nodes) e within) (sym is ∙ copy))
 
 pub copy_covered : (ms : List ℕ) (a b : AggId) (j k : ℕ) (sp : Span) → sp ≡ Copies a j → j ≤ get_or ms a.0 0 → sp ≡ Copies b k → k ≤ get_or ms b.0 0
 copy_covered ms a b j k sp e h q =
@@ -274,21 +272,21 @@ copy_covered ms a b j k sp e h q =
     subst (λ (x : AggId). k ≤ get_or ms x.0 0) id (subst (λ n. n ≤ get_or ms a.0 0) count h)
 
 -- tables with one more span
-pub span_added : (old new : Layouts) (g : Graph) (sp : Span) → AreTables old g → length old.spans.items < length g.nodes → sp ≡ span_shape g.abi (shape g.nodes (length old.spans.items)) → new.spans.items ≡ old.spans.items ++ sp ∷ [] → new.aggs.items ≡ old.aggs.items → length new.most.items ≡ length old.most.items → new.completed ≡ old.completed → ((a : ℕ) → get_or old.most.items a 0 ≤ get_or new.most.items a 0) → ((a : AggId) (k : ℕ) → sp ≡ Copies a k → k ≤ get_or new.most.items a.0 0) → AddsSpan old new g
+pub span_added : (old new : Layouts) (g : Graph) (sp : Span) → AreTables old g → length old.spans < length g.nodes → sp ≡ span_shape g.abi (shape g.nodes (length old.spans)) → new.spans ≡ old.spans ++ sp ∷ [] → new.aggs ≡ old.aggs → length new.most.items ≡ length old.most.items → new.completed ≡ old.completed → ((a : ℕ) → get_or old.most.items a 0 ≤ get_or new.most.items a 0) → ((a : AggId) (k : ℕ) → sp ≡ Copies a k → k ≤ get_or new.most.items a.0 0) → AddsSpan old new g
 span_added old new g sp w within e spans aggs most done more last = record {
   tables = record {
-    spans = subst (λ (s : List Span). AreSpans s g) (sym spans) (spans_pushed old.spans.items g sp w.spans within e);
+    spans = subst (λ (s : List Span). AreSpans s g) (sym spans) (spans_pushed old.spans g sp w.spans within e);
     aggs_count = ap length aggs ∙ w.aggs_count;
     most_count = most ∙ w.most_count;
-    layouts = λ a. ap (λ (x : List (Option AggregateLayout)). agg_found x a) aggs ∙ w.layouts a ∙ ap (λ i. known g i a) (sym done);
-    most = λ t a k q. one t a k (push_get old.spans.items sp t (Copies a k) (ap (λ (s : List Span). slice_get s t) (sym spans) ∙ q));
+    layouts = λ a. ap (λ (x : List (Option AggLayout)). agg_found x a) aggs ∙ w.layouts a ∙ ap (λ i. known g i a) (sym done);
+    most = λ t a k q. one t a k (push_get old.spans sp t (Copies a k) (ap (λ (s : List Span). slice_get s t) (sym spans) ∙ q));
     done = subst (λ i. i ≤ length g.completed) (sym done) w.done;
   };
-  count = ap length spans ∙ length-append old.spans.items (sp ∷ []) ∙ add-one (length old.spans.items);
+  count = ap length spans ∙ length-append old.spans (sp ∷ []) ∙ add-one (length old.spans);
   done = done;
 }
   where
-    one : (t : ℕ) (a : AggId) (k : ℕ) → (slice_get old.spans.items t ≡ Some (Copies a k)) ⊎ ((t ≡ length old.spans.items) × (sp ≡ Copies a k)) → k ≤ get_or new.most.items a.0 0
+    one : (t : ℕ) (a : AggId) (k : ℕ) → (slice_get old.spans t ≡ Some (Copies a k)) ⊎ ((t ≡ length old.spans) × (sp ≡ Copies a k)) → k ≤ get_or new.most.items a.0 0
     one t a k (inl h) = let p : k ≤ get_or old.most.items a.0 0 = w.most t a k h in let q : get_or old.most.items a.0 0 ≤ get_or new.most.items a.0 0 = more a.0 in omega arith
     one t a k (inr h) = last a k h.1
 
@@ -315,12 +313,12 @@ rank_get (c ∷ order) b h = by (eqb_tells c.0 b) h (rank_get order b)
 beyond : (m i : ℕ) → i ≤ m → m ≢ i → i + 1 ≤ m
 beyond m i l h = grind arith
 
-found_set : (xs : List (Option AggregateLayout)) (a : ℕ) (o : Option AggregateLayout) → a < length xs → agg_found (set xs a o) a ≡ option_map seen o
+found_set : (xs : List (Option AggLayout)) (a : ℕ) (o : Option AggLayout) → a < length xs → agg_found (set xs a o) a ≡ o
 found_set [] a o h = absurd (omega arith)
 found_set (x ∷ xs) zero o h = refl
 found_set (x ∷ xs) (suc a) o h = found_set xs a o (omega arith)
 
-found_set_other : (xs : List (Option AggregateLayout)) (a b : ℕ) (o : Option AggregateLayout) → b ≢ a → agg_found (set xs a o) b ≡ agg_found xs b
+found_set_other : (xs : List (Option AggLayout)) (a b : ℕ) (o : Option AggLayout) → b ≢ a → agg_found (set xs a o) b ≡ agg_found xs b
 found_set_other [] a b o h = refl
 found_set_other (x ∷ xs) zero zero o h = absurd (h refl)
 found_set_other (x ∷ xs) zero (suc b) o h = refl
@@ -337,13 +335,13 @@ same_test m i h = by (cases i m)
     by (inr l) = lt-ltb m i l ∙ sym (lt-ltb m (i + 1) (omega arith))
 
 -- tables with one more layout
-pub layout_added : (old new : Layouts) (g : Graph) (a : AggId) (o : Option AggregateLayout) → IsArena g → AreTables old g → slice_get g.completed old.completed ≡ Some a → a.0 < length g.aggs → option_map seen o ≡ option_and_then (capped_aggregate g.abi g.nodes (whole_found old.aggs.items)) (slice_get g.aggs a.0) → new.spans.items ≡ old.spans.items → new.aggs.items ≡ set old.aggs.items a.0 o → new.most.items ≡ old.most.items → new.completed ≡ old.completed + 1 → AddsLayout old new g
+pub layout_added : (old new : Layouts) (g : Graph) (a : AggId) (o : Option AggLayout) → IsArena g → AreTables old g → slice_get g.completed old.completed ≡ Some a → a.0 < length g.aggs → o ≡ option_and_then (capped_aggregate g.abi g.nodes (whole_found old.aggs)) (slice_get g.aggs a.0) → new.spans ≡ old.spans → new.aggs ≡ set old.aggs a.0 o → new.most.items ≡ old.most.items → new.completed ≡ old.completed + 1 → AddsLayout old new g
 layout_added old new g a o arena w next there is spans aggs most done = record {
   tables = record {
     spans = subst (λ (s : List Span). AreSpans s g) (sym spans) w.spans;
-    aggs_count = ap length aggs ∙ length-set old.aggs.items a.0 o ∙ w.aggs_count;
+    aggs_count = ap length aggs ∙ length-set old.aggs a.0 o ∙ w.aggs_count;
     most_count = ap length most ∙ w.most_count;
-    layouts = λ b. ap (λ (x : List (Option AggregateLayout)). agg_found x b) aggs ∙ one b (eqb_tells b a.0) ∙ ap (λ i. known g i b) (sym done);
+    layouts = λ b. ap (λ (x : List (Option AggLayout)). agg_found x b) aggs ∙ one b (eqb_tells b a.0) ∙ ap (λ i. known g i b) (sym done);
     most = λ t b k q. subst (λ (ms : List ℕ). k ≤ get_or ms b.0 0) (sym most) (w.most t b k (ap (λ (s : List Span). slice_get s t) (sym spans) ∙ q));
     done = let l : old.completed < length g.completed = slice_get_within g.completed old.completed a next in omega arith;
   };
@@ -354,8 +352,8 @@ layout_added old new g a o arena w next there is spans aggs most done = record {
     place : rank g.completed a.0 ≡ old.completed
     place = (arena.ordered old.completed a next).1
 
-    now : agg_found (set old.aggs.items a.0 o) a.0 ≡ option_map seen o
-    now = found_set old.aggs.items a.0 o (omega (arith, w.aggs_count))
+    now : agg_found (set old.aggs a.0 o) a.0 ≡ o
+    now = found_set old.aggs a.0 o (omega (arith, w.aggs_count))
 
     other : (b : ℕ) → b ≢ a.0 → known g old.completed b ≡ known g (old.completed + 1) b
     other b differ = ap (λ v. cond v (option_map capped_agg (agg_layout g b)) None) (same_test (rank g.completed b) old.completed (λ e. differ (unplaced b e)))
@@ -368,10 +366,10 @@ layout_added old new g a o arena w next there is spans aggs most done = record {
             let id : found.0 ≡ a = cc in
             sym found.2 ∙ ap (λ (x : AggId). x.0) id
 
-    one : (b : ℕ) → ((nat_eq b a.0 ≡ true) × (b ≡ a.0)) ⊎ ((nat_eq b a.0 ≡ false) × (b ≢ a.0)) → agg_found (set old.aggs.items a.0 o) b ≡ known g (old.completed + 1) b
+    one : (b : ℕ) → ((nat_eq b a.0 ≡ true) × (b ≡ a.0)) ⊎ ((nat_eq b a.0 ≡ false) × (b ≢ a.0)) → agg_found (set old.aggs a.0 o) b ≡ known g (old.completed + 1) b
     one b (inl h) =
         let p : rank g.completed a.0 ≡ old.completed = place in
         let test : nat_lt (rank g.completed a.0) (old.completed + 1) ≡ true = lt-ltb (rank g.completed a.0) (old.completed + 1) (omega arith) in
-        ap (agg_found (set old.aggs.items a.0 o)) h.1 ∙ now ∙ is ∙ next_layout old g w arena a next
+        ap (agg_found (set old.aggs a.0 o)) h.1 ∙ now ∙ is ∙ next_layout old g w arena a next
         ∙ sym (ap (known g (old.completed + 1)) h.1 ∙ ap (λ v. cond v (option_map capped_agg (agg_layout g a.0)) None) test)
-    one b (inr h) = found_set_other old.aggs.items a.0 b o h.1 ∙ w.layouts b ∙ other b h.1
+    one b (inr h) = found_set_other old.aggs a.0 b o h.1 ∙ w.layouts b ∙ other b h.1

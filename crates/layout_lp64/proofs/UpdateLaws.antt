@@ -15,7 +15,6 @@ use Rattle.type_graph.proofs.ShapeLaws.{shape_past, kept}
 use Rattle.type_graph.proofs.ArenaLaws.{IsArena-empty, some_there, is_some_from, rank_stays}
 use Rattle.type_graph.proofs.LayoutLaws.{agg_layout_there, agg_layout_grows}
 use Rattle.layout_lp64.specs.declared.layouts.Layouts.{Layouts}
-use Rattle.layout_lp64.specs.declared.placing.AggregateLayout.{AggregateLayout}
 use Rattle.layout_lp64.specs.declared.spans.Span.{Span}
 use Rattle.layout_lp64.specs.declared.spans.Span.TheVariants.{Nothing, Fixed, Copies}
 use Rattle.layout_lp64.specs.Capped.{capped, capped_agg, span_shape, copies, resolve}
@@ -25,7 +24,7 @@ use Rattle.layout_lp64.proofs.OffsetLaws.{offset_is}
 use Rattle.layout_lp64.proofs.TableLaws.{part, found_parts, rank_get, completed_there}
 
 -- entries for new aggregates
-found_push : (xs : List (Option AggregateLayout)) (a : ℕ) → agg_found (xs ++ None ∷ []) a ≡ agg_found xs a
+found_push : (xs : List (Option AggLayout)) (a : ℕ) → agg_found (xs ++ None ∷ []) a ≡ agg_found xs a
 found_push [] zero = refl
 found_push [] (suc a) = refl
 found_push (x ∷ xs) zero = refl
@@ -37,20 +36,20 @@ most_push [] (suc a) = refl
 most_push (x ∷ xs) zero = refl
 most_push (x ∷ xs) (suc a) = most_push xs a
 
-pub extended_more : (old now new : Layouts) (i : ℕ) → Extended old now i → new.spans.items ≡ now.spans.items → new.completed ≡ now.completed → new.aggs.items ≡ now.aggs.items ++ None ∷ [] → new.most.items ≡ now.most.items ++ 0 ∷ [] → Extended old new (i + 1)
+pub extended_more : (old now new : Layouts) (i : ℕ) → Extended old now i → new.spans ≡ now.spans → new.completed ≡ now.completed → new.aggs ≡ now.aggs ++ None ∷ [] → new.most.items ≡ now.most.items ++ 0 ∷ [] → Extended old new (i + 1)
 extended_more old now new i h spans done aggs most = record {
   spans = spans ∙ h.spans;
   done = done ∙ h.done;
-  aggs_count = ap length aggs ∙ length-append now.aggs.items (None ∷ []) ∙ ap (λ n. n + 1) h.aggs_count;
+  aggs_count = ap length aggs ∙ length-append now.aggs (None ∷ []) ∙ ap (λ n. n + 1) h.aggs_count;
   most_count = ap length most ∙ length-append now.most.items (0 ∷ []) ∙ ap (λ n. n + 1) h.most_count;
-  layouts = λ a. ap (λ (xs : List (Option AggregateLayout)). agg_found xs a) aggs ∙ found_push now.aggs.items a ∙ h.layouts a;
+  layouts = λ a. ap (λ (xs : List (Option AggLayout)). agg_found xs a) aggs ∙ found_push now.aggs a ∙ h.layouts a;
   most = λ a. ap (λ (xs : List ℕ). get_or xs a 0) most ∙ most_push now.most.items a ∙ h.most a;
 }
 
-pub extended_none : (old : Layouts) (g : Graph) → WereInStep old g → Extended old old (length old.aggs.items)
+pub extended_none : (old : Layouts) (g : Graph) → WereInStep old g → Extended old old (length old.aggs)
 extended_none old g w = record { spans = refl; done = refl; aggs_count = refl; most_count = w.step.tables.most_count ∙ sym w.step.tables.aggs_count; layouts = λ a. refl; most = λ a. refl }
 
-pub aggs_before : (old : Layouts) (g : Graph) → WereInStep old g → length old.aggs.items ≤ length g.aggs
+pub aggs_before : (old : Layouts) (g : Graph) → WereInStep old g → length old.aggs ≤ length g.aggs
 aggs_before old g w = let h : length w.before.aggs ≤ length g.aggs = w.grows.more_aggs in omega (arith, w.step.tables.aggs_count)
 
 rank_past : (order more : List AggId) (b : ℕ) → length order ≤ rank order b → length order ≤ rank (order ++ more) b
@@ -121,14 +120,14 @@ aggs_added old new g w h = record {
     more_completed : length w.before.completed ≤ length g.completed
     more_completed = omega (arith, ap length w.grows.completed.1, length-append w.before.completed w.grows.completed.0)
 
-    each : (t : ℕ) → t < length old.spans.items → slice_get new.spans.items t ≡ Some (span_shape g.abi (shape g.nodes t))
+    each : (t : ℕ) → t < length old.spans → slice_get new.spans t ≡ Some (span_shape g.abi (shape g.nodes t))
     each t l =
         ap (λ (ss : List Span). slice_get ss t) h.spans ∙ w.step.tables.spans.each t l
         ∙ ap (λ (s : Shape). Some (span_shape w.before.abi s)) (sym (kept w.before g t w.grows (subst (λ n. t < n) w.step.all_types l)))
         ∙ ap (λ (abi : Abi). Some (span_shape abi (shape g.nodes t))) (sym w.grows.abi)
 
 -- what the tables give is what the arena defines
-module _ (l : Layouts) (g : Graph) (arena : IsArena g) (t : AreTables l g) (all : length l.spans.items ≡ length g.nodes) (done : l.completed ≡ length g.completed) where
+module _ (l : Layouts) (g : Graph) (arena : IsArena g) (t : AreTables l g) (all : length l.spans ≡ length g.nodes) (done : l.completed ≡ length g.completed) where
   part_full : (b : ℕ) → part g l.completed b ≡ whole_of (agg_layout g b)
   unfolding part
   part_full b = by (cases (length g.completed) (rank g.completed b))
@@ -144,7 +143,7 @@ module _ (l : Layouts) (g : Graph) (arena : IsArena g) (t : AreTables l g) (all 
               let listed : rank g.completed b < length g.completed = (arena.nested b ms.0 ms.1).0 in
               absurd (omega arith)
 
-  whole_full : whole_found l.aggs.items ≡ (λ b. option_map capped (whole_of (agg_layout g b)))
+  whole_full : whole_found l.aggs ≡ (λ b. option_map capped (whole_of (agg_layout g b)))
   whole_full = found_parts l g t ∙ fun_ext (λ b. ap (option_map capped) (part_full b))
 
   pub found_is : (s : ℕ) → found l s ≡ option_map capped (layout g s)
@@ -152,14 +151,14 @@ module _ (l : Layouts) (g : Graph) (arena : IsArena g) (t : AreTables l g) (all 
     where
       by : (length g.nodes ≤ s) ⊎ (s < length g.nodes) → found l s ≡ option_map capped (layout g s)
       by (inl h) =
-          ap (option_and_then (resolve (whole_found l.aggs.items))) (slice_get_past l.spans.items s (omega (arith, all)))
+          ap (option_and_then (resolve (whole_found l.aggs))) (slice_get_past l.spans s (omega (arith, all)))
           ∙ sym (ap (λ (x : Shape). option_map capped (layout_in g.abi (λ b. whole_of (agg_layout g b)) x)) (shape_past g.nodes s h))
       by (inr h) =
-          ap (option_and_then (resolve (whole_found l.aggs.items))) (t.spans.each s (omega (arith, all)))
+          ap (option_and_then (resolve (whole_found l.aggs))) (t.spans.each s (omega (arith, all)))
           ∙ ap (λ (f : ℕ → Option Layout). resolve f (span_shape g.abi (shape g.nodes s))) whole_full
           ∙ resolve_span g.abi (λ b. whole_of (agg_layout g b)) (shape g.nodes s)
 
-  pub whole_is : (b : ℕ) → whole_found l.aggs.items b ≡ option_map capped (whole_of (agg_layout g b))
+  pub whole_is : (b : ℕ) → whole_found l.aggs b ≡ option_map capped (whole_of (agg_layout g b))
   whole_is b = ap (λ (f : ℕ → Option Layout). f b) whole_full
 
 -- sizes below the limit
@@ -240,27 +239,27 @@ fewer (Some x) k m h e =
     products a b c q = grind arith
 
 -- nothing new is too big, and nothing was
-old_fit : (old new : Layouts) (g : Graph) → IsArena g → WereInStep old g → AddsLayouts old new g → AggsFit new g old.completed → (t : ℕ) → t < length old.spans.items → is_large (found new t) ≡ false
+old_fit : (old new : Layouts) (g : Graph) → IsArena g → WereInStep old g → AddsLayouts old new g → AggsFit new g old.completed → (t : ℕ) → t < length old.spans → is_large (found new t) ≡ false
 old_fit old new g arena w h aggs t below = by (span_shape g.abi (shape g.nodes t)) refl
   where
-    old_span : slice_get old.spans.items t ≡ Some (span_shape g.abi (shape g.nodes t))
+    old_span : slice_get old.spans t ≡ Some (span_shape g.abi (shape g.nodes t))
     old_span =
         w.step.tables.spans.each t below
         ∙ ap (λ (s : Shape). Some (span_shape w.before.abi s)) (sym (kept w.before g t w.grows (subst (λ n. t < n) w.step.all_types below)))
         ∙ ap (λ (abi : Abi). Some (span_shape abi (shape g.nodes t))) (sym w.grows.abi)
 
-    within : t < length new.spans.items
+    within : t < length new.spans
     within =
         let more : length w.before.nodes ≤ length g.nodes = omega (arith, ap length w.grows.nodes.1, length-append w.before.nodes w.grows.nodes.0) in
         omega (arith, w.step.all_types, h.all)
 
-    new_found : (sp : Span) → span_shape g.abi (shape g.nodes t) ≡ sp → found new t ≡ resolve (whole_found new.aggs.items) sp
-    new_found sp e = ap (option_and_then (resolve (whole_found new.aggs.items))) (h.tables.spans.each t within ∙ ap Some e)
+    new_found : (sp : Span) → span_shape g.abi (shape g.nodes t) ≡ sp → found new t ≡ resolve (whole_found new.aggs) sp
+    new_found sp e = ap (option_and_then (resolve (whole_found new.aggs))) (h.tables.spans.each t within ∙ ap Some e)
 
-    old_found : (sp : Span) → span_shape g.abi (shape g.nodes t) ≡ sp → resolve (whole_found old.aggs.items) sp ≡ layout w.before t
-    old_found sp e = sym (ap (option_and_then (resolve (whole_found old.aggs.items))) (old_span ∙ ap Some e)) ∙ w.step.sizes t
+    old_found : (sp : Span) → span_shape g.abi (shape g.nodes t) ≡ sp → resolve (whole_found old.aggs) sp ≡ layout w.before t
+    old_found sp e = sym (ap (option_and_then (resolve (whole_found old.aggs))) (old_span ∙ ap Some e)) ∙ w.step.sizes t
 
-    same_agg : (a : ℕ) → rank g.completed a < old.completed → whole_found old.aggs.items a ≡ whole_found new.aggs.items a
+    same_agg : (a : ℕ) → rank g.completed a < old.completed → whole_found old.aggs a ≡ whole_found new.aggs a
     same_agg a l =
         let done : new.completed ≡ length g.completed = h.done in
         let more : length w.before.completed ≤ length g.completed = omega (arith, ap length w.grows.completed.1, length-append w.before.completed w.grows.completed.0) in
@@ -269,31 +268,31 @@ old_fit old new g arena w h aggs t below = by (span_shape g.abi (shape g.nodes t
         (w.step.tables.layouts a ∙ ap (λ i. known w.before i a) same ∙ known_grows w.before g w.arena w.grows a ∙ known_first g (length w.before.completed) a (omega arith)
         ∙ sym (h.tables.layouts a ∙ known_first g new.completed a (omega arith)))
 
-    no_agg : (a : ℕ) → length g.completed ≤ rank g.completed a → whole_found new.aggs.items a ≡ None
+    no_agg : (a : ℕ) → length g.completed ≤ rank g.completed a → whole_found new.aggs a ≡ None
     no_agg a l = let done : new.completed ≡ length g.completed = h.done in ap (option_map (λ (x : AggLayout). x.whole)) (h.tables.layouts a ∙ known_none g new.completed a (omega arith))
 
-    newer : (a : AggId) (k : ℕ) → k ≤ get_or new.most.items a.0 0 → old.completed ≤ rank g.completed a.0 → (length g.completed ≤ rank g.completed a.0) ⊎ (rank g.completed a.0 < length g.completed) → is_large (option_map (copies k) (whole_found new.aggs.items a.0)) ≡ false
+    newer : (a : AggId) (k : ℕ) → k ≤ get_or new.most.items a.0 0 → old.completed ≤ rank g.completed a.0 → (length g.completed ≤ rank g.completed a.0) ⊎ (rank g.completed a.0 < length g.completed) → is_large (option_map (copies k) (whole_found new.aggs a.0)) ≡ false
     newer a k m l (inl q) = ap (λ (o : Option Layout). is_large (option_map (copies k) o)) (no_agg a.0 q)
     newer a k m l (inr q) =
         let at = rank_get g.completed a.0 q in
-        fewer (whole_found new.aggs.items a.0) k (get_or new.most.items a.0 0) m
-        (subst (λ b. is_large (option_map (copies (get_or new.most.items b 0)) (whole_found new.aggs.items b)) ≡ false) at.2 (aggs.each (rank g.completed a.0) at.0 l at.1))
+        fewer (whole_found new.aggs a.0) k (get_or new.most.items a.0 0) m
+        (subst (λ b. is_large (option_map (copies (get_or new.most.items b 0)) (whole_found new.aggs b)) ≡ false) at.2 (aggs.each (rank g.completed a.0) at.0 l at.1))
 
     by : (sp : Span) → span_shape g.abi (shape g.nodes t) ≡ sp → is_large (found new t) ≡ false
     by Nothing e = ap is_large (new_found Nothing e)
     by (Fixed x) e = ap is_large (new_found (Fixed x) e ∙ old_found (Fixed x) e) ∙ not_large (layout w.before t) (λ y q. w.step.fit.each t y q)
     by (Copies a k) e = ap is_large (new_found (Copies a k) e) ∙ split (cases old.completed (rank g.completed a.0))
       where
-        split : (old.completed ≤ rank g.completed a.0) ⊎ (rank g.completed a.0 < old.completed) → is_large (option_map (copies k) (whole_found new.aggs.items a.0)) ≡ false
+        split : (old.completed ≤ rank g.completed a.0) ⊎ (rank g.completed a.0 < old.completed) → is_large (option_map (copies k) (whole_found new.aggs a.0)) ≡ false
         split (inl l) = newer a k (h.tables.most t a k (h.tables.spans.each t within ∙ ap Some e)) l (cases (length g.completed) (rank g.completed a.0))
         split (inr l) =
             ap (λ (o : Option Layout). is_large (option_map (copies k) o)) (sym (same_agg a.0 l)) ∙ ap is_large (old_found (Copies a k) e) ∙ not_large (layout w.before t) (λ y q. w.step.fit.each t y q)
 
-pub updated : (old new : Layouts) (g : Graph) → IsArena g → WereInStep old g → AddsLayouts old new g → FitsOrNew new g (length old.spans.items) old.completed → InStep new g
+pub updated : (old new : Layouts) (g : Graph) → IsArena g → WereInStep old g → AddsLayouts old new g → FitsOrNew new g (length old.spans) old.completed → InStep new g
 updated old new g arena w h (inl fit) = in_step_fit new g arena (record { tables = h.tables; all = h.all; done = h.done }) (λ t l. fit.each t (omega arith) (omega (arith, h.all)))
-updated old new g arena w h (inr (fit, aggs)) = in_step_fit new g arena (record { tables = h.tables; all = h.all; done = h.done }) (λ t l. one t l (cases (length old.spans.items) t))
+updated old new g arena w h (inr (fit, aggs)) = in_step_fit new g arena (record { tables = h.tables; all = h.all; done = h.done }) (λ t l. one t l (cases (length old.spans) t))
   where
-    one : (t : ℕ) → t < length g.nodes → (length old.spans.items ≤ t) ⊎ (t < length old.spans.items) → is_large (found new t) ≡ false
+    one : (t : ℕ) → t < length g.nodes → (length old.spans ≤ t) ⊎ (t < length old.spans) → is_large (found new t) ≡ false
     one t l (inl q) = fit.each t q (omega (arith, h.all))
     one t l (inr q) = old_fit old new g arena w h aggs t q
 
@@ -301,13 +300,13 @@ pub too_big : (old new : Layouts) (g : Graph) (t : ℕ) → IsArena g → AddsLa
 too_big old new g t arena h w = least_is new g t arena (record { tables = h.tables; all = h.all; done = h.done }) w
 
 -- layouts of nothing
-pub empty_in_step : (l : Layouts) (abi : Abi) → l.spans.items ≡ [] → l.aggs.items ≡ [] → l.most.items ≡ [] → l.completed ≡ 0 → InStep l (empty_graph abi)
+pub empty_in_step : (l : Layouts) (abi : Abi) → l.spans ≡ [] → l.aggs ≡ [] → l.most.items ≡ [] → l.completed ≡ 0 → InStep l (empty_graph abi)
 empty_in_step l abi spans aggs most done = in_step_fit l (empty_graph abi) (IsArena-empty (empty_graph abi) refl refl refl) (record {
   tables = record {
     spans = record { count = omega (arith, ap length spans); each = λ t h. absurd (omega (arith, ap length spans)) };
     aggs_count = ap length aggs;
     most_count = ap length most;
-    layouts = λ a. ap (λ (xs : List (Option AggregateLayout)). agg_found xs a) aggs ∙ sym (known_none (empty_graph abi) l.completed a (omega (arith, done)));
+    layouts = λ a. ap (λ (xs : List (Option AggLayout)). agg_found xs a) aggs ∙ sym (known_none (empty_graph abi) l.completed a (omega (arith, done)));
     most = λ t a k e. let none : None ≡ Some (Copies a k) = sym (ap (λ (ss : List Span). slice_get ss t) spans) ∙ e in cc;
     done = omega (arith, done);
   };
@@ -335,9 +334,9 @@ order_place g order i d e h = ap (λ (xs : List AggId). slice_get xs i) (sym e) 
 pub order_within : (l : Layouts) (g : Graph) → IsArena g → AreTables l g → (order : List AggId) (i : ℕ) (d : AggId) → order ≡ g.completed → i < length order → (get_or order i d).0 < length l.most.items
 order_within l g arena t order i d e h = subst (λ n. (get_or order i d).0 < n) (sym t.most_count) (completed_there g arena i (get_or order i d) (order_place g order i d e h))
 
-pub aggs_step : (l : Layouts) (g : Graph) → IsArena g → AreTables l g → (first i : ℕ) (d : AggId) (order : List AggId) (aggs : List (Option AggregateLayout)) (v : ℕ) (w c : Option Layout) (big : Bool) → order ≡ g.completed → i < length order → aggs ≡ l.aggs.items → v ≡ get_or l.most.items (get_or order i d).0 v → w ≡ whole_found aggs (get_or order i d).0 → c ≡ option_map (copies v) w → big ≡ is_large c → big ≡ false
-    → ((j : ℕ) (a : AggId) → first ≤ j → j < i → slice_get g.completed j ≡ Some a → is_large (option_map (copies (get_or l.most.items a.0 0)) (whole_found l.aggs.items a.0)) ≡ false)
-    → (j : ℕ) (a : AggId) → first ≤ j → j < i + 1 → slice_get g.completed j ≡ Some a → is_large (option_map (copies (get_or l.most.items a.0 0)) (whole_found l.aggs.items a.0)) ≡ false
+pub aggs_step : (l : Layouts) (g : Graph) → IsArena g → AreTables l g → (first i : ℕ) (d : AggId) (order : List AggId) (aggs : List (Option AggLayout)) (v : ℕ) (w c : Option Layout) (big : Bool) → order ≡ g.completed → i < length order → aggs ≡ l.aggs → v ≡ get_or l.most.items (get_or order i d).0 v → w ≡ whole_found aggs (get_or order i d).0 → c ≡ option_map (copies v) w → big ≡ is_large c → big ≡ false
+    → ((j : ℕ) (a : AggId) → first ≤ j → j < i → slice_get g.completed j ≡ Some a → is_large (option_map (copies (get_or l.most.items a.0 0)) (whole_found l.aggs a.0)) ≡ false)
+    → (j : ℕ) (a : AggId) → first ≤ j → j < i + 1 → slice_get g.completed j ≡ Some a → is_large (option_map (copies (get_or l.most.items a.0 0)) (whole_found l.aggs a.0)) ≡ false
 aggs_step l g arena t first i d order aggs v w c big eo h ea ev ew ec eb fine before j a f below at = by (cases i j)
   where
     b : AggId
@@ -346,19 +345,19 @@ aggs_step l g arena t first i d order aggs v w c big eo h ea ev ew ec eb fine be
     most : v ≡ get_or l.most.items (get_or order i d).0 0
     most = ev ∙ get_or_default_zero l.most.items (get_or order i d).0 v (order_within l g arena t order i d eo h)
 
-    last : is_large (option_map (copies (get_or l.most.items (get_or order i d).0 0)) (whole_found l.aggs.items (get_or order i d).0)) ≡ false
+    last : is_large (option_map (copies (get_or l.most.items (get_or order i d).0 0)) (whole_found l.aggs (get_or order i d).0)) ≡ false
     last =
-        ap (λ n. is_large (option_map (copies n) (whole_found l.aggs.items (get_or order i d).0))) (sym most)
-        ∙ ap (λ (xs : List (Option AggregateLayout)). is_large (option_map (copies v) (whole_found xs (get_or order i d).0))) (sym ea)
+        ap (λ n. is_large (option_map (copies n) (whole_found l.aggs (get_or order i d).0))) (sym most)
+        ∙ ap (λ (xs : List (Option AggLayout)). is_large (option_map (copies v) (whole_found xs (get_or order i d).0))) (sym ea)
         ∙ ap (λ (o : Option Layout). is_large (option_map (copies v) o)) (sym ew) ∙ ap is_large (sym ec) ∙ sym eb ∙ fine
 
-    by : (i ≤ j) ⊎ (j < i) → is_large (option_map (copies (get_or l.most.items a.0 0)) (whole_found l.aggs.items a.0)) ≡ false
+    by : (i ≤ j) ⊎ (j < i) → is_large (option_map (copies (get_or l.most.items a.0 0)) (whole_found l.aggs a.0)) ≡ false
     by (inr q) = before j a f q at
     by (inl q) =
         let here : i ≡ j = omega arith in
         let same : Some (get_or order i d) ≡ Some a = sym (order_place g order i d eo h) ∙ ap (slice_get g.completed) here ∙ at in
         let id : get_or order i d ≡ a = cc in
-        subst (λ (x : AggId). is_large (option_map (copies (get_or l.most.items x.0 0)) (whole_found l.aggs.items x.0)) ≡ false) id last
+        subst (λ (x : AggId). is_large (option_map (copies (get_or l.most.items x.0 0)) (whole_found l.aggs x.0)) ≡ false) id last
 
-pub aggs_fit_all : (l : Layouts) (g : Graph) (first i : ℕ) (order : List AggId) → order ≡ g.completed → length order ≤ i → ((j : ℕ) (a : AggId) → first ≤ j → j < i → slice_get g.completed j ≡ Some a → is_large (option_map (copies (get_or l.most.items a.0 0)) (whole_found l.aggs.items a.0)) ≡ false) → AggsFit l g first
+pub aggs_fit_all : (l : Layouts) (g : Graph) (first i : ℕ) (order : List AggId) → order ≡ g.completed → length order ≤ i → ((j : ℕ) (a : AggId) → first ≤ j → j < i → slice_get g.completed j ≡ Some a → is_large (option_map (copies (get_or l.most.items a.0 0)) (whole_found l.aggs a.0)) ≡ false) → AggsFit l g first
 aggs_fit_all l g first i order e h before = record { each = λ j a f at. let q : j < length g.completed = slice_get_within g.completed j a at in before j a f (omega (arith, ap length e)) at }

@@ -40,7 +40,7 @@ span_of abi at (Int kind) = Fixed (scalar (size_of kind))
 span_of abi at (Ptr q) = Fixed (scalar (pointer_size_of abi))
 span_of abi at (Array q None) = Nothing
 span_of abi at (Array q (Some n)) = times n (at q.of.0)
-span_of abi at (Func ret params proto variadic) = Nothing
+span_of abi at (Func proto variadic ret params) = Nothing
 span_of abi at (Agg a) = Copies a 1
 
 abbrev pub span_shape : Abi → Shape → Span

@@ -9,25 +9,26 @@ use Rattle.type_graph.specs.Arena.{Graph, IsArena, rank}
 use Rattle.type_graph.specs.Growth.{Grows}
 use Rattle.type_graph.specs.Layouts.{AggLayout, agg_layout, layout, offset}
 use Rattle.layout_lp64.specs.declared.layouts.Layouts.{Layouts}
-use Rattle.layout_lp64.specs.declared.placing.AggregateLayout.{AggregateLayout}
-use Rattle.layout_lp64.specs.Placements.{seen}
 use Rattle.layout_lp64.specs.declared.spans.Span.{Span}
 use Rattle.layout_lp64.specs.declared.spans.Span.TheVariants.{Copies}
 use Rattle.layout_lp64.specs.Capped.{capped_agg, span_shape, copies, resolve}
 
-abbrev pub agg_found : List (Option AggregateLayout) → ℕ → Option AggLayout
-agg_found aggs a = option_and_then (λ (o : Option AggregateLayout). option_map seen o) (slice_get aggs a)
+abbrev pub agg_found : List (Option AggLayout) → ℕ → Option AggLayout
+agg_found aggs a = option_and_then (λ (o : Option AggLayout). o) (slice_get aggs a)
 
-abbrev pub whole_found : List (Option AggregateLayout) → ℕ → Option Layout
+abbrev pub whole_found : List (Option AggLayout) → ℕ → Option Layout
 whole_found aggs a = option_map (λ (l : AggLayout). l.whole) (agg_found aggs a)
+
+abbrev pub offset_found : List (Option AggLayout) → ℕ → ℕ → Option ℕ
+offset_found aggs a i = option_and_then (λ (x : AggLayout). slice_get x.offsets i) (agg_found aggs a)
 
 -- the size and alignment that the layouts have for a type
 abbrev pub found : Layouts → ℕ → Option Layout
-found l t = option_and_then (resolve (whole_found l.aggs.items)) (slice_get l.spans.items t)
+found l t = option_and_then (resolve (whole_found l.aggs)) (slice_get l.spans t)
 
 -- the offset that they have for a member
 abbrev pub found_offset : Layouts → ℕ → ℕ → Option ℕ
-found_offset l a i = option_and_then (λ (x : AggLayout). slice_get x.offsets i) (agg_found l.aggs.items a)
+found_offset l a i = offset_found l.aggs a i
 
 -- the layout of an aggregate that is among the first i that were completed
 abbrev pub known : Graph → ℕ → ℕ → Option AggLayout
@@ -40,11 +41,11 @@ pub record AreSpans (spans : List Span) (g : Graph) : Type 0 where
 
 -- the tables are right for the first types and for the aggregates that were completed first
 pub record AreTables (l : Layouts) (g : Graph) : Type 0 where
-  pub spans : AreSpans l.spans.items g
-  pub aggs_count : length l.aggs.items ≡ length g.aggs
+  pub spans : AreSpans l.spans g
+  pub aggs_count : length l.aggs ≡ length g.aggs
   pub most_count : length l.most.items ≡ length g.aggs
-  pub layouts : (a : ℕ) → agg_found l.aggs.items a ≡ known g l.completed a
-  pub most : (t : ℕ) (a : AggId) (k : ℕ) → slice_get l.spans.items t ≡ Some (Copies a k) → k ≤ slice_index l.most.items a.0
+  pub layouts : (a : ℕ) → agg_found l.aggs a ≡ known g l.completed a
+  pub most : (t : ℕ) (a : AggId) (k : ℕ) → slice_get l.spans t ≡ Some (Copies a k) → k ≤ slice_index l.most.items a.0
   pub done : l.completed ≤ length g.completed
 
 -- no type of the graph has more bytes than an object may have
@@ -57,7 +58,7 @@ pub record InStep (l : Layouts) (g : Graph) : Type 0 where
   pub offsets : (t : ℕ) (a : AggId) → slice_get g.nodes t ≡ Some (Agg a) → (i : ℕ) → found_offset l a.0 i ≡ offset g a.0 i
   pub fit : AllFit g
   pub tables : AreTables l g
-  pub all_types : length l.spans.items ≡ length g.nodes
+  pub all_types : length l.spans ≡ length g.nodes
   pub all_aggs : l.completed ≡ length g.completed
 
 -- the layouts were in step with a graph that grew to this one
@@ -80,46 +81,46 @@ is_large None = false
 is_large (Some x) = nat_lt 2147483647 x.size
 
 -- what is known of layouts that are to be divided by: no alignment is 0
-pub record AreAligned (aggs : List (Option AggregateLayout)) : Type 0 where
+pub record AreAligned (aggs : List (Option AggLayout)) : Type 0 where
   pub each : (a : ℕ) (x : Layout) → whole_found aggs a ≡ Some x → 0 < x.align
 
 -- one more type has its span
 pub record AddsSpan (old new : Layouts) (g : Graph) : Type 0 where
   pub tables : AreTables new g
-  pub count : length new.spans.items ≡ suc (length old.spans.items)
+  pub count : length new.spans ≡ suc (length old.spans)
   pub done : new.completed ≡ old.completed
 
 -- one more aggregate has its layout
 pub record AddsLayout (old new : Layouts) (g : Graph) : Type 0 where
   pub tables : AreTables new g
-  pub count : length new.spans.items ≡ length old.spans.items
+  pub count : length new.spans ≡ length old.spans
   pub done : new.completed ≡ suc old.completed
 
 -- there are entries for all aggregates
 pub record AddsAggs (old new : Layouts) (g : Graph) : Type 0 where
   pub tables : AreTables new g
-  pub spans : new.spans.items ≡ old.spans.items
+  pub spans : new.spans ≡ old.spans
   pub done : new.completed ≡ old.completed
 
 -- there are spans of all types
 pub record AddsSpans (old new : Layouts) (g : Graph) : Type 0 where
   pub tables : AreTables new g
-  pub all : length new.spans.items ≡ length g.nodes
+  pub all : length new.spans ≡ length g.nodes
   pub done : new.completed ≡ old.completed
 
 -- there are layouts of all aggregates
 pub record AddsLayouts (old new : Layouts) (g : Graph) : Type 0 where
   pub tables : AreTables new g
-  pub all : length new.spans.items ≡ length g.nodes
+  pub all : length new.spans ≡ length g.nodes
   pub done : new.completed ≡ length g.completed
 
 -- no type from the first on is too big
 pub record TypesFit (l : Layouts) (first : ℕ) : Type 0 where
-  pub each : (t : ℕ) → first ≤ t → t < length l.spans.items → is_large (found l t) ≡ false
+  pub each : (t : ℕ) → first ≤ t → t < length l.spans → is_large (found l t) ≡ false
 
 -- no type made of an aggregate that was completed as the first or later is too big
 pub record AggsFit (l : Layouts) (g : Graph) (first : ℕ) : Type 0 where
-  pub each : (i : ℕ) (a : AggId) → first ≤ i → slice_get g.completed i ≡ Some a → is_large (option_map (copies (slice_index l.most.items a.0)) (whole_found l.aggs.items a.0)) ≡ false
+  pub each : (i : ℕ) (a : AggId) → first ≤ i → slice_get g.completed i ≡ Some a → is_large (option_map (copies (slice_index l.most.items a.0)) (whole_found l.aggs a.0)) ≡ false
 
 -- no type is too big, or none that is new
 abbrev pub FitsOrNew : Layouts → Graph → ℕ → ℕ → Type 0
@@ -132,9 +133,9 @@ pub record IsLeastLarge (l : Layouts) (t : ℕ) : Type 0 where
 
 -- there are i entries for aggregates, which say what the old ones said
 pub record Extended (old new : Layouts) (i : ℕ) : Type 0 where
-  pub spans : new.spans.items ≡ old.spans.items
+  pub spans : new.spans ≡ old.spans
   pub done : new.completed ≡ old.completed
-  pub aggs_count : length new.aggs.items ≡ i
+  pub aggs_count : length new.aggs ≡ i
   pub most_count : length new.most.items ≡ i
-  pub layouts : (a : ℕ) → agg_found new.aggs.items a ≡ agg_found old.aggs.items a
+  pub layouts : (a : ℕ) → agg_found new.aggs a ≡ agg_found old.aggs a
   pub most : (a : ℕ) → slice_index new.most.items a ≡ slice_index old.most.items a

@@ -11,8 +11,10 @@ ghost use Rattle.layout_lp64.specs.Tables.{agg_found, whole_found, found, found_
 ghost use Rattle.layout_lp64.specs.Stops.{StopsAt};
 ghost use Rattle.std.specs.Option.{option_and_then, option_map};
 
+use crate::aggregate_table::AggregateTable;
 use crate::arithmetic::{LIMIT, capped};
 use crate::placing::{AggregateLayout, Placing};
+use crate::span_table::SpanTable;
 use crate::spans::{Span, make_span};
 use cil_base::{AggId, IntKind, Memory, TypeId};
 use std::alloc::Global;
@@ -41,32 +43,21 @@ impl From<Memory> for LayoutStop {
 /// The layouts of a graph's types and aggregates.
 #[derive(Drop)]
 pub struct Layouts {
-    spans: Vec<Span>,
-    aggs: Vec<Option<AggregateLayout>>,
+    spans: SpanTable,
+    aggs: AggregateTable,
     most: Vec<u32>,
     completed: usize,
     alloc: Global,
 }
 
-/// The size and alignment of an aggregate.
-fn whole(aggs: &[Option<AggregateLayout>], a: AggId) -> Option<Layout>
-    ensures { result ≡ whole_found aggs.now a.0 }
-{
-    match aggs.get(a.0 as usize) {
-        Some(Some(l)) => Some(l.whole),
-        Some(None) => None,
-        None => None,
-    }
-}
-
 /// The size and alignment of a span.
-fn resolved(aggs: &[Option<AggregateLayout>], span: Span) -> Option<Layout>
+fn resolved(aggs: &AggregateTable, span: Span) -> Option<Layout>
     ensures { result ≡ resolve (whole_found aggs.now) span }
 {
     match span {
         Span::Nothing => None,
         Span::Fixed(l) => Some(l),
-        Span::Copies(a, count) => copied(whole(aggs, a), count),
+        Span::Copies(a, count) => copied(aggs.whole(a), count),
     }
 }
 
@@ -90,15 +81,15 @@ impl Layouts {
     {
         match self.spans.get(t.0 as usize) {
             None => None,
-            Some(span) => resolved(&self.aggs, *span),
+            Some(span) => resolved(&self.aggs, span),
         }
     }
 
     /// The layout of a member of a type, if it has one. A flexible array takes no room (C11 6.7.2.1p18).
     fn member(&self, g: &TypeGraph, t: TypeId) -> Option<Layout>
-        requires there { t.0 < length self.now.spans.items }
-        requires spans { AreSpans self.now.spans.items g.now }
-        ensures { result ≡ member_span g.now.abi (whole_found self.now.aggs.items) (shape g.now.nodes t.0) }
+        requires there { t.0 < length self.now.spans }
+        requires spans { AreSpans self.now.spans g.now }
+        ensures { result ≡ member_span g.now.abi (whole_found self.now.aggs) (shape g.now.nodes t.0) }
     {
         match g.node(t) {
             Node::Array(element, None) => without_elements(self.found(element.of)),
@@ -113,10 +104,10 @@ impl Layouts {
         over: bool,
         members: &[Member],
     ) -> Result<Option<AggregateLayout>, Memory>
-        requires there { (i : ℕ) (m : Member) → slice_get members.now i ≡ Some m → m.ty.of.0 < length self.now.spans.items }
-        requires spans { AreSpans self.now.spans.items g.now }
-        requires aligned { AreAligned self.now.aggs.items }
-        ensures { IfOk result (λ o. option_map seen o ≡ option_map capped_finished (capped_all over (λ (m : Member). member_span g.now.abi (whole_found self.now.aggs.items) (shape g.now.nodes m.ty.of.0)) nothing_placed members.now)) }
+        requires there { (i : ℕ) (m : Member) → slice_get members.now i ≡ Some m → m.ty.of.0 < length self.now.spans }
+        requires spans { AreSpans self.now.spans g.now }
+        requires aligned { AreAligned self.now.aggs }
+        ensures { IfOk result (λ o. option_map seen o ≡ option_map capped_finished (capped_all over (λ (m : Member). member_span g.now.abi (whole_found self.now.aggs) (shape g.now.nodes m.ty.of.0)) nothing_placed members.now)) }
     {
         let mut placing = Placing::new(self.alloc);
         for m in members {
@@ -148,10 +139,10 @@ impl Layouts {
         kind: AggKind,
         members: &[Member],
     ) -> Result<Option<AggregateLayout>, Memory>
-        requires there { (i : ℕ) (m : Member) → slice_get members.now i ≡ Some m → m.ty.of.0 < length self.now.spans.items }
-        requires spans { AreSpans self.now.spans.items g.now }
-        requires aligned { AreAligned self.now.aggs.items }
-        ensures { IfOk result (λ o. option_map seen o ≡ capped_members kind (λ (m : Member). member_span g.now.abi (whole_found self.now.aggs.items) (shape g.now.nodes m.ty.of.0)) members.now) }
+        requires there { (i : ℕ) (m : Member) → slice_get members.now i ≡ Some m → m.ty.of.0 < length self.now.spans }
+        requires spans { AreSpans self.now.spans g.now }
+        requires aligned { AreAligned self.now.aggs }
+        ensures { IfOk result (λ o. option_map seen o ≡ capped_members kind (λ (m : Member). member_span g.now.abi (whole_found self.now.aggs) (shape g.now.nodes m.ty.of.0)) members.now) }
     {
         match kind {
             AggKind::Struct => self.placed(g, false, members),
@@ -164,10 +155,10 @@ impl Layouts {
     fn aggregate(&self, g: &TypeGraph, a: AggId) -> Result<Option<AggregateLayout>, Memory>
         requires arena { IsArena g.now }
         requires there { a.0 < length g.now.aggs }
-        requires spans { AreSpans self.now.spans.items g.now }
-        requires all { length self.now.spans.items ≡ length g.now.nodes }
-        requires aligned { AreAligned self.now.aggs.items }
-        ensures { IfOk result (λ o. option_map seen o ≡ option_and_then (capped_aggregate g.now.abi g.now.nodes (whole_found self.now.aggs.items)) (slice_get g.now.aggs a.0)) }
+        requires spans { AreSpans self.now.spans g.now }
+        requires all { length self.now.spans ≡ length g.now.nodes }
+        requires aligned { AreAligned self.now.aggs }
+        ensures { IfOk result (λ o. option_map seen o ≡ option_and_then (capped_aggregate g.now.abi g.now.nodes (whole_found self.now.aggs)) (slice_get g.now.aggs a.0)) }
     {
         let aggregate = g.agg(a);
         match &aggregate.members {
@@ -180,7 +171,7 @@ impl Layouts {
     fn add_span(&mut self, g: &TypeGraph, t: TypeId) -> Result<(), Memory>
         requires arena { IsArena g.now }
         requires tables { AreTables self.old g.now }
-        requires next { t.0 ≡ length self.old.spans.items }
+        requires next { t.0 ≡ length self.old.spans }
         requires there { t.0 < length g.now.nodes }
         ensures { OnOk result (AddsSpan self.old self.new g.now) }
     {
@@ -197,12 +188,12 @@ impl Layouts {
     fn add_layout(&mut self, g: &TypeGraph, a: AggId) -> Result<(), Memory>
         requires arena { IsArena g.now }
         requires tables { AreTables self.old g.now }
-        requires all { length self.old.spans.items ≡ length g.now.nodes }
+        requires all { length self.old.spans ≡ length g.now.nodes }
         requires next { slice_get g.now.completed self.old.completed ≡ Some a }
         ensures { OnOk result (AddsLayout self.old self.new g.now) }
     {
         let layout = self.aggregate(g, a)?;
-        self.aggs[a.0 as usize] = layout;
+        self.aggs.set(a, &layout)?;
         self.completed += 1;
         Ok(())
     }
@@ -214,7 +205,7 @@ impl Layouts {
         ensures { OnOk result (AddsAggs self.old self.new g.now) }
     {
         for _i in self.aggs.len()..count {
-            self.aggs.push(None)?;
+            self.aggs.push_incomplete()?;
             self.most.push(0)?;
         }
         Ok(())
@@ -236,7 +227,7 @@ impl Layouts {
     fn add_layouts(&mut self, g: &TypeGraph) -> Result<(), Memory>
         requires arena { IsArena g.now }
         requires tables { AreTables self.old g.now }
-        requires all { length self.old.spans.items ≡ length g.now.nodes }
+        requires all { length self.old.spans ≡ length g.now.nodes }
         ensures { OnOk result (AddsLayouts self.old self.new g.now) }
     {
         let order = g.completed();
@@ -248,7 +239,7 @@ impl Layouts {
 
     /// Whether no type from the first on is too big.
     fn types_fit(&self, first: usize) -> bool
-        requires { length self.now.spans.items < 2 ^ 32 }
+        requires { length self.now.spans < 2 ^ 32 }
         ensures { IsTrue result → TypesFit self.now first }
     {
         for t in first..self.spans.len() {
@@ -269,7 +260,7 @@ impl Layouts {
         for i in first..order.len() {
             let a = order[i];
             let most = self.most[a.0 as usize];
-            if large(copied(whole(&self.aggs, a), most)) {
+            if large(copied(self.aggs.whole(a), most)) {
                 return false;
             }
         }
@@ -278,7 +269,7 @@ impl Layouts {
 
     /// The least type that is too big.
     fn least_large(&self) -> Option<TypeId>
-        requires { length self.now.spans.items < 2 ^ 32 }
+        requires { length self.now.spans < 2 ^ 32 }
         ensures { MatchOption result (TypesFit self.now 0) (λ t. IsLeastLarge self.now t.0) }
     {
         for t in 0..self.spans.len() {
@@ -294,7 +285,7 @@ impl Layouts {
     fn checked(&self, g: &TypeGraph, first: usize, completed: usize) -> Option<TypeId>
         requires arena { IsArena g.now }
         requires tables { AreTables self.now g.now }
-        requires all { length self.now.spans.items ≡ length g.now.nodes }
+        requires all { length self.now.spans ≡ length g.now.nodes }
         ensures { MatchOption result (FitsOrNew self.now g.now first completed) (λ t. IsLeastLarge self.now t.0) }
     {
         if self.types_fit(first) && self.aggs_fit(g, completed) {
@@ -339,8 +330,8 @@ impl Layouts {
         ensures { (abi : Abi) → InStep result (empty_graph abi) }
     {
         Layouts {
-            spans: Vec::new(alloc),
-            aggs: Vec::new(alloc),
+            spans: SpanTable::new(alloc),
+            aggs: AggregateTable::new(alloc),
             most: Vec::new(alloc),
             completed: 0,
             alloc,
@@ -386,10 +377,7 @@ impl Layouts {
         requires { IsSome (found_offset self.now a.0 member) }
         ensures { found_offset self.now a.0 member ≡ Some result }
     {
-        match &self.aggs[a.0 as usize] {
-            Some(l) => l.offsets[member as usize],
-            None => unreachable!(),
-        }
+        self.aggs.offset(a, member)
     }
 }
 

@@ -6,9 +6,11 @@
 //! The rules come from C11 6.5.3.4 and 6.7.2.1; the numbers are own (LP64).
 #![tactic(auto)]
 
+mod aggregate_table;
 mod arithmetic;
 mod layouts;
 mod placing;
+mod span_table;
 mod spans;
 mod types;
 

@@ -5,6 +5,7 @@ ghost use Rattle.layout_lp64.specs.declared.spans.Span.TheVariants.{Nothing};
 ghost use Rattle.std.specs.Prelude.{ℕ};
 
 use crate::arithmetic::capped;
+use crate::span_table::SpanTable;
 use cil_base::{Abi, AggId};
 use type_graph::{Layout, Node};
 
@@ -43,7 +44,7 @@ fn times(n: u64, span: Span) -> Span
 }
 
 /// The span of a type, from those of the types that it names.
-pub(crate) fn make_span(abi: Abi, spans: &[Span], n: &Node) -> Span
+pub(crate) fn make_span(abi: Abi, spans: &SpanTable, n: &Node) -> Span
     requires { (m : ℕ) × NamesBelow (length spans.now) m n.now }
     ensures { result ≡ span_of abi (λ k. slice_index_or spans.now k Nothing) n.now }
 {
@@ -51,7 +52,7 @@ pub(crate) fn make_span(abi: Abi, spans: &[Span], n: &Node) -> Span
         Node::Void | Node::Func { .. } | Node::Array(_, None) => Span::Nothing,
         Node::Int(kind) => scalar(kind.size()),
         Node::Ptr(_) => scalar(abi.pointer_size()),
-        Node::Array(element, Some(count)) => times(*count, spans[element.of.0 as usize]),
+        Node::Array(element, Some(count)) => times(*count, spans.at(element.of.0 as usize)),
         Node::Agg(a) => Span::Copies(*a, 1),
     }
 }

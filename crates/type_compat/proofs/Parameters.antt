@@ -27,7 +27,7 @@ pub each_more : (n m : ℕ) (ts : List TypeId) → n ≤ m → EachType n ts →
 each_more n m [] l h = tt
 each_more n m (t ∷ ts) l h = let first : t.0 < n = h.0 in (omega arith, each_more n m ts l h.1)
 
-pub func_names : (n m : ℕ) (x : Node) (ret : TypeId) (params : List TypeId) (proto variadic : Bool) → x ≡ Func ret params proto variadic → NamesBelow n m x → (ret.0 < n) × EachType n params
+pub func_names : (n m : ℕ) (x : Node) (ret : TypeId) (params : List TypeId) (proto variadic : Bool) → x ≡ Func proto variadic ret params → NamesBelow n m x → (ret.0 < n) × EachType n params
 func_names n m x ret params proto variadic e h = subst (NamesBelow n m) e h
 
 -- the measure of a function's parts is below that of the function

@@ -2,20 +2,16 @@
 use Rattle.std.proofs.Common.{◌≡◌, ℕ, Bool, true, false, ◌&&◌, Option, Some, None, List, refl, sym, ap, ◌∙◌, eqb, eqb-true, eq-eqb}
 use Rattle.std.specs.Cmp.{booleans_Decides}
 use mathlib.Core.Bool.{beq}
-use Rattle.cil_base.specs.declared.kinds.IntKind.{IntKind}
-use Rattle.cil_base.specs.declared.kinds.IntKind.TheVariants as kind
+use denote.Enum.Bare.{true_same}
+use Rattle.cil_base.specs.contracts.kinds.IntKind.{the_type}
 use Rattle.type_graph.specs.declared.aggregates.Aggregate.{Aggregate}
 use Rattle.type_graph.specs.declared.nodes.Node.{Node}
 use Rattle.type_graph.specs.declared.nodes.Quals.{Quals}
 use Rattle.type_graph.specs.Shapes.{Shape, Shapes, VoidType, IntType, PtrType, ArrayType, FuncType, AggType, NoTypes, MoreTypes, shape}
-use Rattle.type_compat.specs.Kinds.{same_kind}
 use Rattle.type_compat.specs.Compatible.{same_quals, same_bounds, compatible_shape, compatible_shapes}
 
 joined : (p q : Bool) → p ≡ true → q ≡ true → p && q ≡ true
 joined p q e f = ap (λ b. b && q) e ∙ f
-
-kind_itself : (k : IntKind) → same_kind k k ≡ true
-kind_itself k = elim k as (λ v. same_kind v v ≡ true) [ kind.Bool ↦ refl | kind.Char ↦ refl | kind.SChar ↦ refl | kind.UChar ↦ refl | kind.Short ↦ refl | kind.UShort ↦ refl | kind.Int ↦ refl | kind.UInt ↦ refl | kind.Long ↦ refl | kind.ULong ↦ refl | kind.LLong ↦ refl | kind.ULLong ↦ refl ]
 
 bool_itself : (b : Bool) → beq b b ≡ true
 bool_itself b = (booleans_Decides b b).1 refl
@@ -30,7 +26,7 @@ bounds_itself (Some m) = eq-eqb m m refl
 mutual
   pub itself : (aggs : List Aggregate) (s : Shape) → compatible_shape aggs s s ≡ true
   itself aggs VoidType = refl
-  itself aggs (IntType k) = kind_itself k
+  itself aggs (IntType k) = true_same the_type k k refl
   itself aggs (PtrType q s) = joined (same_quals q q) (compatible_shape aggs s s) (quals_itself q) (itself aggs s)
   itself aggs (ArrayType q s m) = joined (same_quals q q) (same_bounds m m && compatible_shape aggs s s) (quals_itself q) (joined (same_bounds m m) (compatible_shape aggs s s) (bounds_itself m) (itself aggs s))
   itself aggs (FuncType r ps true v) = joined (compatible_shape aggs r r) (beq v v && compatible_shapes aggs ps ps) (itself aggs r) (joined (beq v v) (compatible_shapes aggs ps ps) (bool_itself v) (all_itself aggs ps))

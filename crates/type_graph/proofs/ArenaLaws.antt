@@ -21,7 +21,7 @@ NamesBelow-more n m k Void l h = tt
 NamesBelow-more n m k (Int kind) l h = tt
 NamesBelow-more n m k (Ptr q) l h = h
 NamesBelow-more n m k (Array q bound) l h = h
-NamesBelow-more n m k (Func ret params proto variadic) l h = h
+NamesBelow-more n m k (Func proto variadic ret params) l h = h
 NamesBelow-more n m k (Agg a) l h = omega arith
 
 EachBelow-nodes : (ns more : List Node) (order : List AggId) (r : ℕ) (ms : List Member) → EachBelow ns order r ms → EachBelow (ns ++ more) order r ms

@@ -1,6 +1,7 @@
 pub mod Lists
 pub mod ShapeLaws
 pub mod NodeEquality
+mod ChainLaws
 pub mod ArenaLaws
 pub mod GrowthLaws
 pub mod StepLaws

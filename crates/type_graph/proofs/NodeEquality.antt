@@ -7,12 +7,10 @@ use Rattle.std.specs.Cmp.{booleans_Decides}
 use Rattle.std.specs.Cmp.Lexicographic.{pointwise}
 use Rattle.std.specs.Option.{option_eq}
 use Rattle.std.specs.Ordering.{on}
-use denote.Enum.Bare.{same_true}
+use denote.Enum.Bare.{same_true, true_same}
 use Rattle.cil_base.specs.contracts.kinds.IntKind.{the_type}
 use Rattle.cil_base.specs.declared.numbers.TypeId.{TypeId}
 use Rattle.cil_base.specs.declared.numbers.AggId.{AggId}
-use Rattle.cil_base.specs.declared.kinds.IntKind.{IntKind}
-use Rattle.cil_base.specs.declared.kinds.IntKind.TheVariants as kind
 use Rattle.type_graph.proofs.Lists.{position_passes}
 use Rattle.type_graph.specs.declared.nodes.Quals.{Quals}
 use Rattle.type_graph.specs.declared.nodes.QualType.{QualType}
@@ -66,12 +64,12 @@ eq_tells (Array q m) (Array r n) e =
     let h = both _ _ l.0 in
     let k = both _ _ h.0 in
     ap (λ (p : QualType). Array p m) (same_type q r ((booleans_Decides _ _).0 k.0) ((booleans_Decides _ _).0 k.1) (eqb-true _ _ h.1)) ∙ ap (Array r) (same_bound m n l.1)
-eq_tells (Func r p v w) (Func s q x y) e =
+eq_tells (Func v w r p) (Func x y s q) e =
     let h = both _ _ e in
     let k = both _ _ h.1 in
     let l = both _ _ k.1 in
-    ap (λ (t : TypeId). Func t p v w) (same_id r s (eqb-true _ _ h.0)) ∙ ap (λ (ts : List TypeId). Func s ts v w) (same_list p q k.0)
-    ∙ ap (λ (b : Bool). Func s q b w) ((booleans_Decides v x).0 l.0) ∙ ap (λ (b : Bool). Func s q x b) ((booleans_Decides w y).0 l.1)
+    ap (λ (b : Bool). Func b w r p) ((booleans_Decides v x).0 h.0) ∙ ap (λ (b : Bool). Func x b r p) ((booleans_Decides w y).0 k.0)
+    ∙ ap (λ (t : TypeId). Func x y t p) (same_id r s (eqb-true _ _ l.0)) ∙ ap (λ (ts : List TypeId). Func x y s ts) (same_list p q l.1)
 eq_tells (Agg a) (Agg b) e = ap Agg (same_agg a b (eqb-true _ _ e))
 eq_tells x y e = cc
 
@@ -83,18 +81,15 @@ same_bound_same : (m : Option ℕ) → option_eq eqb m m ≡ true
 same_bound_same None = refl
 same_bound_same (Some m) = eq-eqb m m refl
 
-same_kind_same : (k : IntKind) → ghosts.eq (Int k) (Int k) ≡ true
-same_kind_same k = elim k as (λ v. ghosts.eq (Int v) (Int v) ≡ true) [ kind.Bool ↦ refl | kind.Char ↦ refl | kind.SChar ↦ refl | kind.UChar ↦ refl | kind.Short ↦ refl | kind.UShort ↦ refl | kind.Int ↦ refl | kind.UInt ↦ refl | kind.Long ↦ refl | kind.ULong ↦ refl | kind.LLong ↦ refl | kind.ULLong ↦ refl ]
-
 same_quals_same : (p : Quals) (k : ℕ) → beq p.constant p.constant && beq p.restricted p.restricted && eqb k k ≡ true
 same_quals_same p k = joined _ _ (joined _ _ ((booleans_Decides _ _).1 refl) ((booleans_Decides _ _).1 refl)) (eq-eqb k k refl)
 
 pub eq_same : (x : Node) → ghosts.eq x x ≡ true
 eq_same Void = refl
-eq_same (Int k) = same_kind_same k
+eq_same (Int k) = true_same the_type k k refl
 eq_same (Ptr q) = same_quals_same q.quals q.of.0
 eq_same (Array q m) = joined _ _ (same_quals_same q.quals q.of.0) (same_bound_same m)
-eq_same (Func r p v w) = joined _ _ (eq-eqb r.0 r.0 refl) (joined _ _ (same_list_same p) (joined _ _ ((booleans_Decides v v).1 refl) ((booleans_Decides w w).1 refl)))
+eq_same (Func v w r p) = joined _ _ ((booleans_Decides v v).1 refl) (joined _ _ ((booleans_Decides w w).1 refl) (joined _ _ (eq-eqb r.0 r.0 refl) (same_list_same p)))
 eq_same (Agg a) = eq-eqb a.0 a.0 refl
 
 -- a node that stands nowhere is not found, and one that is not found stands nowhere

@@ -47,13 +47,13 @@ node_same at m n Void Void apart h k e = refl
 node_same at m n Void (Int j) apart h k e = cc
 node_same at m n Void (Ptr q) apart h k e = cc
 node_same at m n Void (Array q c) apart h k e = cc
-node_same at m n Void (Func s qs d w) apart h k e = cc
+node_same at m n Void (Func d w s qs) apart h k e = cc
 node_same at m n Void (Agg b) apart h k e = cc
 node_same at m n (Int i) Void apart h k e = cc
 node_same at m n (Int i) (Int j) apart h k e = let same : i ≡ j = cc in ap Int same
 node_same at m n (Int i) (Ptr q) apart h k e = cc
 node_same at m n (Int i) (Array q c) apart h k e = cc
-node_same at m n (Int i) (Func s qs d w) apart h k e = cc
+node_same at m n (Int i) (Func d w s qs) apart h k e = cc
 node_same at m n (Int i) (Agg b) apart h k e = cc
 node_same at m n (Ptr p) Void apart h k e = cc
 node_same at m n (Ptr p) (Int j) apart h k e = cc
@@ -62,7 +62,7 @@ node_same at m n (Ptr p) (Ptr q) apart h k e =
     let of : at p.of.0 ≡ at q.of.0 = cc in
     ap Ptr (qual_same p q quals (apart p.of.0 q.of.0 h k of))
 node_same at m n (Ptr p) (Array q c) apart h k e = cc
-node_same at m n (Ptr p) (Func s qs d w) apart h k e = cc
+node_same at m n (Ptr p) (Func d w s qs) apart h k e = cc
 node_same at m n (Ptr p) (Agg b) apart h k e = cc
 node_same at m n (Array p a) Void apart h k e = cc
 node_same at m n (Array p a) (Int j) apart h k e = cc
@@ -72,27 +72,27 @@ node_same at m n (Array p a) (Array q c) apart h k e =
     let of : at p.of.0 ≡ at q.of.0 = cc in
     let bound : a ≡ c = cc in
     ap (λ (o : QualType). Array o a) (qual_same p q quals (apart p.of.0 q.of.0 h k of)) ∙ ap (λ (o : Option ℕ). Array q o) bound
-node_same at m n (Array p a) (Func s qs d w) apart h k e = cc
+node_same at m n (Array p a) (Func d w s qs) apart h k e = cc
 node_same at m n (Array p a) (Agg b) apart h k e = cc
-node_same at m n (Func r ps c v) Void apart h k e = cc
-node_same at m n (Func r ps c v) (Int j) apart h k e = cc
-node_same at m n (Func r ps c v) (Ptr q) apart h k e = cc
-node_same at m n (Func r ps c v) (Array q b) apart h k e = cc
-node_same at m n (Func r ps c v) (Func s qs d w) apart h k e =
+node_same at m n (Func c v r ps) Void apart h k e = cc
+node_same at m n (Func c v r ps) (Int j) apart h k e = cc
+node_same at m n (Func c v r ps) (Ptr q) apart h k e = cc
+node_same at m n (Func c v r ps) (Array q b) apart h k e = cc
+node_same at m n (Func c v r ps) (Func d w s qs) apart h k e =
     let ret : at r.0 ≡ at s.0 = cc in
     let params : shapes_of at ps ≡ shapes_of at qs = cc in
     let proto : c ≡ d = cc in
     let variadic : v ≡ w = cc in
-    ap (λ (t : TypeId). Func t ps c v) (type_same r s (apart r.0 s.0 h.0 k.0 ret))
-    ∙ ap (λ (ts : List TypeId). Func s ts c v) (list_same at m ps qs apart h.1 k.1 params)
-    ∙ ap (λ (b : Bool). Func s qs b v) proto
-    ∙ ap (λ (b : Bool). Func s qs d b) variadic
-node_same at m n (Func r ps c v) (Agg b) apart h k e = cc
+    ap (λ (t : TypeId). Func c v t ps) (type_same r s (apart r.0 s.0 h.0 k.0 ret))
+    ∙ ap (λ (ts : List TypeId). Func c v s ts) (list_same at m ps qs apart h.1 k.1 params)
+    ∙ ap (λ (b : Bool). Func b v s qs) proto
+    ∙ ap (λ (b : Bool). Func d b s qs) variadic
+node_same at m n (Func c v r ps) (Agg b) apart h k e = cc
 node_same at m n (Agg a) Void apart h k e = cc
 node_same at m n (Agg a) (Int j) apart h k e = cc
 node_same at m n (Agg a) (Ptr q) apart h k e = cc
 node_same at m n (Agg a) (Array q c) apart h k e = cc
-node_same at m n (Agg a) (Func s qs d w) apart h k e = cc
+node_same at m n (Agg a) (Func d w s qs) apart h k e = cc
 node_same at m n (Agg a) (Agg b) apart h k e = let same : a.0 ≡ b.0 = cc in ap Agg (agg_same a b same)
 
 each_more : (n m : ℕ) (ts : List TypeId) → n ≤ m → EachType n ts → EachType m ts
@@ -104,7 +104,7 @@ names_more n m k Void l h = tt
 names_more n m k (Int kind) l h = tt
 names_more n m k (Ptr q) l h = let within : q.of.0 < n = h in omega arith
 names_more n m k (Array q bound) l h = let within : q.of.0 < n = h in omega arith
-names_more n m k (Func ret params proto variadic) l h = let within : ret.0 < n = h.0 in (omega arith, each_more n m params l h.1)
+names_more n m k (Func proto variadic ret params) l h = let within : ret.0 < n = h.0 in (omega arith, each_more n m params l h.1)
 names_more n m k (Agg a) l h = h
 
 apart_below : (g : Graph) → IsArena g → (n : ℕ) → n ≤ length g.nodes → Apart (shape g.nodes) n

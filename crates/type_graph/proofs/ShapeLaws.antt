@@ -21,7 +21,7 @@ shape_of-same f g n m Void h e = refl
 shape_of-same f g n m (Int kind) h e = refl
 shape_of-same f g n m (Ptr q) h e = ap (PtrType q.quals) (e q.of.0 h)
 shape_of-same f g n m (Array q bound) h e = ap (λ s. ArrayType q.quals s bound) (e q.of.0 h)
-shape_of-same f g n m (Func ret params proto variadic) h e = ap (λ s. FuncType s (shapes_of f params) proto variadic) (e ret.0 h.0) ∙ ap (λ (ss : Shapes). FuncType (g ret.0) ss proto variadic) (shapes_of-same f g n params h.1 e)
+shape_of-same f g n m (Func proto variadic ret params) h e = ap (λ s. FuncType s (shapes_of f params) proto variadic) (e ret.0 h.0) ∙ ap (λ (ss : Shapes). FuncType (g ret.0) ss proto variadic) (shapes_of-same f g n params h.1 e)
 shape_of-same f g n m (Agg a) h e = refl
 
 at : List Shape → ℕ → Shape

@@ -40,7 +40,7 @@ NamesBelow n m Void = Unit {0}
 NamesBelow n m (Int kind) = Unit {0}
 NamesBelow n m (Ptr q) = q.of.0 < n
 NamesBelow n m (Array q bound) = q.of.0 < n
-NamesBelow n m (Func ret params proto variadic) = (ret.0 < n) × EachType n params
+NamesBelow n m (Func proto variadic ret params) = (ret.0 < n) × EachType n params
 NamesBelow n m (Agg a) = a.0 < m
 
 -- an integer kind is one of the data model
@@ -49,7 +49,7 @@ HasKind abi (Int kind) = has_kind abi kind ≡ true
 HasKind abi Void = Unit {0}
 HasKind abi (Ptr q) = Unit {0}
 HasKind abi (Array q bound) = Unit {0}
-HasKind abi (Func ret params proto variadic) = Unit {0}
+HasKind abi (Func proto variadic ret params) = Unit {0}
 HasKind abi (Agg a) = Unit {0}
 
 -- complete object types (6.2.5p1): not void (p19), no array of unknown bound (p22), no aggregate before its end (p22), no function

@@ -3,3 +3,5 @@ pub mod Arena
 pub mod Renaming
 pub mod Growth
 pub mod Layouts
+pub mod Linked
+pub mod Kept

@@ -31,7 +31,7 @@ shape_of at Void = VoidType
 shape_of at (Int kind) = IntType kind
 shape_of at (Ptr q) = PtrType q.quals (at q.of.0)
 shape_of at (Array q bound) = ArrayType q.quals (at q.of.0) bound
-shape_of at (Func ret params proto variadic) = FuncType (at ret.0) (shapes_of at params) proto variadic
+shape_of at (Func proto variadic ret params) = FuncType (at ret.0) (shapes_of at params) proto variadic
 shape_of at (Agg a) = AggType a.0
 
 -- the shapes of nodes, each of which names only earlier ones

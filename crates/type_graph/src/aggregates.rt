@@ -1,5 +1,6 @@
 ghost use Rattle.std.specs.Prelude.{◌≡◌, List, length};
 ghost use Rattle.type_graph.specs.Renaming.{renamed_members};
+ghost use Rattle.type_graph.specs.Kept.{members_in};
 
 use crate::nodes::QualType;
 use cil_base::NameId;
@@ -31,19 +32,58 @@ impl Member {
     }
 }
 
+/// Members in order. One or two stand in the value itself, so that they need no block of memory.
+#[derive(Debug, Drop)]
+enum Kept {
+    One([Member; 1]),
+    Two([Member; 2]),
+    Any(Vec<Member>),
+}
+
 /// The members of an aggregate in order, which contracts see as a list.
 #[derive(Debug, Drop)]
 pub struct Members {
-    kept: Vec<Member>,
+    kept: Kept,
 }
 
 impl Model for Members {
     ghost use Rattle.std.specs.Prelude.{List};
     ghost use Rattle.type_graph.specs.declared.aggregates.Member.{Member};
+    ghost use Rattle.type_graph.specs.Kept.{members_in};
 
     ghost Value = { List Member };
 
-    ghost view = { λ l. l.kept.items };
+    ghost view = { λ l. members_in l.kept };
+}
+
+/// Gives members other names, in order.
+fn rename_all(members: &mut [Member], names: &[NameId])
+    requires { length members.old ≡ length names.now }
+    ensures { members.new ≡ renamed_members members.old names.now }
+{
+    for i in 0..names.len() {
+        members[i].name = names[i];
+    }
+}
+
+/// Members in their place, without the room that a vector has for more.
+fn kept_in(members: Vec<Member>) -> Kept
+    ensures { members_in result ≡ members.items }
+{
+    match members.as_slice() {
+        [only] => Kept::One([*only]),
+        [first, second] => Kept::Two([*first, *second]),
+        _ => fitted(members),
+    }
+}
+
+/// Members in a vector that has no room for more.
+fn fitted(members: Vec<Member>) -> Kept
+    ensures { members_in result ≡ members.items }
+{
+    let mut members = members;
+    members.shrink_to_fit();
+    Kept::Any(members)
 }
 
 impl Members {
@@ -51,16 +91,20 @@ impl Members {
     pub fn new(members: Vec<Member>) -> Self
         ensures { result ≡ members.items }
     {
-        let mut kept = members;
-        kept.shrink_to_fit();
-        Members { kept }
+        Members {
+            kept: kept_in(members),
+        }
     }
 
     /// The members, as a slice.
     pub fn as_slice(&self) -> &[Member]
         ensures { result.now ≡ self.now }
     {
-        &self.kept
+        match &self.kept {
+            Kept::One(members) => members.as_slice(),
+            Kept::Two(members) => members.as_slice(),
+            Kept::Any(members) => members.as_slice(),
+        }
     }
 
     /// Gives the members other names, in order.
@@ -68,8 +112,10 @@ impl Members {
         requires { length self.old ≡ length names.now }
         ensures { self.new ≡ renamed_members self.old names.now }
     {
-        for i in 0..names.len() {
-            self.kept[i].name = names[i];
+        match &mut self.kept {
+            Kept::One(members) => rename_all(members, names),
+            Kept::Two(members) => rename_all(members, names),
+            Kept::Any(members) => rename_all(members, names),
         }
     }
 }

@@ -9,9 +9,9 @@ ghost use Rattle.type_graph.specs.Arena.{IsArena, NamesBelow, HasKind, empty_gra
 ghost use Rattle.type_graph.specs.Growth.{Grows, AddsNode, KeepsAggregates, with_agg, with_members, renamed};
 
 use crate::aggregates::{AggKind, Aggregate, Members};
+use crate::node_table::NodeTable;
 use crate::nodes::Node;
 use cil_base::{Abi, AggId, Memory, NameId, TypeId};
-use indexmap::IndexSet;
 use std::alloc::Global;
 use std::marker::Model;
 
@@ -20,7 +20,7 @@ use std::marker::Model;
 #[derive(Drop)]
 pub struct TypeGraph {
     abi: Abi,
-    nodes: IndexSet<Node>,
+    nodes: NodeTable,
     aggs: Vec<Aggregate>,
     completed: Vec<AggId>,
     alloc: Global,
@@ -31,9 +31,9 @@ impl Model for TypeGraph {
 
     ghost Value = { Graph };
 
-    ghost view = { λ s. record { abi = s.abi; nodes = s.nodes.keys; aggs = s.aggs.items; completed = s.completed.items } };
+    ghost view = { λ s. record { abi = s.abi; nodes = s.nodes; aggs = s.aggs.items; completed = s.completed.items } };
 
-    ghost invariant = { λ s. IsArena (record { abi = s.abi; nodes = s.nodes.keys; aggs = s.aggs.items; completed = s.completed.items }) };
+    ghost invariant = { λ s. IsArena (record { abi = s.abi; nodes = s.nodes; aggs = s.aggs.items; completed = s.completed.items }) };
 }
 
 impl TypeGraph {
@@ -44,7 +44,7 @@ impl TypeGraph {
     {
         TypeGraph {
             abi,
-            nodes: IndexSet::new(alloc),
+            nodes: NodeTable::new(alloc),
             aggs: Vec::new(alloc),
             completed: Vec::new(alloc),
             alloc,
@@ -86,7 +86,7 @@ impl TypeGraph {
         ensures names { NamesBelow t.0 (length self.now.aggs) result.now }
         ensures shape { shape self.now.nodes t.0 ≡ shape_of (shape self.now.nodes) result.now }
     {
-        &self.nodes[t.0 as usize]
+        self.nodes.get(t.0 as usize)
     }
 
     /// Whether two types are one. Types of one shape have one number, so no part is looked at.
@@ -166,7 +166,7 @@ impl TypeGraph {
         ensures found { MatchOption result ((s : ℕ) → ¬ (slice_get self.now.nodes s ≡ Some n.now)) (λ t. slice_get self.now.nodes t.0 ≡ Some n.now) }
         ensures arena { IsArena self.now }
     {
-        let index = self.nodes.get_index_of(n)?;
+        let index = self.nodes.find(n)?;
         Some(TypeId(index as u32))
     }
 
@@ -183,7 +183,7 @@ impl TypeGraph {
         if index == u32::MAX {
             return Err(Memory);
         }
-        self.nodes.insert(n)?;
+        self.nodes.push(n)?;
         Ok(TypeId(index))
     }
 

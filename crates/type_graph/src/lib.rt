@@ -8,8 +8,10 @@
 #![tactic(auto)]
 
 mod aggregates;
+mod chains;
 mod graph;
 mod layout;
+mod node_table;
 mod nodes;
 
 pub use aggregates::{AggKind, Aggregate, Member, Members};

@@ -106,10 +106,10 @@ pub enum Node {
     Array(QualType, Option<u64>),
     /// A function (6.2.5p20), with a prototype or without, whose prototype may end in `...`.
     Func {
-        ret: TypeId,
-        params: TypeList,
         proto: bool,
         variadic: bool,
+        ret: TypeId,
+        params: TypeList,
     },
     /// A struct, union or enum (6.2.5p16, p20).
     Agg(AggId),

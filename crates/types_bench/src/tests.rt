@@ -1,6 +1,8 @@
-ghost use Rattle.std.specs.Prelude.{◌≡◌, ◌<◌, Some, length, slice_get};
+ghost use Rattle.std.specs.Prelude.{◌≡◌, ◌<◌, true, Some, None, length, slice_get, IsTrue};
 ghost use Rattle.type_graph.specs.declared.nodes.Node.TheVariants.{Agg};
-ghost use Rattle.type_graph.specs.Arena.{IsArena};
+ghost use Rattle.type_graph.specs.declared.aggregates.Aggregate.{Aggregate};
+ghost use Rattle.type_graph.specs.Shapes.{shape};
+ghost use Rattle.type_graph.specs.Arena.{IsArena, complete, flexible_shape, is_struct, members_of};
 ghost use Rattle.layout_lp64.specs.Tables.{InStep};
 
 use super::*;
@@ -146,6 +148,98 @@ fn a_struct_may_be_completed_behind_a_pointer_to_it(rt: HostRuntime) -> Result<(
     let types = Types { graph: g, layouts };
     assert_eq!(rt; figures(&types, inner), (16, 8, [Some(0), Some(8), None]));
     assert_eq!(rt; figures(&types, outer), (32, 8, [Some(0), Some(16), None]));
+    Ok(())
+}
+
+/// Whether a kind is that of structs.
+fn is_struct(kind: AggKind) -> bool
+    ensures { result ≡ is_struct kind }
+{
+    match kind {
+        AggKind::Struct => true,
+        AggKind::Union | AggKind::Enum => false,
+    }
+}
+
+/// Whether a type is an array of unknown bound whose element is complete.
+fn is_flexible(g: &TypeGraph, t: TypeId) -> bool
+    requires { t.0 < length g.now.nodes }
+    ensures { IsTrue result → flexible_shape g.now.aggs (shape g.now.nodes t.0) ≡ true }
+{
+    match g.node(t) {
+        Node::Array(element, None) => g.is_complete(element.of),
+        _ => false,
+    }
+}
+
+/// Whether a member of the first type, and a flexible array of the second behind it, may complete a struct.
+fn may_end_flexible(g: &TypeGraph, first: TypeId, array: TypeId) -> bool
+    ensures there { IsTrue result → first.0 < length g.now.nodes × array.0 < length g.now.nodes }
+    ensures first { IsTrue result → complete g.now first.0 ≡ true }
+    ensures array { IsTrue result → flexible_shape g.now.aggs (shape g.now.nodes array.0) ≡ true }
+{
+    if first.0 >= g.len() || array.0 >= g.len() {
+        return false;
+    }
+    g.is_complete(first) && is_flexible(g, array)
+}
+
+/// Whether an aggregate is there, is a struct, and has no members yet.
+fn is_open_struct(g: &TypeGraph, a: AggId) -> bool
+    ensures there { IsTrue result → a.0 < length g.now.aggs }
+    ensures open_yet { IsTrue result → members_of g.now.aggs a.0 ≡ None }
+    ensures kind { IsTrue result → (x : Aggregate) → slice_get g.now.aggs a.0 ≡ Some x → is_struct x.kind ≡ true }
+{
+    if a.0 >= g.agg_count() {
+        return false;
+    }
+    g.agg(a).members.is_none() && is_struct(g.agg(a).kind)
+}
+
+/// Gives a struct a member of the first type, and a flexible array behind it, if they fit.
+fn finish_flexible(
+    alloc: Global,
+    g: &mut TypeGraph,
+    a: AggId,
+    first: TypeId,
+    array: TypeId,
+) -> Result<(), Memory> {
+    if !is_open_struct(g, a) || !may_end_flexible(g, first, array) {
+        return Ok(());
+    }
+    let mut members = Vec::new(alloc);
+    members.push(Member::named(NameId(0), plain(first), 0))?;
+    members.push(Member::named(NameId(1), plain(array), 0))?;
+    g.complete(a, Members::new(members))
+}
+
+/// A flexible array takes no room, and its alignment counts; the figures are those that gcc gives on x86-64 too.
+#[test]
+fn structs_end_in_flexible_arrays(rt: HostRuntime) -> Result<(), Fail> {
+    let alloc = rt.alloc();
+    let mut g = TypeGraph::new(alloc);
+    let char = g.add_node(Node::Int(IntKind::Char))?;
+    let int = g.add_node(Node::Int(IntKind::Int))?;
+    let long = g.add_node(Node::Int(IntKind::Long))?;
+    assert!(rt; char.0 < g.len() && int.0 < g.len() && long.0 < g.len());
+    let chars = g.add_node(Node::Array(plain(char), None))?;
+    let ints = g.add_node(Node::Array(plain(int), None))?;
+    let longs = g.add_node(Node::Array(plain(long), None))?;
+    let (a, first, _) = pointed_to(&mut g)?;
+    let (b, second, _) = pointed_to(&mut g)?;
+    let (c, third, _) = pointed_to(&mut g)?;
+    finish_flexible(alloc, &mut g, a, int, chars)?;
+    finish_flexible(alloc, &mut g, b, char, longs)?;
+    finish_flexible(alloc, &mut g, c, char, ints)?;
+    let layouts = Layouts::of_graph(alloc, &g)?;
+    let types = Types { graph: g, layouts };
+    for (t, size, align, offset) in [(first, 4, 4, 4), (second, 8, 8, 8), (third, 4, 4, 4)] {
+        assert_eq!(rt;
+            figures(&types, t),
+            (size, align, [Some(0), Some(offset), None]),
+            "of type {t:?}"
+        );
+    }
     Ok(())
 }
 

@@ -5,11 +5,11 @@ use Rattle.layout_lp64.proofs.layouts.Layouts.add_aggs.Goals as goal
 
 pub loop-i-init : goal.loop-i-init
 loop-i-init c =
-    let e : length c.args.self.now.aggs.items ≡ c.len-i.result = omega (arith, c.len-i.ensures) in
+    let e : length c.args.self.now.aggs ≡ c.len-i.result = omega (arith, c.len-i.ensures) in
     subst (λ n. Extended c.args.self.now c.args.self.now n) e (extended_none c.args.self.now c.args.g.now c.requires.before)
 
 pub loop-i-preserved : goal.loop-i-preserved
-loop-i-preserved c = extended_more c.args.self.now c.loop-i.self _ c.loop-i._i c.loop-i.invariant refl refl c.in_ok-push.ensures.items c.in_ok-push-2.ensures.items
+loop-i-preserved c = extended_more c.args.self.now c.loop-i.self _ c.loop-i._i c.loop-i.invariant refl refl c.in_ok-push_incomplete.ensures.ok c.in_ok-push.ensures.items
 
 pub returns : goal.returns
 returns c =

@@ -8,4 +8,4 @@ use Rattle.layout_lp64.specs.Tables.{whole_found}
 use Rattle.layout_lp64.proofs.layouts.Layouts.placed.Given as goal
 
 abbrev pub invariant-loop-m : goal.invariant-loop-m
-invariant-loop-m l = (0 < l.placing.align) × (capped_all l.over (λ (m : Member). member_span l.g.abi (whole_found l.self.aggs.items) (shape l.g.nodes m.ty.of.0)) nothing_placed l.members ≡ capped_all l.over (λ (m : Member). member_span l.g.abi (whole_found l.self.aggs.items) (shape l.g.nodes m.ty.of.0)) (placed_of l.placing) (drop l.m-index l.members))
+invariant-loop-m l = (0 < l.placing.align) × (capped_all l.over (λ (m : Member). member_span l.g.abi (whole_found l.self.aggs) (shape l.g.nodes m.ty.of.0)) nothing_placed l.members ≡ capped_all l.over (λ (m : Member). member_span l.g.abi (whole_found l.self.aggs) (shape l.g.nodes m.ty.of.0)) (placed_of l.placing) (drop l.m-index l.members))

@@ -5,7 +5,7 @@ use Rattle.layout_lp64.proofs.layouts.Layouts.update.Goals as goal
 
 pub returns-in-None : goal.returns-in-None
 returns-in-None c =
-    let e : c.len-first.result ≡ length c.args.self.now.spans.items = omega (arith, c.len-first.ensures) in
+    let e : c.len-first.result ≡ length c.args.self.now.spans = omega (arith, c.len-first.ensures) in
     updated c.args.self.now c.extend.new.self c.args.g.now c.extend.ensures.arena c.requires (ok_from c.extend.result c.is_err.result c.is_err.ensures.value c.if-is_err.false c.extend.ensures.extended)
     (subst (λ n. FitsOrNew c.extend.new.self c.args.g.now n c.args.self.now.completed) e c.in-None.ensures)
 

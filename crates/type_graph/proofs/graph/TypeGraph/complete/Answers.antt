@@ -14,18 +14,18 @@ was c =
     subst (λ (g : Graph). slice_get g.aggs c.args.a.0 ≡ Some c.index_mut-aggregate.result.now) c.self.view_is
     (slice_get_read c.self.inside.aggs.items _ c.args.a.0 c.index_mut-aggregate.result.now refl (subst (λ (g : Graph). c.args.a.0 < length g.aggs) (sym c.self.view_is) c.requires.there) c.index_mut-aggregate.ensures.value)
 
-after : (c : goal.Joined-aggregate) → graph c.self.inside.abi c.self.inside.nodes.keys (slice_set c.self.inside.aggs.items c.args.a.0 (record c.index_mut-aggregate.result.now { members = Some c.args.members })) c.push.new.self.items ≡ with_members c.args.self.now c.args.a c.index_mut-aggregate.result.now c.args.members
-after c = members_are c.self.inside.abi c.self.inside.nodes.keys c.self.inside.aggs.items c.self.inside.completed.items c.push.new.self.items c.args.self.now c.args.a c.index_mut-aggregate.result.now c.args.members c.self.view_is c.in_ok-push.ensures.items
+after : (c : goal.Joined-aggregate) → graph c.self.inside.abi c.self.inside.nodes (slice_set c.self.inside.aggs.items c.args.a.0 (record c.index_mut-aggregate.result.now { members = Some c.args.members })) c.push.new.self.items ≡ with_members c.args.self.now c.args.a c.index_mut-aggregate.result.now c.args.members
+after c = members_are c.self.inside.abi c.self.inside.nodes c.self.inside.aggs.items c.self.inside.completed.items c.push.new.self.items c.args.self.now c.args.a c.index_mut-aggregate.result.now c.args.members c.self.view_is c.in_ok-push.ensures.items
 
-arena : (c : goal.Joined-aggregate) → IsArena (graph c.self.inside.abi c.self.inside.nodes.keys (slice_set c.self.inside.aggs.items c.args.a.0 (record c.index_mut-aggregate.result.now { members = Some c.args.members })) c.push.new.self.items)
+arena : (c : goal.Joined-aggregate) → IsArena (graph c.self.inside.abi c.self.inside.nodes (slice_set c.self.inside.aggs.items c.args.a.0 (record c.index_mut-aggregate.result.now { members = Some c.args.members })) c.push.new.self.items)
 arena c =
     subst IsArena (sym (after c))
     (IsArena-complete c.args.self.now c.args.a c.index_mut-aggregate.result.now c.args.members (subst IsArena c.self.view_is c.self.invariant) (was c) c.requires.incomplete (c.requires.fit c.index_mut-aggregate.result.now (was c)))
 
 pub returns-in_err-push-clause-grows : goal.returns-in_err-push-clause-grows
 returns-in_err-push-clause-grows c =
-    grows_by c.args.self.now (graph c.self.inside.abi c.self.inside.nodes.keys c.self.inside.aggs.items c.push.new.self.items)
-    (order_stays c.self.inside.abi c.self.inside.nodes.keys c.self.inside.aggs.items c.self.inside.completed.items c.push.new.self.items c.args.self.now c.self.view_is c.in_err-push.ensures.items)
+    grows_by c.args.self.now (graph c.self.inside.abi c.self.inside.nodes c.self.inside.aggs.items c.push.new.self.items)
+    (order_stays c.self.inside.abi c.self.inside.nodes c.self.inside.aggs.items c.self.inside.completed.items c.push.new.self.items c.args.self.now c.self.view_is c.in_err-push.ensures.items)
 
 pub invariant_of-self-2 : goal.invariant_of-self-2
 invariant_of-self-2 c = arena c

@@ -12,10 +12,10 @@ was c =
     subst (λ (g : Graph). slice_get g.aggs c.args.a.0 ≡ Some c.index_mut-aggregate.result.now) c.self.view_is
     (slice_get_read c.self.inside.aggs.items _ c.args.a.0 c.index_mut-aggregate.result.now refl (subst (λ (g : Graph). c.args.a.0 < length g.aggs) (sym c.self.view_is) c.requires.there) c.index_mut-aggregate.ensures.value)
 
-after : (c : goal.After-self-1) → graph c.self.inside.abi c.self.inside.nodes.keys (slice_set c.self.inside.aggs.items c.args.a.0 c.rename.new.self) c.self.inside.completed.items ≡ record c.args.self.now { aggs = slice_set c.args.self.now.aggs c.args.a.0 (renamed c.index_mut-aggregate.result.now c.args.tag c.args.names.now) }
-after c = agg_renamed c.self.inside.abi c.self.inside.nodes.keys c.self.inside.aggs.items c.self.inside.completed.items c.args.self.now c.args.a c.rename.new.self (renamed c.index_mut-aggregate.result.now c.args.tag c.args.names.now) c.self.view_is c.rename.ensures
+after : (c : goal.After-self-1) → graph c.self.inside.abi c.self.inside.nodes (slice_set c.self.inside.aggs.items c.args.a.0 c.rename.new.self) c.self.inside.completed.items ≡ record c.args.self.now { aggs = slice_set c.args.self.now.aggs c.args.a.0 (renamed c.index_mut-aggregate.result.now c.args.tag c.args.names.now) }
+after c = agg_renamed c.self.inside.abi c.self.inside.nodes c.self.inside.aggs.items c.self.inside.completed.items c.args.self.now c.args.a c.rename.new.self (renamed c.index_mut-aggregate.result.now c.args.tag c.args.names.now) c.self.view_is c.rename.ensures
 
-arena : (c : goal.After-self-1) → IsArena (graph c.self.inside.abi c.self.inside.nodes.keys (slice_set c.self.inside.aggs.items c.args.a.0 c.rename.new.self) c.self.inside.completed.items)
+arena : (c : goal.After-self-1) → IsArena (graph c.self.inside.abi c.self.inside.nodes (slice_set c.self.inside.aggs.items c.args.a.0 c.rename.new.self) c.self.inside.completed.items)
 arena c = subst IsArena (sym (after c)) (IsArena-renamed c.args.self.now c.args.a c.index_mut-aggregate.result.now c.args.tag c.args.names.now (subst IsArena c.self.view_is c.self.invariant) (was c))
 
 pub invariant_of-self : goal.invariant_of-self
