@@ -1,8 +1,8 @@
 #!/bin/sh
 # What an access to the store of objects costs: nanoseconds for a load or store of a global, a local of the
 # running activation and an object of malloc, and for a call and return with four locals, beside a C program
-# that makes as many array accesses; and the process memory that one object of 64 MiB takes, that a million
-# objects of 64 bytes take, and that a million numbers of freed objects below a live one take.
+# that makes as many array accesses; and the process memory that one object of 64 MiB takes, that each of many
+# objects of 8, 64 and 2,048 bytes takes, and that each freed number of malloc below a live one takes.
 # Usage: bench/memory.sh PROGRAM. Needs cc and GNU time. The checksums of the two programs must agree.
 program=${1:-crates/memory_bench/out/memory_bench}
 folder=$(mktemp -d) || exit 1
@@ -43,16 +43,27 @@ if [ "$peak" -gt 204800 ]; then
     echo "memory.sh: 64 MiB of malloc takes more than 200 MiB"
     status=1
 fi
-many=1000000
 # Kilobytes of process memory at most, and bytes for each of so many objects of it.
 kilobytes() { /usr/bin/time -f %M "$program" "$@" 2>&1 >/dev/null | tail -n 1; }
-each() { awk -v a="$1" -v b="$2" -v n="$many" 'BEGIN { printf "%.0f", (a - b) * 1024 / n }'; }
+each() { awk -v a="$1" -v b="$2" -v n="$3" 'BEGIN { printf "%.0f", (a - b) * 1024 / n }'; }
 nothing=$(kilobytes small 0)
-small=$(each "$(kilobytes small $many)" "$nothing")
-printf 'an object of 64 bytes, of a million: %s bytes, %s a byte\n' "$small" "$(awk -v a="$small" 'BEGIN { printf "%.1f", a / 64 }')"
-if [ "$small" -gt 448 ]; then
-    echo "memory.sh: an object of 64 bytes takes more than three bytes a byte and 256 besides"
+while read -r mode size many; do
+    bytes=$(each "$(kilobytes "$mode" "$many")" "$nothing" "$many")
+    printf 'an object of %s bytes, of %s: %s bytes\n' "$size" "$many" "$bytes"
+    if [ "$bytes" -gt $((3 * size + 256)) ]; then
+        echo "memory.sh: an object of $size bytes takes more than three bytes a byte and 256 besides"
+        status=1
+    fi
+done <<EOF
+tiny 8 1000000
+small 64 1000000
+large 2048 30000
+EOF
+many=1000000
+freed=$(each "$(kilobytes freed $many)" "$nothing" $many)
+printf 'a freed number of malloc below a live one: %s bytes\n' "$freed"
+if [ "$freed" -gt 8 ]; then
+    echo "memory.sh: a freed number of malloc takes more than 8 bytes"
     status=1
 fi
-printf 'a freed number of malloc below a live one: %s bytes\n' "$(each "$(kilobytes freed $many)" "$nothing")"
 exit $status

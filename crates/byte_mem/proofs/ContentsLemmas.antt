@@ -1,6 +1,6 @@
 -- Device: laws of the cells and pointers that stand for bytes.
-use Rattle.std.proofs.Common.{◌≡◌, ℕ, zero, suc, ◌+◌, ◌-◌, ◌<◌, ◌≤◌, Bool, true, false, cond, List, [], ◌∷◌, ◌++◌, length, get_or, set, replicate, Some, None, ◌^◌, take, refl, sym, ap, ◌∙◌, arith, add-one}
-use Rattle.std.proofs.lemmas.List.{get_or_default, length-replicate, length-append, length-set, take_all, append-nil}
+use Rattle.std.proofs.Common.{◌≡◌, ℕ, zero, suc, ◌+◌, ◌-◌, ◌<◌, ◌≤◌, Bool, true, false, cond, List, [], ◌∷◌, ◌++◌, length, get_or, set, replicate, Option, Some, None, ◌^◌, take, refl, sym, ap, ◌∙◌, arith, add-one}
+use Rattle.std.proofs.lemmas.List.{get_or_default, length-replicate, length-append, length-set, length-take, take_all, append-nil}
 use Rattle.std.proofs.lemmas.Bool.{false≢true}
 use Rattle.std.specs.Prelude.{slice_get}
 use Rattle.byte_mem.specs.declared.pointers.Pointer.{Pointer}
@@ -8,7 +8,7 @@ use Rattle.byte_mem.specs.declared.values.Byte.{Byte}
 use Rattle.byte_mem.specs.declared.values.Byte.TheVariants.{Known, Unknown, Part}
 use Rattle.byte_mem.specs.declared.contents.Cell.{Cell}
 use Rattle.byte_mem.specs.declared.contents.Cell.TheVariants.{Plain, Blank, Piece}
-use Rattle.byte_mem.specs.Contents.{byte_of, seen, has_pointer, is_covered, IsKept, cell_of, pointers_for, grown, known_in}
+use Rattle.byte_mem.specs.Contents.{byte_of, seen, has_pointer, is_covered, IsKept, cell_of, is_plain, grown, known_in}
 
 pub length_seen : (cells : List Cell) (ps : List Pointer) → length (seen cells ps) ≡ length cells
 length_seen [] ps = refl
@@ -31,39 +31,74 @@ known_seen (Blank ∷ cells) (p ∷ ps) zero = refl
 known_seen (Piece k ∷ cells) (p ∷ ps) zero = refl
 known_seen (c ∷ cells) (p ∷ ps) (suc i) = known_seen cells ps i
 
-seen_plain : (n b : ℕ) → seen (replicate n (Plain b)) [] ≡ replicate n (Known b)
-seen_plain zero b = refl
-seen_plain (suc n) b = ap (λ bs. Known b ∷ bs) (seen_plain n b)
+if_covered : (t : Bool) (u v : Bool) → cond t u false ≡ true → (u ≡ true → v ≡ true) → cond t v false ≡ true
+if_covered true u v h f = f h
+if_covered false u v h f = h
 
-seen_blank : (n : ℕ) → seen (replicate n Blank) [] ≡ replicate n Unknown
-seen_blank zero = refl
-seen_blank (suc n) = ap (λ bs. Unknown ∷ bs) (seen_blank n)
+plain_byte : (b : Byte) (p : Option Pointer) → is_plain b ≡ true → byte_of (cell_of b) p ≡ b
+plain_byte (Known b) p h = refl
+plain_byte Unknown p h = refl
+plain_byte (Part q k) p h = absurd (false≢true h)
 
-seen_pieces : (n k : ℕ) (p : Pointer) → seen (replicate n (Piece k)) (replicate n p) ≡ replicate n (Part p k)
-seen_pieces zero k p = refl
-seen_pieces (suc n) k p = ap (λ bs. Part p k ∷ bs) (seen_pieces n k p)
+plain_has : (b : Byte) → is_plain b ≡ true → has_pointer (cell_of b) None ≡ true
+plain_has (Known b) h = refl
+plain_has Unknown h = refl
+plain_has (Part q k) h = absurd (false≢true h)
 
-pub seen_made : (n : ℕ) (fill : Byte) → seen (replicate n (cell_of fill)) (pointers_for n fill) ≡ replicate n fill
-seen_made n (Known b) = seen_plain n b
-seen_made n Unknown = seen_blank n
-seen_made n (Part p k) = seen_pieces n k p
+seen_equal : (n : ℕ) (b : Byte) (ps : List Pointer) → is_plain b ≡ true → seen (replicate n (cell_of b)) ps ≡ replicate n b
+seen_equal zero b ps h = refl
+seen_equal (suc n) b [] h = ap (λ c. c ∷ seen (replicate n (cell_of b)) []) (plain_byte b None h) ∙ ap (λ bs. b ∷ bs) (seen_equal n b [] h)
+seen_equal (suc n) b (p ∷ ps) h = ap (λ c. c ∷ seen (replicate n (cell_of b)) ps) (plain_byte b (Some p) h) ∙ ap (λ bs. b ∷ bs) (seen_equal n b ps h)
 
-covered_plain : (n b : ℕ) → is_covered (replicate n (Plain b)) [] ≡ true
-covered_plain zero b = refl
-covered_plain (suc n) b = covered_plain n b
+-- equal bytes at the end
+pub seen_extended : (cells : List Cell) (ps : List Pointer) (n : ℕ) (b : Byte) → is_plain b ≡ true → seen (cells ++ replicate n (cell_of b)) ps ≡ seen cells ps ++ replicate n b
+seen_extended [] ps n b h = seen_equal n b ps h
+seen_extended (c ∷ cells) [] n b h = ap (λ bs. byte_of c None ∷ bs) (seen_extended cells [] n b h)
+seen_extended (c ∷ cells) (p ∷ ps) n b h = ap (λ bs. byte_of c (Some p) ∷ bs) (seen_extended cells ps n b h)
 
-covered_blank : (n : ℕ) → is_covered (replicate n Blank) [] ≡ true
-covered_blank zero = refl
-covered_blank (suc n) = covered_blank n
+covered_equal : (n : ℕ) (b : Byte) (ps : List Pointer) → is_plain b ≡ true → is_covered (replicate n (cell_of b)) ps ≡ true
+covered_equal zero b ps h = refl
+covered_equal (suc n) b [] h = rw (plain_has b h) (covered_equal n b [] h)
+covered_equal (suc n) b (p ∷ ps) h = covered_equal n b ps h
 
-covered_pieces : (n k : ℕ) (p : Pointer) → is_covered (replicate n (Piece k)) (replicate n p) ≡ true
-covered_pieces zero k p = refl
-covered_pieces (suc n) k p = covered_pieces n k p
+covered_extended : (cells : List Cell) (ps : List Pointer) (n : ℕ) (b : Byte) → is_plain b ≡ true → is_covered cells ps ≡ true → is_covered (cells ++ replicate n (cell_of b)) ps ≡ true
+covered_extended [] ps n b h g = covered_equal n b ps h
+covered_extended (c ∷ cells) [] n b h g = if_covered (has_pointer c None) (is_covered cells []) (is_covered (cells ++ replicate n (cell_of b)) []) g (covered_extended cells [] n b h)
+covered_extended (c ∷ cells) (p ∷ ps) n b h g = covered_extended cells ps n b h g
 
-pub covered_made : (n : ℕ) (fill : Byte) → is_covered (replicate n (cell_of fill)) (pointers_for n fill) ≡ true
-covered_made n (Known b) = covered_plain n b
-covered_made n Unknown = covered_blank n
-covered_made n (Part p k) = covered_pieces n k p
+pub kept_extended : (cells : List Cell) (ps : List Pointer) (n room : ℕ) (b : Byte) → is_plain b ≡ true → is_covered cells ps ≡ true → length cells + n ≤ room → length cells + n < 2 ^ 32 → IsKept (cells ++ replicate n (cell_of b)) ps room
+kept_extended cells ps n room b h g r s =
+    let len : length (cells ++ replicate n (cell_of b)) ≡ length cells + n = length-append cells (replicate n (cell_of b)) ∙ ap (λ k. length cells + k) (length-replicate n (cell_of b)) in
+    (covered_extended cells ps n b h g, rw len r, rw len s)
+
+extended_is : (old new : List Cell) (n m : ℕ) (c : Cell) (b : Byte) → c ≡ cell_of b → m ≡ length old → new ≡ take (m + n) old ++ replicate (m + n - m) c → new ≡ old ++ replicate n (cell_of b)
+extended_is old new n m c b d e f =
+    let more : m + n - m ≡ n = omega arith in
+    f ∙ ap (λ xs. xs ++ replicate (m + n - m) c) (take_all (m + n) old (omega arith)) ∙ ap (λ k. old ++ replicate k c) more ∙ ap (λ x. old ++ replicate n x) d
+
+-- the same, step by step
+pub extended_kept : (old new : List Cell) (ps : List Pointer) (n m room : ℕ) (c : Cell) (b : Byte) → is_plain b ≡ true → c ≡ cell_of b → m ≡ length old → new ≡ take (m + n) old ++ replicate (m + n - m) c → is_covered old ps ≡ true → m + n ≤ room → m + n < 2 ^ 32 → IsKept new ps room
+extended_kept old new ps n m room c b h d e f k r s = rw (extended_is old new n m c b d e f) (kept_extended old ps n room b h k (omega arith) (omega arith))
+
+pub extended_seen : (old new : List Cell) (ps : List Pointer) (n m : ℕ) (c : Cell) (b : Byte) → is_plain b ≡ true → c ≡ cell_of b → m ≡ length old → new ≡ take (m + n) old ++ replicate (m + n - m) c → seen new ps ≡ seen old ps ++ replicate n b
+extended_seen old new ps n m c b h d e f = rw (extended_is old new n m c b d e f) (seen_extended old ps n b h)
+
+-- bytes that are taken away
+pub seen_taken : (n : ℕ) (cells : List Cell) (ps : List Pointer) → seen (take n cells) ps ≡ take n (seen cells ps)
+seen_taken zero cells ps = refl
+seen_taken (suc n) [] ps = refl
+seen_taken (suc n) (c ∷ cells) [] = ap (λ bs. byte_of c None ∷ bs) (seen_taken n cells [])
+seen_taken (suc n) (c ∷ cells) (p ∷ ps) = ap (λ bs. byte_of c (Some p) ∷ bs) (seen_taken n cells ps)
+
+covered_taken : (n : ℕ) (cells : List Cell) (ps : List Pointer) → is_covered cells ps ≡ true → is_covered (take n cells) ps ≡ true
+covered_taken zero cells ps h = refl
+covered_taken (suc n) [] ps h = refl
+covered_taken (suc n) (c ∷ cells) [] h = if_covered (has_pointer c None) (is_covered cells []) (is_covered (take n cells) []) h (covered_taken n cells [])
+covered_taken (suc n) (c ∷ cells) (p ∷ ps) h = covered_taken n cells ps h
+
+pub kept_taken : (n : ℕ) (cells : List Cell) (ps : List Pointer) (room : ℕ) → IsKept cells ps room → IsKept (take n cells) ps room
+kept_taken n cells ps room h =
+    (covered_taken n cells ps h.0, omega (arith, length-take n cells, h.1), omega (arith, length-take n cells, h.2))
 
 -- what a read of a cell tells
 pub byte_seen : (cells : List Cell) (ps : List Pointer) (i : ℕ) (c : Cell) → i < length cells → c ≡ get_or cells i c → get_or (seen cells ps) i Unknown ≡ byte_of c (slice_get ps i)
@@ -71,12 +106,6 @@ byte_seen cells ps i c h e = get_seen cells ps i ∙ ap (λ (x : Cell). byte_of 
 
 pub number_seen : (cells : List Cell) (ps : List Pointer) (i : ℕ) (c : Cell) → i < length cells → c ≡ get_or cells i c → known_in (get_or (seen cells ps) i Unknown) ≡ known_in (byte_of c None)
 number_seen cells ps i c h e = known_seen cells ps i ∙ ap (λ (x : Cell). known_in (byte_of x None)) (get_or_default cells i Blank c h ∙ sym e)
-
-pub made_kept : (n : ℕ) (fill : Byte) (cells : List Cell) (ps : List Pointer) (room : ℕ) → cells ≡ replicate n (cell_of fill) → ps ≡ pointers_for n fill → n ≤ room → n < 2 ^ 32
-    → IsKept cells ps room
-made_kept n fill cells ps room e d r s =
-    let len : length cells ≡ n = ap length e ∙ length-replicate n (cell_of fill) in
-    (rw (e, d) (covered_made n fill), omega arith, omega arith)
 
 -- a plain cell in the place of another
 pub seen_set_plain : (cells : List Cell) (ps : List Pointer) (i b : ℕ) → seen (set cells i (Plain b)) ps ≡ set (seen cells ps) i (Known b)
@@ -92,10 +121,6 @@ seen_set_blank (c ∷ cells) [] zero = refl
 seen_set_blank (c ∷ cells) (p ∷ ps) zero = refl
 seen_set_blank (c ∷ cells) [] (suc i) = ap (λ bs. byte_of c None ∷ bs) (seen_set_blank cells [] i)
 seen_set_blank (c ∷ cells) (p ∷ ps) (suc i) = ap (λ bs. byte_of c (Some p) ∷ bs) (seen_set_blank cells ps i)
-
-if_covered : (t : Bool) (u v : Bool) → cond t u false ≡ true → (u ≡ true → v ≡ true) → cond t v false ≡ true
-if_covered true u v h f = f h
-if_covered false u v h f = h
 
 covered_rest : (t u : Bool) → cond t u false ≡ true → u ≡ true
 covered_rest true u h = h

@@ -7,7 +7,7 @@ use Rattle.std.specs.declared.alloc.AllocError.{AllocError}
 use Rattle.std.proofs.lemmas.Bool.Decides.{nat_tests}
 use Rattle.byte_mem.specs.declared.frames.Frame.{Frame}
 use Rattle.byte_mem.specs.Object.{Held}
-use Rattle.byte_mem.specs.Layers.{slot, frame_slots, number_at, slots_at, local, IsRising, IsFrame, IsAbsent, IsPut, SlotChanges, SlotPut, IsLocalPut, LocalChanges, LocalPut}
+use Rattle.byte_mem.specs.Layers.{paged, frame_slots, number_at, slots_at, local, IsRising, IsFrame, IsAbsent, IsPagedPut, PagedChanges, PagedPut, IsLocalPut, LocalChanges, LocalPut}
 
 -- what a read of a frame tells
 pub number_read : (frames : List Frame) (k : ℕ) (f : Frame) → k < length frames → f ≡ get_or frames k f → number_at frames k ≡ f.activation
@@ -52,11 +52,11 @@ frame_absent (f ∷ frames) act h =
     let ne : f.activation ≢ act = h 0 (omega arith) in
     if_other f.activation act f.slots (frame_slots frames act) ne ∙ frame_absent frames act (λ k l. h (suc k) (omega arith))
 
-pub local_found : (frames : List Frame) (act k i : ℕ) (f : Frame) → IsRising frames → IsFrame frames act k → f ≡ get_or frames k f → local frames act i ≡ slot f.slots i
-local_found frames act k i f h g e = ap (λ (xs : List (Option Held)). slot xs i) (frame_found frames act k h g.0 g.1 ∙ slots_read frames k f g.0 e)
+pub local_found : (frames : List Frame) (act k i : ℕ) (f : Frame) → IsRising frames → IsFrame frames act k → f ≡ get_or frames k f → local frames act i ≡ paged f.slots i
+local_found frames act k i f h g e = ap (λ (xs : List (List (Option Held))). paged xs i) (frame_found frames act k h g.0 g.1 ∙ slots_read frames k f g.0 e)
 
 pub local_absent : (frames : List Frame) (act i : ℕ) → IsAbsent frames act → local frames act i ≡ None
-local_absent frames act i h = ap (λ (xs : List (Option Held)). slot xs i) (frame_absent frames act h)
+local_absent frames act i h = ap (λ (xs : List (List (Option Held))). paged xs i) (frame_absent frames act h)
 
 number_get : (frames : List Frame) (k : ℕ) (d : Frame) → k < length frames → number_at frames k ≡ (get_or frames k d).activation
 number_get [] k d h = absurd (omega arith)
@@ -96,15 +96,15 @@ frame_slots_set (f ∷ frames) (suc k) a g h l e =
     ap (λ xs. cond (nat_eq f.activation a) f.slots xs) (frame_slots_set frames k a g (rising_rest f frames h) (omega arith) e)
     ∙ choices_swap f.activation g.activation a f.slots g.slots (frame_slots frames a) ne
 
-local_set : (frames : List Frame) (act k i : ℕ) (d : Frame) (new : List (Option Held)) (o : Option Held) → IsRising frames → IsFrame frames act k → IsPut (get_or frames k d).slots new i o
+local_set : (frames : List Frame) (act k i : ℕ) (d : Frame) (new : List (List (Option Held))) (o : Option Held) → IsRising frames → IsFrame frames act k → IsPagedPut (get_or frames k d).slots new i o
     → IsLocalPut frames (set frames k (record { activation = (get_or frames k d).activation; slots = new })) act i o
 local_set frames act k i d new o h g p a j =
-    ap (λ (xs : List (Option Held)). slot xs j) (frame_slots_set frames k a (record { activation = (get_or frames k d).activation; slots = new }) h g.0 (sym (number_get frames k d g.0)))
-    ∙ ap (λ n. slot (cond (nat_eq n a) new (frame_slots frames a)) j) (sym (number_get frames k d g.0) ∙ g.1)
+    ap (λ (xs : List (List (Option Held))). paged xs j) (frame_slots_set frames k a (record { activation = (get_or frames k d).activation; slots = new }) h g.0 (sym (number_get frames k d g.0)))
+    ∙ ap (λ n. paged (cond (nat_eq n a) new (frame_slots frames a)) j) (sym (number_get frames k d g.0) ∙ g.1)
     ∙ by (nat_eq act a) refl
   where
-    by : (t : Bool) → nat_eq act a ≡ t → slot (cond t new (frame_slots frames a)) j ≡ cond (t && nat_eq i j) o (local frames a j)
-    by true s = p j ∙ ap (λ (xs : List (Option Held)). cond (nat_eq i j) o (slot xs j)) (sym (frame_found frames a k h g.0 (g.1 ∙ numbers_same act a s) ∙ slots_get frames k d g.0))
+    by : (t : Bool) → nat_eq act a ≡ t → paged (cond t new (frame_slots frames a)) j ≡ cond (t && nat_eq i j) o (local frames a j)
+    by true s = p j ∙ ap (λ (xs : List (List (Option Held))). cond (nat_eq i j) o (paged xs j)) (sym (frame_found frames a k h g.0 (g.1 ∙ numbers_same act a s) ∙ slots_get frames k d g.0))
     by false s = refl
 
 number_set : (frames : List Frame) (k j : ℕ) (g : Frame) → g.activation ≡ number_at frames k → number_at (set frames k g) j ≡ number_at frames j
@@ -114,47 +114,47 @@ number_set (f ∷ frames) zero (suc j) g e = refl
 number_set (f ∷ frames) (suc k) zero g e = refl
 number_set (f ∷ frames) (suc k) (suc j) g e = number_set frames k j g e
 
-pub rising_set : (frames : List Frame) (k : ℕ) (d : Frame) (new : List (Option Held)) → IsRising frames → k < length frames → IsRising (set frames k (record { activation = (get_or frames k d).activation; slots = new }))
+pub rising_set : (frames : List Frame) (k : ℕ) (d : Frame) (new : List (List (Option Held))) → IsRising frames → k < length frames → IsRising (set frames k (record { activation = (get_or frames k d).activation; slots = new }))
 rising_set frames k d new h l i j m n =
     let g : Frame = record { activation = (get_or frames k d).activation; slots = new } in
     let e : g.activation ≡ number_at frames k = sym (number_get frames k d l) in
     rw (number_set frames k i g e, number_set frames k j g e) (h i j m (omega (arith, length-set frames k g)))
 
-found_local : (frames : List Frame) (act k i : ℕ) (d : Frame) → IsRising frames → IsFrame frames act k → local frames act i ≡ slot (get_or frames k d).slots i
-found_local frames act k i d h g = ap (λ (xs : List (Option Held)). slot xs i) (frame_found frames act k h g.0 g.1 ∙ slots_get frames k d g.0)
+found_local : (frames : List Frame) (act k i : ℕ) (d : Frame) → IsRising frames → IsFrame frames act k → local frames act i ≡ paged (get_or frames k d).slots i
+found_local frames act k i d h g = ap (λ (xs : List (List (Option Held))). paged xs i) (frame_found frames act k h g.0 g.1 ∙ slots_get frames k d g.0)
 
-set_same : (frames : List Frame) (k : ℕ) (d : Frame) (new : List (Option Held)) → new ≡ (get_or frames k d).slots → set frames k (record { activation = (get_or frames k d).activation; slots = new }) ≡ frames
-set_same frames k d new e = ap (λ (xs : List (Option Held)). set frames k (record { activation = (get_or frames k d).activation; slots = xs })) e ∙ set-get_or frames k d
+set_same : (frames : List Frame) (k : ℕ) (d : Frame) (new : List (List (Option Held))) → new ≡ (get_or frames k d).slots → set frames k (record { activation = (get_or frames k d).activation; slots = new }) ≡ frames
+set_same frames k d new e = ap (λ (xs : List (List (Option Held))). set frames k (record { activation = (get_or frames k d).activation; slots = xs })) e ∙ set-get_or frames k d
 
-pub local_changed : (r : Option (Unit {0})) (frames : List Frame) (act k i : ℕ) (d : Frame) (new : List (Option Held)) (change : Option Held → Option Held) → IsRising frames → IsFrame frames act k
-    → SlotChanges r (get_or frames k d).slots new i (change (slot (get_or frames k d).slots i))
+pub local_changed : (r : Option (Unit {0})) (frames : List Frame) (act k i : ℕ) (d : Frame) (new : List (List (Option Held))) (change : Option Held → Option Held) → IsRising frames → IsFrame frames act k
+    → PagedChanges r (get_or frames k d).slots new i (change (paged (get_or frames k d).slots i))
     → LocalChanges r frames (set frames k (record { activation = (get_or frames k d).activation; slots = new })) act i (change (local frames act i))
 local_changed None frames act k i d new change h g s = (ap change (found_local frames act k i d h g) ∙ s.0, set_same frames k d new s.1)
 local_changed (Some u) frames act k i d new change h g s = (
   subst (λ (o : Option Held). IsSome (change o)) (sym (found_local frames act k i d h g)) s.0,
   subst (λ (o : Option Held). IsLocalPut frames (set frames k (record { activation = (get_or frames k d).activation; slots = new })) act i (change o)) (sym (found_local frames act k i d h g))
-      (local_set frames act k i d new (change (slot (get_or frames k d).slots i)) h g s.1),
+      (local_set frames act k i d new (change (paged (get_or frames k d).slots i)) h g s.1),
 )
 
 -- an activation whose objects are as they were
-local_kept : (frames : List Frame) (act k : ℕ) (d : Frame) (new : List (Option Held)) → IsRising frames → IsFrame frames act k → ((j : ℕ) → slot new j ≡ slot (get_or frames k d).slots j)
+local_kept : (frames : List Frame) (act k : ℕ) (d : Frame) (new : List (List (Option Held))) → IsRising frames → IsFrame frames act k → ((j : ℕ) → paged new j ≡ paged (get_or frames k d).slots j)
     → (a j : ℕ) → local (set frames k (record { activation = (get_or frames k d).activation; slots = new })) a j ≡ local frames a j
 local_kept frames act k d new h g s a j =
-    ap (λ (xs : List (Option Held)). slot xs j) (frame_slots_set frames k a (record { activation = (get_or frames k d).activation; slots = new }) h g.0 (sym (number_get frames k d g.0)))
-    ∙ ap (λ n. slot (cond (nat_eq n a) new (frame_slots frames a)) j) (sym (number_get frames k d g.0) ∙ g.1)
+    ap (λ (xs : List (List (Option Held))). paged xs j) (frame_slots_set frames k a (record { activation = (get_or frames k d).activation; slots = new }) h g.0 (sym (number_get frames k d g.0)))
+    ∙ ap (λ n. paged (cond (nat_eq n a) new (frame_slots frames a)) j) (sym (number_get frames k d g.0) ∙ g.1)
     ∙ by (nat_eq act a) refl
   where
-    by : (t : Bool) → nat_eq act a ≡ t → slot (cond t new (frame_slots frames a)) j ≡ local frames a j
-    by true c = s j ∙ sym (ap (λ (xs : List (Option Held)). slot xs j) (frame_found frames a k h g.0 (g.1 ∙ numbers_same act a c) ∙ slots_get frames k d g.0))
+    by : (t : Bool) → nat_eq act a ≡ t → paged (cond t new (frame_slots frames a)) j ≡ local frames a j
+    by true c = s j ∙ sym (ap (λ (xs : List (List (Option Held))). paged xs j) (frame_found frames a k h g.0 (g.1 ∙ numbers_same act a c) ∙ slots_get frames k d g.0))
     by false c = refl
 
-pub local_put : (r : Result (Unit {0}) AllocError) (frames : List Frame) (act k i : ℕ) (d : Frame) (new : List (Option Held)) (o : Option Held) → IsRising frames → IsFrame frames act k
-    → SlotPut r (get_or frames k d).slots new i o
+pub local_put : (r : Result (Unit {0}) AllocError) (frames : List Frame) (act k i : ℕ) (d : Frame) (new : List (List (Option Held))) (o : Option Held) → IsRising frames → IsFrame frames act k
+    → PagedPut r (get_or frames k d).slots new i o
     → LocalPut r frames (set frames k (record { activation = (get_or frames k d).activation; slots = new })) act i o
 local_put (Ok u) frames act k i d new o h g s = local_set frames act k i d new o h g s
 local_put (Err e) frames act k i d new o h g s = local_kept frames act k d new h g s
 
-pub local_cleared : (frames : List Frame) (act k i : ℕ) (d : Frame) (new : List (Option Held)) → IsRising frames → IsFrame frames act k → IsPut (get_or frames k d).slots new i None
+pub local_cleared : (frames : List Frame) (act k i : ℕ) (d : Frame) (new : List (List (Option Held))) → IsRising frames → IsFrame frames act k → IsPagedPut (get_or frames k d).slots new i None
     → IsLocalPut frames (set frames k (record { activation = (get_or frames k d).activation; slots = new })) act i None
 local_cleared frames act k i d new h g p = local_set frames act k i d new None h g p
 
@@ -182,13 +182,13 @@ frame_slots_inserted (f ∷ frames) (suc k) a g h l =
     ap (λ xs. cond (nat_eq f.activation a) f.slots xs) (frame_slots_inserted frames k a g (λ j m. h (suc j) (omega arith)) (omega arith))
     ∙ choices_swap f.activation g.activation a f.slots g.slots (frame_slots frames a) (h 0 (omega arith))
 
-pub local_inserted : (frames : List Frame) (act k i : ℕ) (old new : List (Option Held)) (o : Option Held) → IsAbsent frames act → k ≤ length frames → old ≡ [] → IsPut old new i o
+pub local_inserted : (frames : List Frame) (act k i : ℕ) (old new : List (List (Option Held))) (o : Option Held) → IsAbsent frames act → k ≤ length frames → old ≡ [] → IsPagedPut old new i o
     → IsLocalPut frames (take k frames ++ record { activation = act; slots = new } ∷ drop k frames) act i o
 local_inserted frames act k i old new o h l e p a j =
-    ap (λ (xs : List (Option Held)). slot xs j) (frame_slots_inserted frames k a (record { activation = act; slots = new }) (λ m n. h m (omega arith)) l) ∙ by (nat_eq act a) refl
+    ap (λ (xs : List (List (Option Held))). paged xs j) (frame_slots_inserted frames k a (record { activation = act; slots = new }) (λ m n. h m (omega arith)) l) ∙ by (nat_eq act a) refl
   where
-    by : (t : Bool) → nat_eq act a ≡ t → slot (cond t new (frame_slots frames a)) j ≡ cond (t && nat_eq i j) o (local frames a j)
-    by true s = p j ∙ ap (λ (x : Option Held). cond (nat_eq i j) o x) (ap (λ (xs : List (Option Held)). slot xs j) e ∙ sym (local_absent frames a j (subst (λ (n : ℕ). IsAbsent frames n) (numbers_same act a s) h)))
+    by : (t : Bool) → nat_eq act a ≡ t → paged (cond t new (frame_slots frames a)) j ≡ cond (t && nat_eq i j) o (local frames a j)
+    by true s = p j ∙ ap (λ (x : Option Held). cond (nat_eq i j) o x) (ap (λ (xs : List (List (Option Held))). paged xs j) e ∙ sym (local_absent frames a j (subst (λ (n : ℕ). IsAbsent frames n) (numbers_same act a s) h)))
     by false s = refl
 
 number_before : (frames : List Frame) (k j : ℕ) (g : Frame) → j < k → k ≤ length frames → number_at (take k frames ++ g ∷ drop k frames) j ≡ number_at frames j
@@ -229,7 +229,7 @@ rising_from frames k j g l p high = rw (number_here frames k g l, number_behind 
 rising_behind : (frames : List Frame) (k i j : ℕ) (g : Frame) → IsRising frames → k ≤ length frames → k ≤ i → i < j → j < length frames → number_at (take k frames ++ g ∷ drop k frames) (suc i) < number_at (take k frames ++ g ∷ drop k frames) (suc j)
 rising_behind frames k i j g h l p m q = rw (number_behind frames k i g p l, number_behind frames k j g (omega arith) l) (h i j m q)
 
-pub rising_inserted : (frames : List Frame) (act k : ℕ) (new : List (Option Held)) → IsRising frames → IsAbsent frames act → k ≤ length frames
+pub rising_inserted : (frames : List Frame) (act k : ℕ) (new : List (List (Option Held))) → IsRising frames → IsAbsent frames act → k ≤ length frames
     → ((j : ℕ) → j < k → number_at frames j < act) → ((j : ℕ) → k ≤ j → j < length frames → act ≤ number_at frames j)
     → IsRising (take k frames ++ record { activation = act; slots = new } ∷ drop k frames)
 rising_inserted frames act k new h absent l low high i j m n = by i j m n (cases_lt j k) (cases_lt i k) (cases_lt k i) (cases_lt k j)
@@ -259,7 +259,7 @@ none_left : (frames : List Frame) (a : ℕ) → ((j : ℕ) → slots_at frames j
 none_left [] a h = refl
 none_left (f ∷ frames) a h = rw (none_left frames a (λ j. h (suc j)), h 0) (by (nat_eq f.activation a))
   where
-    by : (t : Bool) → cond {A = List (Option Held)} t [] [] ≡ []
+    by : (t : Bool) → cond {A = List (List (Option Held))} t [] [] ≡ []
     by true = refl
     by false = refl
 
@@ -270,7 +270,7 @@ frame_slots_taken (f ∷ frames) zero a h = sym (none_left (f ∷ frames) a (λ 
 frame_slots_taken (f ∷ frames) (suc n) a h = ap (λ xs. cond (nat_eq f.activation a) f.slots xs) (frame_slots_taken frames n a (λ j m. h (suc j) (omega arith)))
 
 pub local_taken : (frames : List Frame) (n a k : ℕ) → ((j : ℕ) → n ≤ j → slots_at frames j ≡ []) → local (take n frames) a k ≡ local frames a k
-local_taken frames n a k h = ap (λ (xs : List (Option Held)). slot xs k) (frame_slots_taken frames n a h)
+local_taken frames n a k h = ap (λ (xs : List (List (Option Held))). paged xs k) (frame_slots_taken frames n a h)
 
 number_taken : (frames : List Frame) (n j : ℕ) → j < n → number_at (take n frames) j ≡ number_at frames j
 number_taken [] zero j h = refl

@@ -1,7 +1,9 @@
 mod Rows
+pub mod PartLemmas
 pub mod ContentsLemmas
 pub mod ScalarLemmas
 pub mod ObjectLemmas
+pub mod PlaceLemmas
 pub mod SlotLemmas
 pub mod FrameLemmas
 pub mod NameLemmas

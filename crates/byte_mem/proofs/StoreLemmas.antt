@@ -15,7 +15,7 @@ use Rattle.byte_mem.specs.declared.stores.Store.{Store}
 use Rattle.byte_mem.specs.Steps.{◌>>=◌}
 use Rattle.byte_mem.specs.Object.{Held, protect_held, store_part}
 use Rattle.byte_mem.specs.Memory.{Memory, no_memory, with_held, changed, protect, store_bytes}
-use Rattle.byte_mem.specs.Layers.{slot, local, IsPut, SlotChanges, SlotPut, IsLocalPut, LocalChanges, LocalPut}
+use Rattle.byte_mem.specs.Layers.{paged, local, IsPagedPut, PagedChanges, PagedPut, IsLocalPut, LocalChanges, LocalPut}
 use Rattle.byte_mem.specs.Name.{same_name}
 use Rattle.byte_mem.proofs.NameLemmas.{name_same}
 use Rattle.byte_mem.specs.Store.{memory, Stored, Becomes, Put}
@@ -32,7 +32,7 @@ stored old new n change (Some k) e s h = ap (λ (x : Option Held). x >>= λ g. S
 undefined : (old : Store) (n : ObjName) (change : Held → Option Held) → (memory old n >>= change) ≡ None → changed (memory old) n change ≡ None
 undefined old n change e = ap (λ (x : Option Held). x >>= λ g. Some (with_held (memory old) n (Some g))) e
 
-entity_memory : (s : Store) (e : EntityId) (new : List (Option Held)) (o : Option Held) → IsPut s.entities new (e.0) o → memory (record s { entities = new }) ≡ with_held (memory s) (Entity e) o
+entity_memory : (s : Store) (e : EntityId) (new : List (List (Option Held))) (o : Option Held) → IsPagedPut s.entities new (e.0) o → memory (record s { entities = new }) ≡ with_held (memory s) (Entity e) o
 entity_memory s e new o h = same_memory (memory (record s { entities = new })) (with_held (memory s) (Entity e) o) at
   where
     at : (x : ObjName) → memory (record s { entities = new }) x ≡ with_held (memory s) (Entity e) o x
@@ -42,11 +42,11 @@ entity_memory s e new o h = same_memory (memory (record s { entities = new })) (
     at (Heap y) = refl
     at (Argument y) = refl
 
-pub entity_changed : (r : Option (Unit {0})) (s : Store) (e : EntityId) (new : List (Option Held)) (change : Held → Option Held) → SlotChanges r s.entities new (e.0) (slot s.entities (e.0) >>= change) → Stored r s (record s { entities = new }) (changed (memory s) (Entity e) change)
-entity_changed None s e new change h = (undefined s (Entity e) change h.0, ap (λ (xs : List (Option Held)). record s { entities = xs }) h.1)
-entity_changed (Some u) s e new change h = (stored s (record s { entities = new }) (Entity e) change (slot s.entities (e.0) >>= change) refl h.0 (entity_memory s e new (slot s.entities (e.0) >>= change) h.1), refl)
+pub entity_changed : (r : Option (Unit {0})) (s : Store) (e : EntityId) (new : List (List (Option Held))) (change : Held → Option Held) → PagedChanges r s.entities new (e.0) (paged s.entities (e.0) >>= change) → Stored r s (record s { entities = new }) (changed (memory s) (Entity e) change)
+entity_changed None s e new change h = (undefined s (Entity e) change h.0, ap (λ (xs : List (List (Option Held))). record s { entities = xs }) h.1)
+entity_changed (Some u) s e new change h = (stored s (record s { entities = new }) (Entity e) change (paged s.entities (e.0) >>= change) refl h.0 (entity_memory s e new (paged s.entities (e.0) >>= change) h.1), refl)
 
-pub entity_put : (r : Result (Unit {0}) AllocError) (s : Store) (e : EntityId) (new : List (Option Held)) (o : Option Held) → SlotPut r s.entities new (e.0) o → Put r s (record s { entities = new }) (with_held (memory s) (Entity e) o)
+pub entity_put : (r : Result (Unit {0}) AllocError) (s : Store) (e : EntityId) (new : List (List (Option Held))) (o : Option Held) → PagedPut r s.entities new (e.0) o → Put r s (record s { entities = new }) (with_held (memory s) (Entity e) o)
 entity_put (Ok u) s e new o h = (entity_memory s e new o h, refl)
 entity_put (Err failed) s e new o h = (same_memory (memory (record s { entities = new })) (memory s) at, refl)
   where
@@ -57,10 +57,10 @@ entity_put (Err failed) s e new o h = (same_memory (memory (record s { entities 
     at (Heap y) = refl
     at (Argument y) = refl
 
-pub entity_ended : (s : Store) (e : EntityId) (new : List (Option Held)) → IsPut s.entities new (e.0) None → Becomes s (record s { entities = new }) (with_held (memory s) (Entity e) None)
+pub entity_ended : (s : Store) (e : EntityId) (new : List (List (Option Held))) → IsPagedPut s.entities new (e.0) None → Becomes s (record s { entities = new }) (with_held (memory s) (Entity e) None)
 entity_ended s e new h = (entity_memory s e new None h, refl)
 
-literal_memory : (s : Store) (i : ℕ) (new : List (Option Held)) (o : Option Held) → IsPut s.literals new (i) o → memory (record s { literals = new }) ≡ with_held (memory s) (Literal i) o
+literal_memory : (s : Store) (i : ℕ) (new : List (List (Option Held))) (o : Option Held) → IsPagedPut s.literals new (i) o → memory (record s { literals = new }) ≡ with_held (memory s) (Literal i) o
 literal_memory s i new o h = same_memory (memory (record s { literals = new })) (with_held (memory s) (Literal i) o) at
   where
     at : (x : ObjName) → memory (record s { literals = new }) x ≡ with_held (memory s) (Literal i) o x
@@ -70,11 +70,11 @@ literal_memory s i new o h = same_memory (memory (record s { literals = new })) 
     at (Heap y) = refl
     at (Argument y) = refl
 
-pub literal_changed : (r : Option (Unit {0})) (s : Store) (i : ℕ) (new : List (Option Held)) (change : Held → Option Held) → SlotChanges r s.literals new (i) (slot s.literals (i) >>= change) → Stored r s (record s { literals = new }) (changed (memory s) (Literal i) change)
-literal_changed None s i new change h = (undefined s (Literal i) change h.0, ap (λ (xs : List (Option Held)). record s { literals = xs }) h.1)
-literal_changed (Some u) s i new change h = (stored s (record s { literals = new }) (Literal i) change (slot s.literals (i) >>= change) refl h.0 (literal_memory s i new (slot s.literals (i) >>= change) h.1), refl)
+pub literal_changed : (r : Option (Unit {0})) (s : Store) (i : ℕ) (new : List (List (Option Held))) (change : Held → Option Held) → PagedChanges r s.literals new (i) (paged s.literals (i) >>= change) → Stored r s (record s { literals = new }) (changed (memory s) (Literal i) change)
+literal_changed None s i new change h = (undefined s (Literal i) change h.0, ap (λ (xs : List (List (Option Held))). record s { literals = xs }) h.1)
+literal_changed (Some u) s i new change h = (stored s (record s { literals = new }) (Literal i) change (paged s.literals (i) >>= change) refl h.0 (literal_memory s i new (paged s.literals (i) >>= change) h.1), refl)
 
-pub literal_put : (r : Result (Unit {0}) AllocError) (s : Store) (i : ℕ) (new : List (Option Held)) (o : Option Held) → SlotPut r s.literals new (i) o → Put r s (record s { literals = new }) (with_held (memory s) (Literal i) o)
+pub literal_put : (r : Result (Unit {0}) AllocError) (s : Store) (i : ℕ) (new : List (List (Option Held))) (o : Option Held) → PagedPut r s.literals new (i) o → Put r s (record s { literals = new }) (with_held (memory s) (Literal i) o)
 literal_put (Ok u) s i new o h = (literal_memory s i new o h, refl)
 literal_put (Err failed) s i new o h = (same_memory (memory (record s { literals = new })) (memory s) at, refl)
   where
@@ -85,10 +85,10 @@ literal_put (Err failed) s i new o h = (same_memory (memory (record s { literals
     at (Heap y) = refl
     at (Argument y) = refl
 
-pub literal_ended : (s : Store) (i : ℕ) (new : List (Option Held)) → IsPut s.literals new (i) None → Becomes s (record s { literals = new }) (with_held (memory s) (Literal i) None)
+pub literal_ended : (s : Store) (i : ℕ) (new : List (List (Option Held))) → IsPagedPut s.literals new (i) None → Becomes s (record s { literals = new }) (with_held (memory s) (Literal i) None)
 literal_ended s i new h = (literal_memory s i new None h, refl)
 
-heap_memory : (s : Store) (i : ℕ) (new : List (Option Held)) (o : Option Held) → IsPut s.heap new (i) o → memory (record s { heap = new }) ≡ with_held (memory s) (Heap i) o
+heap_memory : (s : Store) (i : ℕ) (new : List (List (Option Held))) (o : Option Held) → IsPagedPut s.heap new (i) o → memory (record s { heap = new }) ≡ with_held (memory s) (Heap i) o
 heap_memory s i new o h = same_memory (memory (record s { heap = new })) (with_held (memory s) (Heap i) o) at
   where
     at : (x : ObjName) → memory (record s { heap = new }) x ≡ with_held (memory s) (Heap i) o x
@@ -98,11 +98,11 @@ heap_memory s i new o h = same_memory (memory (record s { heap = new })) (with_h
     at (Heap y) = h y
     at (Argument y) = refl
 
-pub heap_changed : (r : Option (Unit {0})) (s : Store) (i : ℕ) (new : List (Option Held)) (change : Held → Option Held) → SlotChanges r s.heap new (i) (slot s.heap (i) >>= change) → Stored r s (record s { heap = new }) (changed (memory s) (Heap i) change)
-heap_changed None s i new change h = (undefined s (Heap i) change h.0, ap (λ (xs : List (Option Held)). record s { heap = xs }) h.1)
-heap_changed (Some u) s i new change h = (stored s (record s { heap = new }) (Heap i) change (slot s.heap (i) >>= change) refl h.0 (heap_memory s i new (slot s.heap (i) >>= change) h.1), refl)
+pub heap_changed : (r : Option (Unit {0})) (s : Store) (i : ℕ) (new : List (List (Option Held))) (change : Held → Option Held) → PagedChanges r s.heap new (i) (paged s.heap (i) >>= change) → Stored r s (record s { heap = new }) (changed (memory s) (Heap i) change)
+heap_changed None s i new change h = (undefined s (Heap i) change h.0, ap (λ (xs : List (List (Option Held))). record s { heap = xs }) h.1)
+heap_changed (Some u) s i new change h = (stored s (record s { heap = new }) (Heap i) change (paged s.heap (i) >>= change) refl h.0 (heap_memory s i new (paged s.heap (i) >>= change) h.1), refl)
 
-pub heap_put : (r : Result (Unit {0}) AllocError) (s : Store) (i : ℕ) (new : List (Option Held)) (o : Option Held) → SlotPut r s.heap new (i) o → Put r s (record s { heap = new }) (with_held (memory s) (Heap i) o)
+pub heap_put : (r : Result (Unit {0}) AllocError) (s : Store) (i : ℕ) (new : List (List (Option Held))) (o : Option Held) → PagedPut r s.heap new (i) o → Put r s (record s { heap = new }) (with_held (memory s) (Heap i) o)
 heap_put (Ok u) s i new o h = (heap_memory s i new o h, refl)
 heap_put (Err failed) s i new o h = (same_memory (memory (record s { heap = new })) (memory s) at, refl)
   where
@@ -113,10 +113,10 @@ heap_put (Err failed) s i new o h = (same_memory (memory (record s { heap = new 
     at (Heap y) = h y
     at (Argument y) = refl
 
-pub heap_ended : (s : Store) (i : ℕ) (new : List (Option Held)) → IsPut s.heap new (i) None → Becomes s (record s { heap = new }) (with_held (memory s) (Heap i) None)
+pub heap_ended : (s : Store) (i : ℕ) (new : List (List (Option Held))) → IsPagedPut s.heap new (i) None → Becomes s (record s { heap = new }) (with_held (memory s) (Heap i) None)
 heap_ended s i new h = (heap_memory s i new None h, refl)
 
-argument_memory : (s : Store) (i : ℕ) (new : List (Option Held)) (o : Option Held) → IsPut s.arguments new (i) o → memory (record s { arguments = new }) ≡ with_held (memory s) (Argument i) o
+argument_memory : (s : Store) (i : ℕ) (new : List (List (Option Held))) (o : Option Held) → IsPagedPut s.arguments new (i) o → memory (record s { arguments = new }) ≡ with_held (memory s) (Argument i) o
 argument_memory s i new o h = same_memory (memory (record s { arguments = new })) (with_held (memory s) (Argument i) o) at
   where
     at : (x : ObjName) → memory (record s { arguments = new }) x ≡ with_held (memory s) (Argument i) o x
@@ -126,11 +126,11 @@ argument_memory s i new o h = same_memory (memory (record s { arguments = new })
     at (Heap y) = refl
     at (Argument y) = h y
 
-pub argument_changed : (r : Option (Unit {0})) (s : Store) (i : ℕ) (new : List (Option Held)) (change : Held → Option Held) → SlotChanges r s.arguments new (i) (slot s.arguments (i) >>= change) → Stored r s (record s { arguments = new }) (changed (memory s) (Argument i) change)
-argument_changed None s i new change h = (undefined s (Argument i) change h.0, ap (λ (xs : List (Option Held)). record s { arguments = xs }) h.1)
-argument_changed (Some u) s i new change h = (stored s (record s { arguments = new }) (Argument i) change (slot s.arguments (i) >>= change) refl h.0 (argument_memory s i new (slot s.arguments (i) >>= change) h.1), refl)
+pub argument_changed : (r : Option (Unit {0})) (s : Store) (i : ℕ) (new : List (List (Option Held))) (change : Held → Option Held) → PagedChanges r s.arguments new (i) (paged s.arguments (i) >>= change) → Stored r s (record s { arguments = new }) (changed (memory s) (Argument i) change)
+argument_changed None s i new change h = (undefined s (Argument i) change h.0, ap (λ (xs : List (List (Option Held))). record s { arguments = xs }) h.1)
+argument_changed (Some u) s i new change h = (stored s (record s { arguments = new }) (Argument i) change (paged s.arguments (i) >>= change) refl h.0 (argument_memory s i new (paged s.arguments (i) >>= change) h.1), refl)
 
-pub argument_put : (r : Result (Unit {0}) AllocError) (s : Store) (i : ℕ) (new : List (Option Held)) (o : Option Held) → SlotPut r s.arguments new (i) o → Put r s (record s { arguments = new }) (with_held (memory s) (Argument i) o)
+pub argument_put : (r : Result (Unit {0}) AllocError) (s : Store) (i : ℕ) (new : List (List (Option Held))) (o : Option Held) → PagedPut r s.arguments new (i) o → Put r s (record s { arguments = new }) (with_held (memory s) (Argument i) o)
 argument_put (Ok u) s i new o h = (argument_memory s i new o h, refl)
 argument_put (Err failed) s i new o h = (same_memory (memory (record s { arguments = new })) (memory s) at, refl)
   where
@@ -141,7 +141,7 @@ argument_put (Err failed) s i new o h = (same_memory (memory (record s { argumen
     at (Heap y) = refl
     at (Argument y) = h y
 
-pub argument_ended : (s : Store) (i : ℕ) (new : List (Option Held)) → IsPut s.arguments new (i) None → Becomes s (record s { arguments = new }) (with_held (memory s) (Argument i) None)
+pub argument_ended : (s : Store) (i : ℕ) (new : List (List (Option Held))) → IsPagedPut s.arguments new (i) None → Becomes s (record s { arguments = new }) (with_held (memory s) (Argument i) None)
 argument_ended s i new h = (argument_memory s i new None h, refl)
 
 local_memory : (s : Store) (act : ℕ) (l : LocalId) (new : List Frame) (o : Option Held) → IsLocalPut s.locals new act l.0 o → memory (record s { locals = new }) ≡ with_held (memory s) (Local act l) o
@@ -177,11 +177,11 @@ pub memory_empty : (s : Store) → s.entities ≡ [] → s.literals ≡ [] → s
 memory_empty s a b c d e = same_memory (memory s) no_memory at
   where
     at : (x : ObjName) → memory s x ≡ None
-    at (Entity y) = ap (λ (xs : List (Option Held)). slot xs y.0) a
+    at (Entity y) = ap (λ (xs : List (List (Option Held))). paged xs y.0) a
     at (Local act l) = ap (λ (xs : List Frame). local xs act l.0) e
-    at (Literal y) = ap (λ (xs : List (Option Held)). slot xs y) b
-    at (Heap y) = ap (λ (xs : List (Option Held)). slot xs y) d
-    at (Argument y) = ap (λ (xs : List (Option Held)). slot xs y) c
+    at (Literal y) = ap (λ (xs : List (List (Option Held))). paged xs y) b
+    at (Heap y) = ap (λ (xs : List (List (Option Held))). paged xs y) d
+    at (Argument y) = ap (λ (xs : List (List (Option Held))). paged xs y) c
 
 -- what changes no name changes nothing
 held_itself : (m : Memory) (n x : ObjName) → with_held m n (m n) x ≡ m x

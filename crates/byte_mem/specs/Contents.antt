@@ -1,4 +1,4 @@
--- Definition: the bytes of an object as the store keeps them: a cell for each byte, and beside them the pointers of which bytes are parts.
+-- Definition: a region of bytes as the store keeps them: a cell for each byte, and beside them the pointers of which bytes are parts.
 use Rattle.std.specs.Prelude.{◌≡◌, ◌≤◌, ◌<◌, ◌^◌, ℕ, suc, ◌-◌, Bool, true, false, if◌then◌else◌, List, [], ◌∷◌, ◌++◌, length, replicate, Option, Some, None}
 use Rattle.byte_mem.specs.declared.pointers.Pointer.{Pointer}
 use Rattle.byte_mem.specs.declared.values.Byte.{Byte}
@@ -29,7 +29,7 @@ is_covered [] pointers = true
 is_covered (c ∷ cells) [] = if has_pointer c None then is_covered cells [] else false
 is_covered (c ∷ cells) (p ∷ pointers) = is_covered cells pointers
 
--- what the store keeps of an object: covered cells, and room for a pointer beside each
+-- what the store keeps of a region: covered cells, and room for a pointer beside each
 abbrev pub IsKept : List Cell → List Pointer → ℕ → Type 0
 IsKept cells pointers room = (is_covered cells pointers ≡ true) × (length cells ≤ room) × (length cells < 2 ^ 32)
 
@@ -38,11 +38,10 @@ cell_of (Known b) = Plain b
 cell_of Unknown = Blank
 cell_of (Part p k) = Piece k
 
--- the pointers beside so many equal bytes
-abbrev pub pointers_for : ℕ → Byte → List Pointer
-pointers_for n (Known b) = []
-pointers_for n Unknown = []
-pointers_for n (Part p k) = replicate n p
+abbrev pub is_plain : Byte → Bool
+is_plain (Known b) = true
+is_plain Unknown = true
+is_plain (Part p k) = false
 
 -- the pointers with a place for the one of cell i
 abbrev pub grown : List Pointer → ℕ → Pointer → List Pointer

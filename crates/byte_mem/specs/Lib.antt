@@ -7,6 +7,7 @@ pub mod Operator
 pub mod Below
 pub mod Contents
 pub mod Change
+pub mod Places
 pub mod Layers
 pub mod Store
 pub mod Laws

@@ -3,15 +3,15 @@ use Rattle.std.specs.Prelude.{◌≡◌, Option, Some, None, Result, Ok, Err}
 use Rattle.byte_mem.specs.declared.pointers.ObjName.TheVariants.{Entity, Local, Literal, Heap, Argument}
 use Rattle.byte_mem.specs.declared.stores.Store.{Store}
 use Rattle.byte_mem.specs.Memory.{Memory}
-use Rattle.byte_mem.specs.Layers.{slot, local}
+use Rattle.byte_mem.specs.Layers.{paged, local}
 
 -- what is live under each name
 abbrev pub memory : Store → Memory
-memory s (Entity e) = slot s.entities e.0
+memory s (Entity e) = paged s.entities e.0
 memory s (Local act l) = local s.locals act l.0
-memory s (Literal i) = slot s.literals i
-memory s (Heap i) = slot s.heap i
-memory s (Argument i) = slot s.arguments i
+memory s (Literal i) = paged s.literals i
+memory s (Heap i) = paged s.heap i
+memory s (Argument i) = paged s.arguments i
 
 -- None: the change is undefined, and nothing has changed
 abbrev pub Stored : Option (Unit {0}) → Store → Store → Option Memory → Type 0

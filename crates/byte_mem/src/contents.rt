@@ -1,6 +1,7 @@
-ghost use Rattle.std.specs.Prelude.{◌≡◌, ◌≤◌, ◌<◌, ◌+◌, ◌^◌, true, length, replicate, slice_get, slice_index_or, slice_set, None, IfOk, vec_len};
+ghost use Rattle.std.specs.Prelude.{◌≡◌, ◌≤◌, ◌<◌, ◌+◌, ◌^◌, [], true, length, replicate, take, slice_get, slice_index_or, slice_set, None, IfOk, OnOk, IsTrue, vec_len};
 ghost use Rattle.std.specs.Vec.{vec_capacity};
-ghost use Rattle.byte_mem.specs.Contents.{seen, is_covered, byte_of, grown, cell_of, pointers_for, known_in};
+ghost use Rattle.byte_mem.specs.Contents.{seen, is_covered, byte_of, grown, cell_of, is_plain, known_in};
+ghost use Rattle.byte_mem.specs.Places.{Extended};
 
 use crate::pointers::Pointer;
 use crate::values::Byte;
@@ -15,8 +16,8 @@ pub enum Cell {
     Piece(u8),
 }
 
-/// The bytes of an object (own). Two bytes are kept for each; the pointers that some are parts of stand
-/// beside them, in room that is taken when the contents are made and touched when a pointer is stored.
+/// A region of bytes, in which objects stand (own). Two bytes are kept for each; the pointers that some are
+/// parts of stand beside them, in room that is taken with the bytes and touched when a pointer is stored.
 #[derive(Drop)]
 pub struct Contents {
     cells: Vec<Cell>,
@@ -38,14 +39,52 @@ impl Model for Contents {
 }
 
 impl Contents {
-    /// So many equal bytes, with the room that they will ever need.
-    #[tactic(auto, using(crate::proofs::ContentsLemmas::seen_made, crate::proofs::ContentsLemmas::covered_made))]
-    pub fn make(alloc: Global, size: u32, fill: Byte) -> Result<Self, AllocError>
-        ensures { IfOk result (λ c. c ≡ replicate size fill) }
+    /// No bytes.
+    pub fn new(alloc: Global) -> Self
+        ensures { result ≡ [] }
     {
-        let cells = equal_cells(alloc, size, fill)?;
-        let pointers = pointers_for(alloc, size, fill)?;
+        Contents {
+            cells: Vec::new(alloc),
+            pointers: Vec::new(alloc),
+        }
+    }
+
+    /// No bytes, with room for so many.
+    pub fn with_room(alloc: Global, room: u32) -> Result<Self, AllocError>
+        ensures { IfOk result (λ c. c ≡ []) }
+    {
+        let cells = Vec::with_capacity(alloc, room as usize)?;
+        let pointers = Vec::with_capacity(alloc, room as usize)?;
         Ok(Contents { cells, pointers })
+    }
+
+    /// Whether there is room for so many bytes more.
+    #[tactic(auto, using(crate::proofs::ContentsLemmas::length_seen))]
+    pub fn has_room(&self, n: u32) -> bool
+        ensures { IsTrue result → length self.now + n < 2 ^ 32 }
+    {
+        let len = self.cells.len() + n as usize;
+        len <= self.cells.capacity() && len < 0x1_0000_0000
+    }
+
+    /// Adds so many equal bytes at the end, which are no parts of pointers.
+    #[tactic(auto, using(crate::proofs::ContentsLemmas::length_seen))]
+    pub fn extend(&mut self, n: u32, fill: Byte) -> Result<(), AllocError>
+        requires room { length self.old + n < 2 ^ 32 }
+        requires plain { is_plain fill ≡ true }
+        ensures { Extended result self.old self.new (replicate n fill) }
+    {
+        let len = self.cells.len() + n as usize;
+        take_room(&mut self.pointers, len)?;
+        self.cells.resize(len, plain_cell(fill))?;
+        Ok(())
+    }
+
+    /// Takes the bytes from a place on away.
+    pub fn truncate(&mut self, n: usize)
+        ensures { self.new ≡ take n self.old }
+    {
+        self.cells.truncate(n);
     }
 
     /// The number of bytes.
@@ -134,12 +173,17 @@ fn grow(pointers: &mut Vec<Pointer>, i: usize, p: Pointer)
     }
 }
 
-fn equal_cells(alloc: Global, size: u32, fill: Byte) -> Result<Vec<Cell>, AllocError>
-    ensures { IfOk result (λ v. v.items ≡ replicate size (cell_of fill)) }
+/// Takes room for so many pointers.
+fn take_room(pointers: &mut Vec<Pointer>, n: usize) -> Result<(), AllocError>
+    ensures items { pointers.new.items ≡ pointers.old.items }
+    ensures room { vec_capacity pointers.old ≤ vec_capacity pointers.new }
+    ensures taken { OnOk result (n ≤ vec_capacity pointers.new) }
 {
-    let mut cells = Vec::with_capacity(alloc, size as usize)?;
-    cells.resize(size as usize, plain_cell(fill))?;
-    Ok(cells)
+    let len = pointers.len();
+    if len < n {
+        pointers.reserve(n - len)?;
+    }
+    Ok(())
 }
 
 fn plain_cell(b: Byte) -> Cell
@@ -149,20 +193,6 @@ fn plain_cell(b: Byte) -> Cell
         Byte::Known(n) => Cell::Plain(n),
         Byte::Unknown => Cell::Blank,
         Byte::Part(_, k) => Cell::Piece(k),
-    }
-}
-
-fn pointers_for(alloc: Global, size: u32, fill: Byte) -> Result<Vec<Pointer>, AllocError>
-    ensures items { IfOk result (λ v. v.items ≡ pointers_for size fill) }
-    ensures room { IfOk result (λ v. size ≤ vec_capacity v) }
-{
-    let mut pointers = Vec::with_capacity(alloc, size as usize)?;
-    match fill {
-        Byte::Known(_) | Byte::Unknown => Ok(pointers),
-        Byte::Part(p, _) => {
-            pointers.resize(size as usize, p)?;
-            Ok(pointers)
-        }
     }
 }
 

@@ -1,19 +1,23 @@
-ghost use Rattle.std.specs.Prelude.{◌≡◌, ◌≢◌, ◌<◌, ◌≤◌, ◌+◌, ◌↔◌, ℕ, [], None, Some, option_map, length, IsTrue, MatchOption, OnOk};
+ghost use Rattle.std.specs.Prelude.{◌≡◌, ◌≢◌, ◌<◌, ◌≤◌, ◌+◌, ◌↔◌, ℕ, [], None, Some, length, IsTrue, MatchOption, OnOk};
 ghost use Rattle.byte_mem.specs.Change.{changed_live};
-ghost use Rattle.byte_mem.specs.Layers.{slot, local, number_at, slots_at, IsFrame, IsAbsent, IsRising, SlotChanges, LocalChanges, LocalPut, IsLocalPut, IsPut};
+ghost use Rattle.byte_mem.specs.Layers.{local, number_at, slots_at, IsFrame, IsAbsent, IsRising, LocalChanges, LocalPut, IsLocalPut};
+ghost use Rattle.byte_mem.specs.Places.{begun};
 
-use crate::objects::{Change, Object};
+use crate::objects::{Beginning, Change, Object};
+use crate::pages::Pages;
 use crate::pointers::Pointer;
-use crate::slots::Slots;
 use cil_base::Abi;
 use std::alloc::{AllocError, Global};
 use std::marker::Model;
+
+/// So many locals of one size share a region of bytes.
+const SHARE: u32 = 4;
 
 /// The objects of an activation of a function.
 #[derive(Drop)]
 pub struct Frame {
     pub activation: u64,
-    pub slots: Slots,
+    pub slots: Pages,
 }
 
 /// The activations that have objects, in rising order of their numbers. Most accesses are to the last.
@@ -45,8 +49,8 @@ impl Stack {
     }
 
     /// The object of a number in an activation.
-    pub fn get(&self, activation: u64, i: usize) -> Option<&Object>
-        ensures { local self.now activation i ≡ option_map (λ o. o.now) result }
+    pub fn get(&self, activation: u64, i: usize) -> Option<Object<'_>>
+        ensures { local self.now activation i ≡ result }
     {
         get_in(&self.frames, activation, i)
     }
@@ -71,13 +75,13 @@ impl Stack {
         alloc: Global,
         activation: u64,
         i: usize,
-        object: Object,
+        b: &Beginning,
     ) -> Result<(), AllocError>
-        ensures { LocalPut result self.old self.new activation i (Some object) }
+        ensures { LocalPut result self.old self.new activation i (Some (begun b.now)) }
     {
         match find(&self.frames, activation) {
-            Some(k) => put_in(&mut self.frames, k, activation, i, object),
-            None => add_frame(&mut self.frames, alloc, activation, i, object),
+            Some(k) => put_in(&mut self.frames, k, activation, i, b),
+            None => add_frame(&mut self.frames, alloc, activation, i, b),
         }
     }
 
@@ -91,9 +95,9 @@ impl Stack {
 }
 
 #[tactic(auto, using(crate::proofs::FrameLemmas::local_found, crate::proofs::FrameLemmas::local_absent))]
-fn get_in(frames: &[Frame], activation: u64, i: usize) -> Option<&Object>
+fn get_in(frames: &[Frame], activation: u64, i: usize) -> Option<Object<'_>>
     requires { IsRising frames.now }
-    ensures { local frames.now activation i ≡ option_map (λ o. o.now) result }
+    ensures { local frames.now activation i ≡ result }
 {
     match find(frames, activation) {
         Some(k) => frames[k].slots.get(i),
@@ -174,14 +178,14 @@ fn put_in(
     k: usize,
     activation: u64,
     i: usize,
-    object: Object,
+    b: &Beginning,
 ) -> Result<(), AllocError>
     requires rising { IsRising frames.old }
     requires found { IsFrame frames.old activation k }
-    ensures put { LocalPut result frames.old frames.new activation i (Some object) }
+    ensures put { LocalPut result frames.old frames.new activation i (Some (begun b.now)) }
     ensures rising { IsRising frames.new }
 {
-    frames[k].slots.put(i, object)
+    frames[k].slots.put(i, b)
 }
 
 /// Adds the frame of an activation that has none yet.
@@ -190,15 +194,15 @@ fn add_frame(
     alloc: Global,
     activation: u64,
     i: usize,
-    object: Object,
+    b: &Beginning,
 ) -> Result<(), AllocError>
     requires rising { IsRising frames.old.items }
     requires absent { IsAbsent frames.old.items activation }
-    ensures put { LocalPut result frames.old.items frames.new.items activation i (Some object) }
+    ensures put { LocalPut result frames.old.items frames.new.items activation i (Some (begun b.now)) }
     ensures rising { IsRising frames.new.items }
 {
-    let mut slots = Slots::new(alloc);
-    slots.put(i, object)?;
+    let mut slots = Pages::new(alloc, SHARE);
+    slots.put(i, b)?;
     let k = position(frames, activation);
     frames.insert(k, Frame { activation, slots })?;
     Ok(())

@@ -1,6 +1,7 @@
-ghost use Rattle.std.specs.Prelude.{◌≡◌, ◌≤◌, ◌+◌, ◌<◌, length, IfSome, IfOk, option_map};
-ghost use Rattle.byte_mem.specs.Object.{inside, aligned, part_at, load_held, load_part, store_held, store_part, fill_part, new_held, function_held};
-ghost use Rattle.byte_mem.specs.Change.{changed_held, Changes};
+ghost use Rattle.std.specs.Prelude.{◌≡◌, ◌≤◌, ◌+◌, ◌<◌, ◌^◌, length, replicate, IfSome, IfOk, option_map};
+ghost use Rattle.byte_mem.specs.Object.{inside, aligned, part_at, load_held, load_part, store_held, store_part, fill_part, protect_held};
+ghost use Rattle.byte_mem.specs.Change.{changed_held};
+ghost use Rattle.byte_mem.specs.Places.{held_of, IsWithin, PlaceChanges, Extended, begun};
 
 use crate::contents::Contents;
 use crate::pointers::Pointer;
@@ -23,65 +24,71 @@ pub enum Change<'a> {
     Protect(bool),
 }
 
-/// A live object, or a function, which has no bytes.
-#[derive(Drop)]
-pub struct Object {
-    contents: Contents,
-    read_only: bool,
-    is_function: bool,
+/// What begins to live: an object of equal bytes, or a function, which has none.
+#[derive(Clone, Copy)]
+pub struct Beginning {
+    pub size: u32,
+    pub fill: Byte,
+    pub read_only: bool,
+    pub is_function: bool,
 }
 
-impl Model for Object {
+/// Where an object stands: the number of a region of bytes, and the place and number of its own among them.
+#[derive(Clone, Copy)]
+pub struct Place {
+    pub region: usize,
+    pub start: u32,
+    pub size: u32,
+    pub read_only: bool,
+    pub is_function: bool,
+}
+
+/// A live object, or a function.
+#[derive(Drop)]
+pub struct Object<'a> {
+    contents: &'a Contents,
+    place: Place,
+}
+
+impl<'a> Model for Object<'a> {
     ghost use Rattle.byte_mem.specs.Object.{Held};
 
     ghost Value = { Held };
 
-    ghost view = { λ o. record { function = o.is_function; read_only = o.read_only; bytes = o.contents } };
+    ghost use Rattle.byte_mem.specs.Places.{held_of, IsWithin};
+
+    ghost view = { λ o. held_of o.contents.now o.place };
+
+    ghost invariant = { λ o. IsWithin o.contents.now o.place };
 }
 
-impl Object {
-    /// An object of equal bytes.
-    pub fn make(alloc: Global, size: u32, fill: Byte, read_only: bool) -> Result<Self, AllocError>
-        ensures { IfOk result (λ o. o ≡ new_held size fill read_only) }
+impl<'a> Object<'a> {
+    /// What stands at a place of some bytes.
+    pub fn new(contents: &'a Contents, place: Place) -> Self
+        requires { IsWithin contents.now place }
+        ensures { result ≡ held_of contents.now place }
     {
-        let contents = Contents::make(alloc, size, fill)?;
-        Ok(Object {
-            contents,
-            read_only,
-            is_function: false,
-        })
-    }
-
-    /// A function.
-    pub fn function(alloc: Global) -> Result<Self, AllocError>
-        ensures { IfOk result (λ o. o ≡ function_held) }
-    {
-        let contents = Contents::make(alloc, 0, Byte::Known(0))?;
-        Ok(Object {
-            contents,
-            read_only: true,
-            is_function: true,
-        })
+        Object { contents, place }
     }
 
     /// The number of its bytes.
+    #[tactic(auto, using(crate::proofs::PartLemmas::length_part))]
     pub fn len(&self) -> u32
         ensures { result ≡ length self.now.bytes }
     {
-        self.contents.len()
+        self.place.size
     }
 
     pub fn is_function(&self) -> bool
         ensures { result ≡ self.now.function }
     {
-        self.is_function
+        self.place.is_function
     }
 
     pub fn load(&self, abi: Abi, at: Pointer, s: Scalar) -> Option<Value>
         ensures { result ≡ load_held abi self.now at.offset s }
     {
-        let i = aligned(at.offset, s.size(abi), self.contents.len())?;
-        Some(read(abi, &self.contents, i, s))
+        load_at(abi, self.contents, self.place, at, s)
     }
 
     pub fn load_bytes(
@@ -92,78 +99,137 @@ impl Object {
     ) -> Result<Option<Vec<Byte>>, AllocError>
         ensures { IfOk result (λ found. option_map (λ v. v.items) found ≡ load_part self.now at.offset n) }
     {
-        match inside(at.offset, n, self.contents.len()) {
-            None => Ok(None),
-            Some(i) => Ok(Some(read_bytes(alloc, &self.contents, i, n)?)),
-        }
+        load_bytes_at(alloc, self.contents, self.place, at, n)
     }
+}
 
-    pub fn change(&mut self, abi: Abi, at: Pointer, change: Change<'_>) -> Option<()>
-        ensures { Changes result self.old self.new (changed_held abi at.offset change.entry self.old) }
-    {
-        match change {
-            Change::Store(s, v) => self.store(abi, at, s, v),
-            Change::Copy(bytes) => self.store_bytes(at, bytes),
-            Change::Fill(n, b) => self.fill(at, n, b),
-            Change::Protect(read_only) => {
-                self.read_only = read_only;
-                Some(())
-            }
-        }
-    }
+fn load_at(abi: Abi, c: &Contents, p: Place, at: Pointer, s: Scalar) -> Option<Value>
+    requires { IsWithin c.now p }
+    ensures { result ≡ load_held abi (held_of c.now p) at.offset s }
+{
+    let i = aligned(at, s.size(abi), p.size)?;
+    Some(read(abi, c, first(c, p, i), s))
+}
 
-    fn store(&mut self, abi: Abi, at: Pointer, s: Scalar, v: Value) -> Option<()>
-        ensures { Changes result self.old self.new (store_held abi self.old at.offset s v) }
-    {
-        let i = aligned(at.offset, s.size(abi), self.contents.len())?;
-        if self.read_only {
-            return None;
-        }
-        write(abi, &mut self.contents, i, s, v);
-        Some(())
+fn load_bytes_at(
+    alloc: Global,
+    c: &Contents,
+    p: Place,
+    at: Pointer,
+    n: u32,
+) -> Result<Option<Vec<Byte>>, AllocError>
+    requires { IsWithin c.now p }
+    ensures { IfOk result (λ found. option_map (λ v. v.items) found ≡ load_part (held_of c.now p) at.offset n) }
+{
+    match inside(at, n, p.size) {
+        None => Ok(None),
+        Some(i) => Ok(Some(read_bytes(alloc, c, first(c, p, i), n)?)),
     }
+}
 
-    fn store_bytes(&mut self, at: Pointer, bytes: &[Byte]) -> Option<()>
-        ensures { Changes result self.old self.new (store_part self.old at.offset bytes.now) }
-    {
-        let i = inside_long(at.offset, bytes.len(), self.contents.len())?;
-        if self.read_only {
-            return None;
-        }
-        write_bytes(&mut self.contents, i, bytes);
-        Some(())
-    }
+/// The place among a region's bytes of one of an object's.
+fn first(c: &Contents, p: Place, i: u32) -> u32
+    requires within { IsWithin c.now p }
+    requires inside { i ≤ p.size }
+    ensures { result ≡ p.start + i }
+{
+    let _size = c.len();
+    p.start + i
+}
 
-    #[tactic(auto, using(crate::proofs::ObjectLemmas::replicate_long))]
-    fn fill(&mut self, at: Pointer, n: u32, b: u8) -> Option<()>
-        ensures { Changes result self.old self.new (fill_part self.old at.offset n b) }
-    {
-        let i = inside(at.offset, n, self.contents.len())?;
-        if self.read_only {
-            return None;
-        }
-        fill(&mut self.contents, i, n, Byte::Known(b));
-        Some(())
+/// Changes what stands at a place of some bytes, and gives the place that it has then.
+pub fn change_at(
+    c: &mut Contents,
+    p: Place,
+    abi: Abi,
+    at: Pointer,
+    change: Change<'_>,
+) -> Option<Place>
+    requires { IsWithin c.old p }
+    ensures { PlaceChanges result c.old c.new p (changed_held abi at.offset change.entry (held_of c.old p)) }
+{
+    match change {
+        Change::Store(s, v) => store_at(c, p, abi, at, s, v),
+        Change::Copy(bytes) => store_bytes_at(c, p, at, bytes),
+        Change::Fill(n, b) => fill_at(c, p, at, n, b),
+        Change::Protect(read_only) => Some(Place { read_only, ..p }),
     }
+}
+
+fn store_at(c: &mut Contents, p: Place, abi: Abi, at: Pointer, s: Scalar, v: Value) -> Option<Place>
+    requires { IsWithin c.old p }
+    ensures { PlaceChanges result c.old c.new p (store_held abi (held_of c.old p) at.offset s v) }
+{
+    let i = aligned(at, s.size(abi), p.size)?;
+    if p.read_only {
+        return None;
+    }
+    write(abi, c, first(c, p, i), s, v);
+    Some(p)
+}
+
+fn store_bytes_at(c: &mut Contents, p: Place, at: Pointer, bytes: &[Byte]) -> Option<Place>
+    requires { IsWithin c.old p }
+    ensures { PlaceChanges result c.old c.new p (store_part (held_of c.old p) at.offset bytes.now) }
+{
+    let i = inside_long(at, bytes.len(), p.size)?;
+    if p.read_only {
+        return None;
+    }
+    write_bytes(c, first(c, p, i), bytes);
+    Some(p)
+}
+
+fn fill_at(c: &mut Contents, p: Place, at: Pointer, n: u32, b: u8) -> Option<Place>
+    requires { IsWithin c.old p }
+    ensures { PlaceChanges result c.old c.new p (fill_part (held_of c.old p) at.offset n b) }
+{
+    let i = inside(at, n, p.size)?;
+    if p.read_only {
+        return None;
+    }
+    fill(c, first(c, p, i), n, Byte::Known(b));
+    Some(p)
+}
+
+/// Adds the bytes of what begins to live at the end of a region.
+pub fn begin(c: &mut Contents, b: &Beginning) -> Result<(), AllocError>
+    requires { length c.old + b.now.size < 2 ^ 32 }
+    ensures { Extended result c.old c.new (replicate b.now.size b.now.fill) }
+{
+    match b.fill {
+        Byte::Known(_) | Byte::Unknown => c.extend(b.size, b.fill),
+        Byte::Part(_, _) => begin_parts(c, b),
+    }
+}
+
+fn begin_parts(c: &mut Contents, b: &Beginning) -> Result<(), AllocError>
+    requires { length c.old + b.now.size < 2 ^ 32 }
+    ensures { Extended result c.old c.new (replicate b.now.size b.now.fill) }
+{
+    let start = c.len();
+    c.extend(b.size, Byte::Unknown)?;
+    fill(c, start, b.size, b.fill);
+    Ok(())
 }
 
 /// The place of the first of n bytes at an offset into an object of that size, if they all lie in it.
-fn inside(offset: i64, n: u32, size: u32) -> Option<u32>
-    ensures value { result ≡ inside offset n size }
+fn inside(at: Pointer, n: u32, size: u32) -> Option<u32>
+    ensures value { result ≡ inside at.offset n size }
     ensures room { IfSome result (λ i. i + n ≤ size) }
 {
-    inside_long(offset, n as usize, size)
+    inside_long(at, n as usize, size)
 }
 
 /// The same for a number of bytes that may be larger than any object.
-fn inside_long(offset: i64, n: usize, size: u32) -> Option<u32>
-    ensures value { result ≡ inside offset n size }
+fn inside_long(at: Pointer, n: usize, size: u32) -> Option<u32>
+    ensures value { result ≡ inside at.offset n size }
     ensures room { IfSome result (λ i. i + n ≤ size) }
 {
-    if offset < 0 || offset > size as i64 {
+    if at.offset < 0 || at.offset > size as i64 {
         return None;
     }
-    let i = offset as u32;
+    let i = at.offset as u32;
     if n <= (size - i) as usize {
         Some(i)
     } else {
@@ -172,11 +238,11 @@ fn inside_long(offset: i64, n: usize, size: u32) -> Option<u32>
 }
 
 /// The same for a scalar, whose alignment is its size.
-fn aligned(offset: i64, n: u32, size: u32) -> Option<u32>
+fn aligned(at: Pointer, n: u32, size: u32) -> Option<u32>
     requires { 0 < n }
-    ensures value { result ≡ aligned offset n size }
+    ensures value { result ≡ aligned at.offset n size }
     ensures room { IfSome result (λ i. i + n ≤ size) }
 {
-    let i = inside(offset, n, size)?;
+    let i = inside(at, n, size)?;
     if i % n == 0 { Some(i) } else { None }
 }

@@ -130,8 +130,8 @@ pub fn compute_unary(op: UnOp, kind: IntKind, v: Value) -> Option<Value>
 
 impl Store {
     /// What a pointer leads to that an operator may use.
-    fn reached(&self, p: Pointer) -> Option<&Object>
-        ensures { reached (memory self.now) p ≡ option_map (λ o. o.now) result }
+    fn reached(&self, p: Pointer) -> Option<Object<'_>>
+        ensures { reached (memory self.now) p ≡ result }
     {
         match self.find(p.name) {
             Some(object) => {
@@ -233,7 +233,7 @@ impl Store {
         let k = self.reached(q)?;
         if is_same_name(p.name, q.name) {
             Some(p.offset == q.offset)
-        } else if is_past_end(h, p) || is_past_end(k, q) {
+        } else if is_past_end(&h, p) || is_past_end(&k, q) {
             None
         } else {
             Some(false)

@@ -1,17 +1,26 @@
-ghost use Rattle.std.specs.Prelude.{◌≡◌, ◌<◌, ◌≤◌, ◌↔◌, ℕ, None, Some, [], option_map, length, OnOk, IsTrue, vec_len};
+ghost use Rattle.std.specs.Prelude.{◌≡◌, ◌<◌, ◌≤◌, ◌↔◌, ℕ, None, Some, [], length, OnOk, IsTrue, vec_len, nat_eq, if◌then◌else◌};
 ghost use Rattle.byte_mem.specs.Change.{changed_live};
 ghost use Rattle.byte_mem.specs.Layers.{slot, SlotChanges, SlotPut, IsPut};
+ghost use Rattle.byte_mem.specs.Places.{begun, place_at, given_up};
 
-use crate::objects::{Change, Object};
+use crate::contents::Contents;
+use crate::objects::{Beginning, Change, Object, Place};
 use crate::pointers::Pointer;
+use crate::regions::{change_in, is_last, place_new, trim};
 use cil_base::Abi;
 use std::alloc::{AllocError, Global};
 use std::marker::Model;
 
-/// Objects by number: a place for each, which may be empty.
+/// A few objects by number, which share regions of bytes.
 #[derive(Drop)]
 pub struct Slots {
-    slots: Vec<Option<Object>>,
+    alloc: Global,
+    /// A new region has room for so many objects of the size of its first one.
+    share: u32,
+    /// The region that objects were added to last.
+    open: usize,
+    regions: Vec<Contents>,
+    places: Vec<Option<Place>>,
 }
 
 impl Model for Slots {
@@ -20,96 +29,133 @@ impl Model for Slots {
 
     ghost Value = { List (Option Held) };
 
-    ghost view = { λ s. s.slots.items };
+    ghost use Rattle.byte_mem.specs.Places.{placed, IsApart};
+
+    ghost view = { λ s. placed s.regions.items s.places.items };
+
+    ghost invariant = { λ s. IsApart s.regions.items s.places.items };
 }
 
 impl Slots {
-    pub fn new(alloc: Global) -> Self
+    pub fn new(alloc: Global, share: u32) -> Self
         ensures { result ≡ [] }
     {
         Slots {
-            slots: Vec::new(alloc),
+            alloc,
+            share,
+            open: 0,
+            regions: Vec::new(alloc),
+            places: Vec::new(alloc),
         }
     }
 
     pub fn is_empty(&self) -> bool
         ensures { IsTrue result ↔ (self.now ≡ []) }
     {
-        self.slots.is_empty()
+        self.places.is_empty()
     }
 
-    /// The object at a place.
-    pub fn get(&self, i: usize) -> Option<&Object>
-        ensures { slot self.now i ≡ option_map (λ o. o.now) result }
+    /// The object of a number.
+    pub fn get(&self, i: usize) -> Option<Object<'_>>
+        ensures { slot self.now i ≡ result }
     {
-        if i < self.slots.len() {
-            self.slots[i].as_ref()
-        } else {
-            None
+        match place_at(&self.places, i) {
+            Some(place) => Some(Object::new(&self.regions[place.region], place)),
+            None => None,
         }
     }
 
-    /// Changes the object at a place.
+    /// Changes the object of a number.
     pub fn change(&mut self, abi: Abi, i: usize, at: Pointer, change: Change<'_>) -> Option<()>
         ensures { SlotChanges result self.old self.new i (changed_live abi at.offset change.entry (slot self.old i)) }
     {
-        if i >= self.slots.len() {
-            return None;
-        }
-        match &mut self.slots[i] {
-            None => None,
-            Some(object) => object.change(abi, at, change),
-        }
+        let place = place_at(&self.places, i)?;
+        let changed = change_in(&mut self.regions, place, abi, at, change)?;
+        self.places[i] = Some(changed);
+        Some(())
     }
 
-    /// Puts an object at a place, in the place of an earlier one.
-    pub fn put(&mut self, i: usize, object: Object) -> Result<(), AllocError>
-        ensures { SlotPut result self.old self.new i (Some object) }
+    /// Makes an object live, in the place of an earlier one.
+    pub fn put(&mut self, i: usize, b: &Beginning) -> Result<(), AllocError>
+        ensures { SlotPut result self.old self.new i (Some (begun b.now)) }
     {
-        grow(&mut self.slots, i)?;
-        self.slots[i] = Some(object);
+        grow(&mut self.places, i)?;
+        let place = place_new(&mut self.regions, self.alloc, self.open, self.share, b)?;
+        self.open = place.region;
+        let before = place_at(&self.places, i);
+        self.places[i] = Some(place);
+        give_up(&mut self.regions, self.alloc, &self.places, before);
         Ok(())
     }
 
-    /// Empties a place, and takes empty places at the end away.
+    /// Ends the life of an object, and gives up what no other one needs.
     pub fn clear(&mut self, i: usize)
         ensures { IsPut self.old self.new i None }
     {
-        if i < self.slots.len() {
-            self.slots[i] = None;
-        }
-        self.shed();
+        let before = place_at(&self.places, i);
+        empty(&mut self.places, i);
+        give_up(&mut self.regions, self.alloc, &self.places, before);
+        let last = used(&self.places);
+        self.places.truncate(last);
     }
+}
 
-    #[tactic(auto, using(crate::proofs::SlotLemmas::slot_taken))]
-    fn shed(&mut self)
-        ensures { (k : ℕ) → slot self.new k ≡ slot self.old k }
-    {
-        let last = used(&self.slots);
-        self.slots.truncate(last);
+/// The place of a number.
+fn place_at(places: &[Option<Place>], i: usize) -> Option<Place>
+    ensures { result ≡ place_at places.now i }
+{
+    if i < places.len() { places[i] } else { None }
+}
+
+/// Empties the place of a number.
+#[tactic(auto, using(crate::proofs::PlaceLemmas::place_emptied, crate::proofs::PlaceLemmas::place_absent))]
+fn empty(places: &mut Vec<Option<Place>>, i: usize)
+    ensures { (k : ℕ) → place_at places.new.items k ≡ (if nat_eq i k then None else place_at places.old.items k) }
+{
+    if i < places.len() {
+        places[i] = None;
+    }
+}
+
+/// Takes away what the region of an earlier place has behind the last object.
+fn give_up(
+    regions: &mut Vec<Contents>,
+    alloc: Global,
+    places: &[Option<Place>],
+    before: Option<Place>,
+)
+    ensures { regions.new.items ≡ given_up regions.old.items places.now before }
+{
+    match before {
+        Some(place) => {
+            if is_last(regions, place) {
+                trim(regions, alloc, places, place.region);
+            }
+        }
+        None => {}
     }
 }
 
 /// Makes places up to one, which are empty.
-#[tactic(auto, using(crate::proofs::SlotLemmas::slot_push))]
-fn grow(slots: &mut Vec<Option<Object>>, i: usize) -> Result<(), AllocError>
-    ensures same { (k : ℕ) → slot slots.new.items k ≡ slot slots.old.items k }
-    ensures long { OnOk result (i < vec_len slots.new) }
+#[tactic(auto, using(crate::proofs::PlaceLemmas::place_push))]
+fn grow(places: &mut Vec<Option<Place>>, i: usize) -> Result<(), AllocError>
+    ensures same { (k : ℕ) → place_at places.new.items k ≡ place_at places.old.items k }
+    ensures long { OnOk result (i < vec_len places.new) }
 {
-    while slots.len() <= i {
-        slots.push(None)?;
+    while places.len() <= i {
+        places.push(None)?;
     }
     Ok(())
 }
 
 /// The number of places up to the last that is not empty.
-#[tactic(auto, using(crate::proofs::SlotLemmas::slot_past))]
-fn used(slots: &[Option<Object>]) -> usize
-    ensures within { result ≤ length slots.now }
-    ensures rest { (k : ℕ) → result ≤ k → slot slots.now k ≡ None }
+#[tactic(auto, using(crate::proofs::PlaceLemmas::place_past))]
+fn used(places: &[Option<Place>]) -> usize
+    ensures within { result ≤ length places.now }
+    ensures rest { (k : ℕ) → result ≤ k → place_at places.now k ≡ None }
 {
-    let mut last = slots.len();
-    while last > 0 && slots[last - 1].is_none() {
+    let mut last = places.len();
+    while last > 0 && places[last - 1].is_none() {
         last -= 1;
     }
     last

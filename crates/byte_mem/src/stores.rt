@@ -5,14 +5,18 @@ ghost use Rattle.byte_mem.specs.Scalar.{IsValue};
 ghost use Rattle.byte_mem.specs.Change.{changed_held};
 ghost use Rattle.byte_mem.specs.Memory.{no_memory, with_held, make, make_function, end_object, live_size, protect, load, load_bytes, changed, store, store_bytes, fill, zero};
 ghost use Rattle.byte_mem.specs.Store.{memory, Stored, Becomes, Put};
+ghost use Rattle.byte_mem.specs.Places.{begun};
 
 use crate::frames::Stack;
-use crate::objects::{Change, Object};
+use crate::objects::{Beginning, Change, Object};
+use crate::pages::Pages;
 use crate::pointers::{ObjName, Pointer};
-use crate::slots::Slots;
 use crate::values::{Byte, Cells, Scalar, Value};
 use cil_base::{Abi, EntityId, Memory};
 use std::alloc::Global;
+
+/// So many objects of one size share a region of bytes.
+const SHARE: u32 = 64;
 
 /// The objects of a run, by name. Those with numbers of one kind stand in one list, so that an access
 /// finds its object by the number; the objects of activations stand in a stack of such lists.
@@ -22,10 +26,10 @@ use std::alloc::Global;
 pub struct Store {
     alloc: Global,
     abi: Abi,
-    entities: Slots,
-    literals: Slots,
-    arguments: Slots,
-    heap: Slots,
+    entities: Pages,
+    literals: Pages,
+    arguments: Pages,
+    heap: Pages,
     locals: Stack,
 }
 
@@ -47,10 +51,10 @@ impl Store {
         Store {
             alloc,
             abi,
-            entities: Slots::new(alloc),
-            literals: Slots::new(alloc),
-            arguments: Slots::new(alloc),
-            heap: Slots::new(alloc),
+            entities: Pages::new(alloc, SHARE),
+            literals: Pages::new(alloc, SHARE),
+            arguments: Pages::new(alloc, SHARE),
+            heap: Pages::new(alloc, SHARE),
             locals: Stack::new(alloc),
         }
     }
@@ -67,16 +71,26 @@ impl Store {
     pub fn make(&mut self, n: ObjName, size: u32, fill: Byte, read_only: bool) -> Result<(), Memory>
         ensures { Put result self.old self.new (make (memory self.old) n size fill read_only) }
     {
-        let object = Object::make(self.alloc, size, fill, read_only)?;
-        self.put(n, object)
+        let b = Beginning {
+            size,
+            fill,
+            read_only,
+            is_function: false,
+        };
+        self.put(n, &b)
     }
 
     /// Makes a function live under the number of an entity (own): it has offset 0 alone, and no bytes.
     pub fn make_function(&mut self, e: EntityId) -> Result<(), Memory>
         ensures { Put result self.old self.new (make_function (memory self.old) (ObjName.Entity e)) }
     {
-        let object = Object::function(self.alloc)?;
-        self.put(ObjName::Entity(e), object)
+        let b = Beginning {
+            size: 0,
+            fill: Byte::Known(0),
+            read_only: true,
+            is_function: true,
+        };
+        self.put(ObjName::Entity(e), &b)
     }
 
     /// Ends the life of what has a name, until it is made anew (C11 6.2.4p2).
@@ -167,8 +181,8 @@ impl Store {
     }
 
     /// What is live under a name.
-    pub(crate) fn find(&self, n: ObjName) -> Option<&Object>
-        ensures { memory self.now n ≡ option_map (λ o. o.now) result }
+    pub(crate) fn find(&self, n: ObjName) -> Option<Object<'_>>
+        ensures { memory self.now n ≡ result }
     {
         match n {
             ObjName::Entity(e) => self.entities.get(e.0 as usize),
@@ -197,18 +211,16 @@ impl Store {
     }
 
     #[tactic(auto, using(crate::proofs::StoreLemmas::entity_put, crate::proofs::StoreLemmas::local_put, crate::proofs::StoreLemmas::literal_put, crate::proofs::StoreLemmas::heap_put, crate::proofs::StoreLemmas::argument_put))]
-    fn put(&mut self, n: ObjName, object: Object) -> Result<(), Memory>
-        ensures { Put result self.old self.new (with_held (memory self.old) n (Some object)) }
+    fn put(&mut self, n: ObjName, b: &Beginning) -> Result<(), Memory>
+        ensures { Put result self.old self.new (with_held (memory self.old) n (Some (begun b.now))) }
     {
         let alloc = self.alloc;
         let put = match n {
-            ObjName::Entity(e) => self.entities.put(e.0 as usize, object),
-            ObjName::Local(activation, l) => {
-                self.locals.put(alloc, activation, l.0 as usize, object)
-            }
-            ObjName::Literal(i) => self.literals.put(i as usize, object),
-            ObjName::Heap(i) => self.heap.put(i as usize, object),
-            ObjName::Argument(i) => self.arguments.put(i as usize, object),
+            ObjName::Entity(e) => self.entities.put(e.0 as usize, b),
+            ObjName::Local(activation, l) => { self.locals.put(alloc, activation, l.0 as usize, b) }
+            ObjName::Literal(i) => self.literals.put(i as usize, b),
+            ObjName::Heap(i) => self.heap.put(i as usize, b),
+            ObjName::Argument(i) => self.arguments.put(i as usize, b),
         };
         put?;
         Ok(())

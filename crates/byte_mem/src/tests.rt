@@ -223,6 +223,66 @@ fn objects_live_until_they_end(rt: HostRuntime) -> Result<(), Fail> {
     Ok(())
 }
 
+/// The value of the int that an object of `malloc` begins with.
+fn first_int(store: &Store, i: u64) -> Option<Value> {
+    store.load(at(ObjName::Heap(i), 0), INT)
+}
+
+/// C11 6.2.4p2: objects of near and far numbers keep their own bytes, whichever of them begin, change and end.
+#[test]
+fn objects_keep_their_own_bytes(rt: HostRuntime) -> Result<(), Fail> {
+    let mut store = Store::new(rt.alloc());
+    for (i, size, fill) in [
+        (0, 4, 1),
+        (1, 4, 2),
+        (62, 8, 3),
+        (63, 9000, 4),
+        (64, 4, 5),
+        (130, 0, 6),
+        (2, 4, 7),
+        (3, 5000, 8),
+    ] {
+        store.make(ObjName::Heap(i), size, Byte::Known(fill), false)?;
+    }
+    let second = at(ObjName::Heap(1), 0);
+    assert_eq!(rt; store.store(second, INT, Value::Int(9)), Some(()));
+    store.end(ObjName::Heap(62));
+    store.make(ObjName::Heap(0), 8, Byte::Unknown, false)?;
+    store.end(ObjName::Heap(3));
+    store.make(ObjName::Heap(4), 6000, Byte::Known(0), false)?;
+    for (i, size, want) in [
+        (0, Some(8), Some(Value::Unknown)),
+        (1, Some(4), Some(Value::Int(9))),
+        (2, Some(4), Some(Value::Int(0x0707_0707))),
+        (3, None, None),
+        (4, Some(6000), Some(Value::Int(0))),
+        (62, None, None),
+        (63, Some(9000), Some(Value::Int(0x0404_0404))),
+        (64, Some(4), Some(Value::Int(0x0505_0505))),
+        (130, Some(0), None),
+        (131, None, None),
+    ] {
+        assert_eq!(rt; store.live_size(ObjName::Heap(i)), size, "{i}");
+        assert_eq!(rt; first_int(&store, i), want, "{i}");
+    }
+    Ok(())
+}
+
+/// An object may begin as parts of a pointer (own), among others whose bytes are numbers.
+#[test]
+fn objects_begin_as_parts(rt: HostRuntime) -> Result<(), Fail> {
+    let mut store = Store::new(rt.alloc());
+    let bytes = Byte::Part(at(a(), 4), 2);
+    store.make(ObjName::Heap(0), 4, Byte::Known(1), false)?;
+    store.make(ObjName::Heap(1), 3, bytes, false)?;
+    store.make(ObjName::Heap(2), 4, Byte::Known(2), false)?;
+    assert_eq!(rt; store.load(at(ObjName::Heap(1), 2), CHAR), Some(part(2)));
+    assert_eq!(rt; store.load(at(ObjName::Heap(1), 3), CHAR), None);
+    assert_eq!(rt; first_int(&store, 0), Some(Value::Int(0x0101_0101)));
+    assert_eq!(rt; first_int(&store, 2), Some(Value::Int(0x0202_0202)));
+    Ok(())
+}
+
 /// C11 6.2.6.1: a pointer's bytes one by one make it whole again, and no other type sees a number in them; known
 /// bytes are a number for a pointer type.
 #[test]

@@ -1,6 +1,6 @@
 //! So many stores and loads of an int over 1,000 objects of 64 bytes, calls with four locals, an object of
-//! 64 MiB, so many objects of 64 bytes or so many that are freed, as its arguments tell, with a checksum on
-//! standard output: what the store of objects is measured by.
+//! 64 MiB, so many objects of 8, 64 or 2,048 bytes or so many that are freed, as its arguments tell, with a
+//! checksum on standard output: what the store of objects is measured by.
 //!
 //! It promises that what it prints depends on its arguments alone.
 //!
@@ -123,11 +123,11 @@ fn block(alloc: Global) -> Result<u64, Memory> {
     Ok(store.live_size(ObjName::Heap(0)).map_or(0, u64::from))
 }
 
-/// So many objects of `malloc` of 64 bytes that live together.
-fn small(alloc: Global, count: u64) -> Result<u64, Memory> {
+/// So many objects of `malloc` of a size that live together.
+fn many(alloc: Global, size: u32, count: u64) -> Result<u64, Memory> {
     let mut store = Store::new(alloc);
     for i in 0..count {
-        store.make(ObjName::Heap(i), 64, Byte::Unknown, false)?;
+        store.make(ObjName::Heap(i), size, Byte::Unknown, false)?;
     }
     Ok(count)
 }
@@ -147,7 +147,9 @@ fn checksum(alloc: Global, mode: &str, count: u64) -> Result<u64, Memory> {
     match mode {
         "calls" => calls(alloc, count),
         "block" => block(alloc),
-        "small" => small(alloc, count),
+        "tiny" => many(alloc, 8, count),
+        "small" => many(alloc, 64, count),
+        "large" => many(alloc, 2048, count),
         "freed" => freed(alloc, count),
         "locals" => Ok(accesses(&mut locals(alloc)?, true, false, count)),
         "heap" => Ok(accesses(&mut heap(alloc)?, false, true, count)),

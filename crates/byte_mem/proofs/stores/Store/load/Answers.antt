@@ -6,4 +6,4 @@ use Rattle.byte_mem.proofs.stores.Store.load.Goals as goal
 
 pub returns-in-Some-clause-value : goal.returns-in-Some-clause-value
 returns-in-Some-clause-value c =
-    subst (λ (o : Option Value). IfSome o (IsValue c.args.self.now.abi c.args.s)) (sym c.load.ensures) (load_held_is_value c.args.self.now.abi c.in-Some.object.now c.args.at.offset c.args.s)
+    subst (λ (o : Option Value). IfSome o (IsValue c.args.self.now.abi c.args.s)) (sym c.load.ensures) (load_held_is_value c.args.self.now.abi c.in-Some.object c.args.at.offset c.args.s)
