@@ -1,5 +1,5 @@
 -- Device: the definitions on worked rows.
-use Rattle.std.proofs.Common.{◌≡◌, refl, ℕ, zero, suc, ◌+◌, length, Bool, true, false, List, [], ◌∷◌, ◌++◌, map, Option, Some, None, codes}
+use Rattle.std.proofs.Common.{◌≡◌, refl, ℕ, zero, suc, ◌+◌, length, Bool, true, false, List, [], ◌∷◌, map, Some, None, codes}
 use Rattle.cil_base.specs.declared.numbers.NameId.{NameId}
 use Rattle.cil_base.specs.declared.operators.BinOp.TheVariants.{Add, Sub, Mul, Lt}
 use Rattle.cil_base.specs.declared.tokens.Keyword.TheVariants.{Int as IntWord, Void as VoidWord, Return as ReturnWord, Sizeof as SizeofWord, Struct as StructWord, Enum as EnumWord, Static as StaticWord, Const as ConstWord, StaticAssert as StaticAssertWord, For as ForWord, Do as DoWord, While as WhileWord, Switch as SwitchWord, Case as CaseWord, Default as DefaultWord, Break as BreakWord}
@@ -14,7 +14,7 @@ use Rattle.c_tree.specs.declared.words.TagKind.TheVariants.{Struct as StructTag}
 use Rattle.c_tree.specs.declared.words.StepOp.TheVariants.{Increment}
 use Rattle.c_tree.specs.Syntax as t
 use Rattle.c_tree.specs.Units as u
-use Rattle.c_tree.specs.Spelling.{Lexeme, word, sign, named, integer, literal, spell_expr, spell_specifier, spell_declarator}
+use Rattle.c_tree.specs.Spelling.{word, sign, named, integer, literal, spell_expr, spell_specifier, spell_declarator}
 use Rattle.c_tree.specs.UnitSpelling.{spell_stmt, spell_unit}
 use Rattle.c_tree.specs.Height.{expr_height, stmt_height, external_height}
 use Rattle.c_tree.specs.Levels.{levelled, levelled_specifier, levelled_stmt, levelled_unit, levelled_declarator}

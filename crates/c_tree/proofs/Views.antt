@@ -1,5 +1,5 @@
 -- The plain tree of each variant that holds a list, from the list's elements.
-use Rattle.std.proofs.Common.{◌≡◌, refl, sym, ◌∙◌, ap, ℕ, Bool, List, [], ◌∷◌, Option, Some, None, Vec, Box, Global}
+use Rattle.std.proofs.Common.{◌≡◌, refl, sym, ◌∙◌, ap, ℕ, Bool, List, Option, Vec, Box, Global}
 use Rattle.cil_base.specs.declared.numbers.NameId.{NameId}
 use Rattle.c_tree.specs.declared.words.StructKind.{StructKind}
 use Rattle.c_tree.specs.declared.expression.Expr.{Expr}
@@ -20,7 +20,7 @@ use Rattle.c_tree.specs.declared.expression.Declarator.TheVariants.{Function as 
 use Rattle.c_tree.specs.declared.expression.Init.TheVariants.{Braces as BracesInit}
 use Rattle.c_tree.specs.declared.expression.ArrayBound.TheBlock.{Row_of-Specifier, end_of-Specifier, more_of-Specifier, items-the_row-Specifier, hidden-the_row-Specifier-0, items_hidden-the_row-Specifier-0, Row_of-Parameter, end_of-Parameter, more_of-Parameter, items-the_row-Parameter, hidden-the_row-Parameter-1, items_hidden-the_row-Parameter-1, Row_of-Expr, end_of-Expr, more_of-Expr, items-the_row-Expr, hidden-the_row-Expr-2, items_hidden-the_row-Expr-2, Row_of-Designator, end_of-Designator, more_of-Designator, items-the_row-Designator, hidden-the_row-Designator-3, items_hidden-the_row-Designator-3, Row_of-InitItem, end_of-InitItem, more_of-InitItem, items-the_row-InitItem, hidden-the_row-InitItem-4, items_hidden-the_row-InitItem-4, Row_of-MemberDeclarator, end_of-MemberDeclarator, more_of-MemberDeclarator, items-the_row-MemberDeclarator, hidden-the_row-MemberDeclarator-5, items_hidden-the_row-MemberDeclarator-5, Row_of-MemberDeclaration, end_of-MemberDeclaration, more_of-MemberDeclaration, items-the_row-MemberDeclaration, hidden-the_row-MemberDeclaration-6, items_hidden-the_row-MemberDeclaration-6, Row_of-Enumerator, end_of-Enumerator, more_of-Enumerator, items-the_row-Enumerator, hidden-the_row-Enumerator-7, items_hidden-the_row-Enumerator-7, shown-the_row-Specifier-0, items_shown-the_row-Specifier-0, shown-the_row-Designator-3, items_shown-the_row-Designator-3, Held-Enumerator-value, None', Some', view-Enumerator-value}
 use Rattle.c_tree.specs.Syntax as plain
-use Rattle.c_tree.specs.View.{expr_of, specifier_of, member_of, member_declarator_of, declarator_of, bound_of, init_of, designator_of, value_of, maybe_of, specifiers_row, specifiers_of, parameters_row, parameters_of, exprs_row, exprs_of, designators_row, designators_of, items_row, items_of, member_declarators_row, member_declarators_of, members_row, members_of, enumerators_row, enumerators_of, enumerator_of, parameter_of, item_of}
+use Rattle.c_tree.specs.View.{expr_of, specifier_of, member_of, member_declarator_of, declarator_of, init_of, designator_of, value_of, maybe_of, specifiers_row, specifiers_of, parameters_row, parameters_of, exprs_row, exprs_of, designators_row, designators_of, items_row, items_of, member_declarators_row, member_declarators_of, members_row, members_of, enumerators_row, enumerators_of}
 
 row_specifiers : {n : _} (k : Row_of-Specifier n) → specifiers_row k ≡ specifiers_of (items-the_row-Specifier n k)
 row_specifiers end_of-Specifier = refl

@@ -1,5 +1,5 @@
 -- Device: heights as the code computes them, capped at the greatest number of 32 bits, and the greatest of a list.
-use Rattle.std.specs.Prelude.{◌≡◌, ℕ, ◌≤◌, min, max, List, [], ◌∷◌, drop}
+use Rattle.std.specs.Prelude.{◌≡◌, ℕ, min, max, List, [], ◌∷◌, drop}
 
 unfoldable pub capped : ℕ → ℕ
 capped n = min n 4294967295

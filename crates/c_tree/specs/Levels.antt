@@ -4,7 +4,6 @@
 use Rattle.std.specs.Prelude.{ℕ, Bool, true, false, not, ◌&&◌, ◌||◌, nat_le, List, [], ◌∷◌, Option, Some, None}
 use Rattle.cil_base.specs.declared.operators.BinOp.{BinOp}
 use Rattle.cil_base.specs.declared.operators.BinOp.TheVariants.{Mul, Div, Rem, Add, Sub, Shl, Shr, Lt, Gt, Le, Ge, Eq, Ne, And, Xor, Or}
-use Rattle.c_tree.specs.declared.words.Qualifier.{Qualifier}
 use Rattle.c_tree.specs.declared.words.LogicalOp.{LogicalOp}
 use Rattle.c_tree.specs.declared.words.LogicalOp.TheVariants.{And as BothOf, Or as OneOf}
 use Rattle.c_tree.specs.declared.level.Level.{Level}

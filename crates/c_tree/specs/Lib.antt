@@ -8,3 +8,8 @@ pub mod Height
 pub mod Levels
 pub mod Placed
 pub mod Capped
+pub mod Scoped
+pub mod Grammatical
+pub mod Told
+pub mod SpelledTokens
+pub mod Added

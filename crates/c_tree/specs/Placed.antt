@@ -1,8 +1,8 @@
 -- Definition: each node of a syntax tree has the number of its first token, and an absent identifier that of the token behind its place (own). `n` is the number of the first token of what is asked about.
-use Rattle.std.specs.Prelude.{ℕ, ◌+◌, Bool, true, false, ◌&&◌, nat_eq, List, [], ◌∷◌, length, Option, Some, None}
+use Rattle.std.specs.Prelude.{ℕ, ◌+◌, Bool, true, ◌&&◌, nat_eq, List, [], ◌∷◌, length, Option, Some, None}
 use Rattle.c_tree.specs.Syntax.{ExprTree, Name, Integer, Character, Literals, Parentheses, Index, Call, Member, Arrow, Postfix, CompoundLiteral, Prefix, Unary, SizeofExpr, SizeofType, AlignofType, Cast, Binary, Logical, Conditional, Assign, Comma, ExprTrees, NoExprs, MoreExprs, SpecifierTree, Storage, Basic, Qualified, Functional, TypedefName, Tag, StructBody, EnumBody, SpecifierTrees, NoSpecifiers, MoreSpecifiers, MemberTree, MemberLine, MemberAssert, MemberTrees, NoMembers, MoreMembers, MemberDeclaratorTree, Plain, BitField, MemberDeclaratorTrees, NoMemberDeclarators, MoreMemberDeclarators, EnumeratorTree, Enumerates, EnumeratorTrees, NoEnumerators, MoreEnumerators, MaybeExpr, NoExpr, SomeExpr, DeclaratorTree, Declared, Absent, Grouped, Pointer, Array, Function, Unprototyped, BoundTree, Unspecified, Star, Size, StaticSize, SizeStatic, ParameterTree, Parameter, ParameterTrees, NoParameters, MoreParameters, InitTree, Single, Braces, ItemTree, Item, ItemTrees, NoItems, MoreItems, DesignatorTree, AtIndex, AtMember, DesignatorTrees, NoDesignators, MoreDesignators}
 use Rattle.c_tree.specs.Units.{DeclarationTree, Declares, Asserts, ForStart, StartExpr, StartDeclaration, StmtTree, Labelled, Case, Default, Compound, Expression, If, IfElse, Switch, While, Do, For, Goto, Continue, Break, Return, BlockItem, Declaring, Doing, BlockItems, NoItems as NoStatements, MoreItems as MoreStatements, ExternalTree, Definition, External, UnitTree}
-use Rattle.c_tree.specs.Spelling.{Lexeme, spell_expr, spell_specifier, spell_specifiers, spell_tag, spell_member, spell_member_declarator, spell_enumerator, spell_declarator, spell_parameter, spell_item, spell_designator, spell_designation, spell_init}
+use Rattle.c_tree.specs.Spelling.{spell_expr, spell_specifier, spell_specifiers, spell_tag, spell_member, spell_member_declarator, spell_enumerator, spell_declarator, spell_parameter, spell_item, spell_designator, spell_designation}
 use Rattle.c_tree.specs.UnitSpelling.{spell_maybe, spell_init_declarator, spell_declaration, spell_declarations, spell_start, spell_stmt, spell_block_item, spell_external}
 
 abbrev mutual

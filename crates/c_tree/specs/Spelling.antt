@@ -1,12 +1,12 @@
 -- Definition: the tokens of a syntax tree (C11 Annex A), one case for each constructor.
-use Rattle.std.specs.Prelude.{ℕ, Bool, true, false, List, [], ◌∷◌, ◌++◌, map, Option, Some, None, if◌then◌else◌}
+use Rattle.std.specs.Prelude.{ℕ, Bool, true, false, List, [], ◌∷◌, ◌++◌, map, Option, Some, None}
 use Rattle.cil_base.specs.declared.numbers.NameId.{NameId}
 use Rattle.cil_base.specs.declared.operators.BinOp.{BinOp}
 use Rattle.cil_base.specs.declared.operators.BinOp.TheVariants.{Mul, Div, Rem, Add, Sub, Shl, Shr, Lt, Gt, Le, Ge, Eq, Ne, And, Xor, Or}
 use Rattle.cil_base.specs.declared.tokens.TokenKind.{TokenKind}
 use Rattle.cil_base.specs.declared.tokens.TokenKind.TheVariants.{Name as IsName, Keyword as IsKeyword, Integer as IsInteger, Character as IsCharacter, Literal as IsLiteral, Punctuator as IsPunctuator}
 use Rattle.cil_base.specs.declared.tokens.Keyword.{Keyword}
-use Rattle.cil_base.specs.declared.tokens.Keyword.TheVariants.{Auto as AutoWord, Break as BreakWord, Case as CaseWord, Char as CharWord, Const as ConstWord, Continue as ContinueWord, Default as DefaultWord, Do as DoWord, Else as ElseWord, Enum as EnumWord, Extern as ExternWord, For as ForWord, Goto as GotoWord, If as IfWord, Inline as InlineWord, Int as IntWord, Long as LongWord, Register as RegisterWord, Restrict as RestrictWord, Return as ReturnWord, Short as ShortWord, Signed as SignedWord, Sizeof as SizeofWord, Static as StaticWord, Struct as StructWord, Switch as SwitchWord, Typedef as TypedefWord, Union as UnionWord, Unsigned as UnsignedWord, Void as VoidWord, While as WhileWord, Alignof as AlignofWord, Bool as BoolWord, Noreturn as NoreturnWord, StaticAssert as StaticAssertWord}
+use Rattle.cil_base.specs.declared.tokens.Keyword.TheVariants.{Auto as AutoWord, Char as CharWord, Const as ConstWord, Enum as EnumWord, Extern as ExternWord, Inline as InlineWord, Int as IntWord, Long as LongWord, Register as RegisterWord, Restrict as RestrictWord, Short as ShortWord, Signed as SignedWord, Sizeof as SizeofWord, Static as StaticWord, Struct as StructWord, Typedef as TypedefWord, Union as UnionWord, Unsigned as UnsignedWord, Void as VoidWord, Alignof as AlignofWord, Bool as BoolWord, Noreturn as NoreturnWord, StaticAssert as StaticAssertWord}
 use Rattle.cil_base.specs.declared.tokens.Punctuator.{Punctuator}
 use Rattle.cil_base.specs.declared.tokens.Punctuator.TheVariants.{LeftBracket, RightBracket, LeftParen, RightParen, LeftBrace, RightBrace, Dot, Arrow as ArrowSign, PlusPlus, MinusMinus, Ampersand, Star as StarSign, Plus, Minus, Tilde, Exclamation, Slash, Percent, LeftShift, RightShift, Less, Greater, LessEqual, GreaterEqual, EqualEqual, ExclamationEqual, Caret, Bar, AmpersandAmpersand, BarBar, Question, Colon, Semicolon, Ellipsis, Equal, StarEqual, SlashEqual, PercentEqual, PlusEqual, MinusEqual, LeftShiftEqual, RightShiftEqual, AmpersandEqual, CaretEqual, BarEqual, Comma as CommaSign}
 use Rattle.c_tree.specs.declared.words.StorageClass.{StorageClass}

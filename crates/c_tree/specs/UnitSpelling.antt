@@ -1,5 +1,5 @@
 -- Definition: the tokens of declarations, statements and translation units (C11 Annex A.2.2 to A.2.4), one case for each constructor.
-use Rattle.std.specs.Prelude.{ℕ, List, [], ◌∷◌, ◌++◌, map, Option, Some, None}
+use Rattle.std.specs.Prelude.{List, [], ◌∷◌, ◌++◌, map, Option, Some, None}
 use Rattle.cil_base.specs.declared.tokens.Keyword.TheVariants.{Break as BreakWord, Case as CaseWord, Continue as ContinueWord, Default as DefaultWord, Do as DoWord, Else as ElseWord, For as ForWord, Goto as GotoWord, If as IfWord, Return as ReturnWord, Switch as SwitchWord, While as WhileWord}
 use Rattle.cil_base.specs.declared.tokens.Punctuator.TheVariants.{Colon, Semicolon, Equal}
 use Rattle.c_tree.specs.Syntax.{ExprTree, DeclaratorTree, InitTree}

@@ -1,5 +1,5 @@
 -- Definition: the plain tree that a declaration, a statement or a unit of the code stands for.
-use Rattle.std.specs.Prelude.{ℕ, List, [], ◌∷◌, map, Option}
+use Rattle.std.specs.Prelude.{List, [], ◌∷◌, map, Option}
 use Rattle.std.specs.Option.{option_map}
 use Rattle.c_tree.specs.declared.statement.InitDeclarator.{InitDeclarator}
 use Rattle.c_tree.specs.declared.statement.Declaration.{Declaration}

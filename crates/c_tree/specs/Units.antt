@@ -1,6 +1,6 @@
 -- Definition: declarations (A.2.2), statements (A.2.3) and external definitions (A.2.4) of C11 Annex A as plain data.
 -- `at` is the number of a node's first token; `StartExpr`, `StartDeclaration`, `Declaring`, `Doing` and `External` have none and begin with their part.
-use Rattle.std.specs.Prelude.{ℕ, Bool, List, Option}
+use Rattle.std.specs.Prelude.{ℕ, List, Option}
 use Rattle.cil_base.specs.declared.numbers.NameId.{NameId}
 use Rattle.c_tree.specs.Syntax.{ExprTree, SpecifierTrees, DeclaratorTree, InitTree}
 

@@ -1,5 +1,5 @@
 -- Definition: the plain tree that a tree of the code stands for.
-use Rattle.std.specs.Prelude.{ℕ, List, [], ◌∷◌, Option, Some, None, Box}
+use Rattle.std.specs.Prelude.{List, [], ◌∷◌, Option, Some, None, Box}
 use Rattle.std.specs.declared.alloc.Global.{Global}
 use Rattle.c_tree.specs.declared.expression.Expr.{Expr}
 use Rattle.c_tree.specs.declared.expression.Expr.TheVariants.{Name as Expr-Name, Integer as Expr-Integer, Character as Expr-Character, Literals as Expr-Literals, Parentheses' as Expr-Parentheses, Index' as Expr-Index, Call' as Expr-Call, Member' as Expr-Member, Arrow' as Expr-Arrow, Postfix' as Expr-Postfix, CompoundLiteral' as Expr-CompoundLiteral, Prefix' as Expr-Prefix, Unary' as Expr-Unary, SizeofExpr' as Expr-SizeofExpr, SizeofType' as Expr-SizeofType, AlignofType' as Expr-AlignofType, Cast' as Expr-Cast, Binary' as Expr-Binary, Logical' as Expr-Logical, Conditional' as Expr-Conditional, Assign' as Expr-Assign, Comma' as Expr-Comma}

@@ -80,6 +80,9 @@ pub enum Specifier {
     Enumerators(u32, Option<NameId>, Vec<Enumerator>, bool),
 }
 
+/// The specifiers and qualifiers of a declaration in their order (C11 6.7).
+pub type Specifiers = Vec<Specifier>;
+
 /// A declaration among members (C11 6.7.2.1).
 #[cycle(tree)]
 #[derive(Drop)]

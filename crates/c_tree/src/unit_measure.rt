@@ -166,7 +166,7 @@ fn height_of_definition(x: &FunctionDefinition) -> u32
 }
 
 /// The height of an external declaration, up to the greatest number.
-fn height_of_external(x: &ExtDecl) -> u32
+pub fn height_of_external(x: &ExtDecl) -> u32
     ensures { result ≡ capped (external_height (external_of x.now)) }
 {
     match x {

@@ -1,4 +1,3 @@
-use Rattle.std.proofs.Common.{◌≡◌}
 use Rattle.c_tree.specs.Capped.{Highest}
 use Rattle.c_tree.specs.View.{expr_of, specifier_of, member_of, member_declarator_of, enumerator_of, parameter_of, item_of, designator_of}
 use Rattle.c_tree.specs.Height.{expr_height, specifier_height, member_height, member_declarator_height, enumerator_height, parameter_height, item_height, designator_height}
