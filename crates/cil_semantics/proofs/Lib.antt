@@ -1,0 +1,8 @@
+pub mod Samples
+mod Rows
+mod LinkRows
+mod JumpRows
+mod MemoryRows
+pub mod Tameness
+pub mod ProgramLaws
+pub mod Quiet

@@ -1,0 +1,152 @@
+-- Definition: what expressions and lvalues of CIL mean in a memory (C11 6.3.2.1, 6.5); they change nothing, and None is what is undefined. An lvalue's meaning, its place, is a value (own).
+use Rattle.std.specs.Prelude.{ℕ, Bool, true, false, not, Option, Some, None, option_map, List, slice_get, pos}
+use Rattle.cil_base.specs.declared.kinds.Abi.{Abi}
+use Rattle.cil_base.specs.declared.kinds.IntKind.TheVariants.{Int as int}
+use Rattle.cil_base.specs.declared.operators.BinOp.{BinOp}
+use Rattle.cil_base.specs.declared.operators.BinOp.TheVariants.{Add, Sub}
+use Rattle.cil_base.specs.declared.operators.UnOp.{UnOp}
+use Rattle.cil_base.specs.declared.operators.UnOp.TheVariants.{Neg, Compl, Not}
+use Rattle.cil_base.specs.Arithmetic.{told}
+use Rattle.type_graph.specs.declared.layout.Layout.{Layout}
+use Rattle.type_graph.specs.Shapes.{Shape, VoidType, IntType, PtrType, ArrayType, FuncType, AggType}
+use Rattle.type_graph.specs.Arena.{Graph}
+use Rattle.type_graph.specs.Layouts.{offset}
+use Rattle.byte_mem.specs.declared.pointers.ObjName.{ObjName}
+use Rattle.byte_mem.specs.declared.pointers.ObjName.TheVariants.{Entity}
+use Rattle.byte_mem.specs.declared.values.Scalar.{Scalar}
+use Rattle.byte_mem.specs.declared.values.Scalar.TheVariants.{Int as OfKind, Ptr as OfPointer}
+use Rattle.byte_mem.specs.declared.values.Value.{Value}
+use Rattle.byte_mem.specs.declared.values.Value.TheVariants.{Int, Ptr, Unknown}
+use Rattle.byte_mem.specs.Steps.{◌>>=◌}
+use Rattle.byte_mem.specs.Memory.{Memory}
+use Rattle.byte_mem.specs.Operator.{converted, place_of, truth, compared, pointer_sum, pointer_less, pointer_difference, member_place, element_place, computed, unary}
+use Rattle.execution.specs.Data.{Kind, OfVoid, OfScalar, OfAggregate, Datum, Single, Bytes, load_datum, local_name}
+use Rattle.cil_tree.specs.Tree.{Exp, Const, Value as ValueOf, Un, Bin, Cast, AddrOf, StartOf, Host, Global, Var, At, Offsets, Here, Field, Index, Lval, Place}
+use Rattle.cil_tree.specs.Typing.{Scope, names_enum, member_type, element_of, type_of, host_type, place_type}
+use Rattle.cil_tree.specs.Globals.{aggregate_of}
+use Rattle.cil_tree.specs.Text.{shape_layout}
+
+-- where statements run: their function and program, the run's number of each global of the program, and the number of the activation
+pub record Activation : Type 0 where
+  pub scope : Scope
+  pub entities : List ℕ
+  pub number : ℕ
+
+abbrev pub graph_of : Activation → Graph
+graph_of a = a.scope.program.graph
+
+abbrev pub abi_of : Activation → Abi
+abi_of a = a.scope.program.graph.abi
+
+-- the size of a complete type in bytes (C11 6.5.3.4), by the layout of its own program
+abbrev pub size_in : Graph → Shape → Option ℕ
+size_in g s = option_map (λ (l : Layout). l.size) (shape_layout g s)
+
+-- an enum is an int (own), another aggregate has a size
+abbrev pub aggregate_kind : Bool → Graph → ℕ → Option Kind
+aggregate_kind true g a = Some (OfScalar (OfKind int))
+aggregate_kind false g a = option_map OfAggregate (size_in g (AggType a))
+
+-- the kind of a type; functions, arrays and what is incomplete have none, but for void
+abbrev pub kind_in : Graph → Shape → Option Kind
+kind_in g VoidType = Some OfVoid
+kind_in g (IntType kind) = Some (OfScalar (OfKind kind))
+kind_in g (PtrType q s) = Some (OfScalar OfPointer)
+kind_in g (AggType a) = aggregate_kind (names_enum g a) g a
+kind_in g (ArrayType q s bound) = None
+kind_in g (FuncType ret params proto variadic) = None
+
+abbrev pub scalar_kind : Kind → Option Scalar
+scalar_kind (OfScalar s) = Some s
+scalar_kind OfVoid = None
+scalar_kind (OfAggregate size) = None
+
+abbrev pub scalar_in : Graph → Shape → Option Scalar
+scalar_in g s = kind_in g s >>= scalar_kind
+
+abbrev pub single_in : Datum → Option Value
+single_in (Single v) = Some v
+single_in (Bytes bytes) = None
+
+-- C11 6.5.3.3: `-` and `~` on a promoted operand; `!` is a test
+abbrev pub unary_value : Activation → Memory → UnOp → Shape → Value → Option Value
+unary_value a m Not s v = scalar_in (graph_of a) s >>= λ t. truth m t v >>= λ holds. Some (Int (told (not holds)))
+unary_value a m Neg (IntType kind) v = unary Neg kind v
+unary_value a m Neg _ v = None
+unary_value a m Compl (IntType kind) v = unary Compl kind v
+unary_value a m Compl _ v = None
+
+-- C11 6.5.6p8: an integer added to a pointer or subtracted from it
+abbrev pub moved_value : Memory → BinOp → Value → Value → ℕ → Option Value
+moved_value m Add v i size = pointer_sum m v i size
+moved_value m Sub v i size = pointer_less m v i size
+moved_value m _ v i size = None
+
+abbrev pub summed_value : Memory → BinOp → Value → Value → ℕ → Option Value
+summed_value m Add i v size = pointer_sum m v i size
+summed_value m _ i v size = None
+
+-- C11 6.5.6p9, 6.5.8p5, 6.5.9p6: two pointers
+abbrev pub pointers_value : Activation → Memory → BinOp → Shape → Value → Value → Option Value
+pointers_value a m Sub s v w = size_in (graph_of a) s >>= pointer_difference m v w
+pointers_value a m op s v w = compared m op v w >>= λ holds. Some (Int (told holds))
+
+-- C11 6.5.5 to 6.5.12, by the operands' types
+abbrev pub binary_value : Activation → Memory → BinOp → Shape → Shape → Value → Value → Option Value
+binary_value a m op (IntType k) (IntType l) v w = computed op k v w
+binary_value a m op (PtrType q s) (IntType l) v w = size_in (graph_of a) s >>= moved_value m op v w
+binary_value a m op (IntType k) (PtrType q s) v w = size_in (graph_of a) s >>= summed_value m op v w
+binary_value a m op (PtrType p s) (PtrType q t) v w = pointers_value a m op s v w
+binary_value a m op _ _ v w = None
+
+-- C11 6.3, 6.5.4: a conversion; a cast to void uses nothing of the value (6.3.2.2)
+abbrev pub cast_value : Activation → Shape → Datum → Option Value
+cast_value a VoidType d = Some Unknown
+cast_value a to d = scalar_in (graph_of a) to >>= λ t. single_in d >>= λ v. Some (converted (abi_of a) t v)
+
+-- the place of an object or function is a pointer to it
+abbrev pub pointer_at : ObjName → Value
+pointer_at name = Ptr (record { name = name; offset = pos 0 })
+
+abbrev pub global_place : Activation → ℕ → Option Value
+global_place a n = slice_get a.entities n >>= λ e. Some (pointer_at (Entity (record { 0 = e })))
+
+abbrev pub member_offset : Activation → Shape → ℕ → Option ℕ
+member_offset a s n = aggregate_of s >>= λ x. offset (graph_of a) x n
+
+abbrev mutual
+  pub value : Activation → Memory → Exp → Option Datum
+  value a m (Const kind n) = Some (Single (Int (pos n)))
+  value a m (ValueOf p) = place_type a.scope p >>= kind_in (graph_of a) >>= λ k. place a m p >>= load_datum (abi_of a) m k
+  value a m (Un op e) = type_of a.scope e >>= λ s. value a m e >>= single_in >>= λ v. option_map Single (unary_value a m op s v)
+  value a m (Bin op left right) =
+      type_of a.scope left >>= λ s. type_of a.scope right >>= λ t. value a m left >>= single_in >>= λ v. value a m right >>= single_in >>= λ w.
+      option_map Single (binary_value a m op s t v w)
+  value a m (Cast to e) = to >>= λ t. value a m e >>= λ d. option_map Single (cast_value a t d)
+  -- C11 6.5.3.2p3: the place itself, so that `& * e` is e
+  value a m (AddrOf p) = option_map Single (place a m p)
+  -- C11 6.3.2.1p3: an array's first element stands where the array does
+  value a m (StartOf p) = option_map Single (place a m p)
+
+  pub host_place : Activation → Memory → Host → Option Value
+  host_place a m (Global n) = global_place a n
+  host_place a m (Var n) = Some (pointer_at (local_name a.number n))
+  host_place a m (At e) = value a m e >>= single_in >>= place_of
+
+  -- C11 6.5.2.3p3, 6.5.2.1p2: the place of a part, from the place of a whole of that type
+  pub part_place : Activation → Memory → Offsets → Shape → Value → Option Value
+  part_place a m Here s v = Some v
+  part_place a m (Field n more) s v = member_type (graph_of a) s n >>= λ t. member_offset a s n >>= λ o. member_place m v o >>= part_place a m more t
+  part_place a m (Index e more) s v =
+      element_of s >>= λ t. size_in (graph_of a) t >>= λ size. value a m e >>= single_in >>= λ i. element_place m v i size >>= part_place a m more t
+
+  pub place : Activation → Memory → Lval → Option Value
+  place a m (Place host offsets) = host_type a.scope host >>= λ s. host_place a m host >>= part_place a m offsets s
+
+-- the value of an expression of scalar type
+abbrev pub scalar_value : Activation → Memory → Exp → Option Value
+scalar_value a m e = value a m e >>= single_in
+
+-- C11 6.8.4.1p2: whether a value compares unequal to 0
+abbrev pub holds_of : Activation → Memory → Exp → Option Bool
+holds_of a m e = type_of a.scope e >>= scalar_in (graph_of a) >>= λ t. scalar_value a m e >>= truth m t

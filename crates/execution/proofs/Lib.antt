@@ -1,0 +1,9 @@
+pub mod Congruence
+pub mod CallCongruence
+pub mod FixedPoint
+pub mod Twins
+pub mod HostOutput
+pub mod CallLaws
+pub mod LinkLaws
+pub mod RunLaws
+pub mod Quiet

@@ -1,0 +1,7 @@
+use Rattle.execution.specs.Linking.{linked, main_entity}
+use Rattle.execution.proofs.LinkLaws.{linked_tame}
+use Rattle.execution.proofs.RunLaws.{run_cuts}
+use Rattle.execution.proofs.laws.bounds_only_cut.Goals as goal
+
+pub returns : goal.returns
+returns c = λ units h words input. run_cuts (linked units) (linked_tame units h) (main_entity units) words input

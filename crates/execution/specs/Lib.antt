@@ -1,0 +1,10 @@
+pub mod States
+pub mod Unrolling
+pub mod Data
+pub mod Jumps
+pub mod Calls
+pub mod Linking
+pub mod Runs
+pub mod Likeness
+pub mod Bounds
+pub mod Laws

@@ -1,0 +1,83 @@
+-- Device: what it means that two runs are alike: the form in which each combinator's congruence is stated, once for the fixed point, for bounds and for translations.
+use Rattle.std.specs.Prelude.{◌≡◌, ◌≤◌, true, false, Option, Some, None}
+use Rattle.cil_base.specs.Outcome.{IsPrefix}
+use Rattle.execution.specs.States.{State, Result, Goes, Exits, Running, Undefined, last}
+use Rattle.execution.specs.Data.{Datum}
+use Rattle.execution.specs.Jumps.{Target, Signal, Normal, Broken, Jumped, Returned, Has, Goer}
+
+-- what a run may come to from a state: its output only grows, and no units come
+pub record Later (s u : State) : Type 0 where
+  pub written : IsPrefix s.out u.out
+  pub spent : u.left ≤ s.left
+
+-- where the first run ends, the second ends so too, or comes to a state past that end
+pub data Ending : Type 0 where
+  Exact : Ending
+  Past : Ending
+
+-- which states are alike, which data are, which states are past another's end, and what the second run does where the first is at its bound, and where it is undefined
+pub record Likeness : Type 1 where
+  pub states : State → State → Type 0
+  pub values : Datum → Datum → Type 0
+  pub past : State → State → Type 0
+  pub later : (s t u : State) → past s t → Later t u → past s u
+  pub cut : Ending
+  pub wild : Ending
+
+-- the second run ends so too, in a state that is alike
+abbrev pub EndsSo : {B : Type 0} → Likeness → (State → Result B) → State → Result B → Type 0
+EndsSo L end s q = (t : State) × L.states s t × (q ≡ end t)
+
+abbrev pub ends : {B : Type 0} → Ending → Likeness → (State → Result B) → State → Result B → Type 0
+ends Exact L end s q = EndsSo L end s q
+ends Past L end s q = L.past s (last q)
+
+-- alike results: what they give is related by R
+abbrev pub Like : {A B : Type 0} → Likeness → (A → B → Type 0) → Result A → Result B → Type 0
+Like {A} {B} L R (Goes a s) q = (b : B) × (t : State) × R a b × L.states s t × (q ≡ Goes b t)
+Like L R (Exits status s) q = EndsSo L (Exits status) s q
+Like L R (Running s) q = ends L.cut L Running s q
+Like L R (Undefined s) q = ends L.wild L Undefined s q
+
+-- which targets of the second side stand for one of the first
+abbrev pub Targets : Type 1
+Targets = Target → Target → Type 0
+
+abbrev pub Same : {A : Type 0} → A → A → Type 0
+Same a b = b ≡ a
+
+abbrev pub LikeValue : Likeness → Option Datum → Signal → Type 0
+LikeValue L None y = y ≡ Returned None
+LikeValue L (Some d) y = (e : Datum) × L.values d e × (y ≡ Returned (Some e))
+
+abbrev pub LikeSignal : Likeness → Targets → Signal → Signal → Type 0
+LikeSignal L c Normal y = y ≡ Normal
+LikeSignal L c Broken y = y ≡ Broken
+LikeSignal L c (Jumped x) y = (u : Target) × c x u × (y ≡ Jumped u)
+LikeSignal L c (Returned v) y = LikeValue L v y
+
+-- entered at targets that c relates, two parts jump to targets that d relates
+pub record LikeGoer (L : Likeness) (c d : Targets) (go to : Goer) : Type 0 where
+  pub start : (s t : State) → L.states s t → Like L (LikeSignal L d) (go None s) (to None t)
+  pub at : (x y : Target) → c x y → (s t : State) → L.states s t → Like L (LikeSignal L d) (go (Some x) s) (to (Some y) t)
+
+-- what comes behind only writes and spends
+abbrev pub Grows : {A B : Type 0} → (A → State → Result B) → Type 0
+Grows {A} to = (a : A) (s : State) → Later s (last (to a s))
+
+abbrev pub Needs : Ending → Type 0 → Type 0
+Needs Exact X = Unit {0}
+Needs Past X = X
+
+-- what the second side's continuation must keep, where the second run may go past the first one's end
+pub record Carries {A B : Type 0} (L : Likeness) (to : A → State → Result B) : Type 0 where
+  pub cut : Needs L.cut (Grows to)
+  pub wild : Needs L.wild (Grows to)
+
+-- a part that a jump may enter, behind what jumps to targets that c relates: those that it has, it has on both sides, and others pass on to d
+pub record Along (L : Likeness) (c d : Targets) (has also : Has) (go to : Goer) : Type 0 where
+  pub start : (s t : State) → L.states s t → Like L (LikeSignal L d) (go None s) (to None t)
+  pub at : (x y : Target) → c x y → has x ≡ true → (s t : State) → L.states s t → Like L (LikeSignal L d) (go (Some x) s) (to (Some y) t)
+  pub same : (x y : Target) → c x y → also y ≡ has x
+  pub out : (x y : Target) → c x y → has x ≡ false → d x y
+  pub grows : Carries L to
