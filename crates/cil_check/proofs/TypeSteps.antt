@@ -40,7 +40,7 @@ names_below_more k j m Void h e = tt
 names_below_more k j m (Int kind) h e = tt
 names_below_more k j m (Ptr q) h e = omega (arith, e)
 names_below_more k j m (Array q bound) h e = omega (arith, e)
-names_below_more k j m (Func ret params proto variadic) h e = (omega (arith, e.0), types_below_more k j params h e.1)
+names_below_more k j m (Func proto variadic ret params) h e = (omega (arith, e.0), types_below_more k j params h e.1)
 names_below_more k j m (Agg a) h e = e
 
 pub names_there : (k j m : ℕ) (n : Node) → NamesBelow k m n → k < j → NamesBelow j m n

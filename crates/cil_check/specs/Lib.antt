@@ -1,1 +1,9 @@
+pub mod NameLists
+pub mod FileNames
+pub mod Paths
 pub mod Rules
+pub mod Seen
+pub mod Sets
+pub mod Statements
+pub mod WholePrograms
+pub mod Words

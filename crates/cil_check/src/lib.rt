@@ -1,13 +1,30 @@
-//! The test of well-formedness of CIL programs. So far it tests the rules of types.
+//! The test of well-formedness of CIL programs.
 //!
-//! Its public contract says that the test is true exactly where the types of a program keep their rules.
+//! Its public contract says that the test is true exactly for a well-formed program: one whose types, names, globals
+//! and functions' bodies keep their rules. Want of memory is the one other answer.
 //!
-//! The rules are own, over C11 6.2.5 and 6.7.2.1 to 6.7.6.
+//! The rules are own, over C11 6.2.1 to 6.2.5, 6.3.2.1, 6.4, 6.5 and 6.7 to 6.9.
 #![tactic(auto)]
 
 mod aggregates;
+mod bodies;
 mod elements;
+mod expressions;
+mod globals;
+mod images;
+mod instructions;
+mod labels;
+mod name_sets;
+mod names;
 mod nodes;
+mod operators;
+mod paths;
+mod scope;
+mod seen;
+mod statements;
+mod switches;
 mod types;
+mod words;
 
+pub use globals::check;
 pub use types::types_are_well_formed;

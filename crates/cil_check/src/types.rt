@@ -1,5 +1,6 @@
-ghost use Rattle.std.specs.Prelude.{◌≡◌, ◌↔◌, length, true, IfOk};
+ghost use Rattle.std.specs.Prelude.{◌≡◌, ◌↔◌, length, true, is_some, IfOk, IfSome};
 ghost use Rattle.cil_tree.specs.WellFormedTypes.{AreTypes};
+ghost use Rattle.layout_lp64.specs.Tables.{InStep};
 ghost use Rattle.cil_check.specs.Rules.{AreTops, KeepRules};
 
 use crate::aggregates::{aggregates_fit, enums_first};
@@ -20,20 +21,31 @@ fn keep_rules(g: &TypeGraph, tops: &[u64]) -> bool
     nodes_fit(g) && enums_first(g) && aggregates_fit(g, tops)
 }
 
-/// Whether the types of a program keep the rules of types.
+/// The layouts of the types of a program; none where these do not keep the rules of types.
 ///
 /// Memory comes only for want of memory.
 #[tactic(auto, using(crate::proofs::TypeRules::too_big))]
-pub fn types_are_well_formed(alloc: Global, g: &TypeGraph) -> Result<bool, Memory>
-    ensures { IfOk result (λ b. (b ≡ true) ↔ AreTypes g.now) }
+pub(crate) fn well_formed_layouts(alloc: Global, g: &TypeGraph) -> Result<Option<Layouts>, Memory>
+    ensures exact { IfOk result (λ o. (is_some o ≡ true) ↔ AreTypes g.now) }
+    ensures step { IfOk result (λ o. IfSome o (λ l. InStep l g.now)) }
 {
     let tops = element_tops(alloc, g)?;
     if !keep_rules(g, &tops) {
-        return Ok(false);
+        return Ok(None);
     }
     match Layouts::of_graph(alloc, g) {
-        Ok(_) => Ok(true),
-        Err(LayoutStop::TooBig(_)) => Ok(false),
+        Ok(layouts) => Ok(Some(layouts)),
+        Err(LayoutStop::TooBig(_)) => Ok(None),
         Err(LayoutStop::Memory) => Err(Memory),
     }
+}
+
+/// Whether the types of a program keep the rules of types.
+///
+/// Memory comes only for want of memory.
+pub fn types_are_well_formed(alloc: Global, g: &TypeGraph) -> Result<bool, Memory>
+    ensures { IfOk result (λ b. (b ≡ true) ↔ AreTypes g.now) }
+{
+    let layouts = well_formed_layouts(alloc, g)?;
+    Ok(layouts.is_some())
 }
