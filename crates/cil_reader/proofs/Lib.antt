@@ -1,0 +1,3 @@
+mod SignLaws
+mod LineLaws
+mod ScanLaws

@@ -1,0 +1,9 @@
+pub mod Words
+pub mod ReadTypes
+pub mod ReadExps
+pub mod Known
+pub mod ReadStmts
+pub mod ReadImages
+pub mod ReadAggregates
+pub mod ReadGlobals
+pub mod ReadText

@@ -1,0 +1,22 @@
+ghost use Rattle.std.specs.Prelude.{◌≡◌, ℕ, ◌≤◌, List, Some, map};
+ghost use Rattle.cil_tree.specs.Tree.{Program};
+ghost use Rattle.cil_tree.specs.Text.{Text};
+ghost use Rattle.cil_tree.specs.Programs.{IsProgram, IsTextOf, seen_aggregate, SameProgram};
+ghost use Rattle.cil_text.specs.ReadText.{read_text};
+
+/// A law, which does nothing when it is called: no bytes are the text of two programs (own), so a text names one
+/// program, up to the numbers that its types and names have.
+pub fn one_text()
+    ensures { (bytes : List ℕ) → (p q : Program) → IsTextOf bytes p → IsTextOf bytes q → SameProgram p q }
+{}
+
+/// A law, which does nothing when it is called: equal programs have one text (own).
+pub fn equal_programs_have_one_text()
+    ensures { (p q : Program) → SameProgram p q → Text p ≡ Text q }
+{}
+
+/// A law, which does nothing when it is called: the executable reading, with enough fuel, gives the aggregates
+/// and the globals of each well-formed program from its text (own).
+pub fn text_is_read()
+    ensures { (p : Program) → IsProgram p → (m : ℕ) × ((n : ℕ) → m ≤ n → read_text n (Text p) ≡ Some (map (seen_aggregate p) p.graph.aggs, p.globals)) }
+{}
