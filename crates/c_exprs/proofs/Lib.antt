@@ -1,0 +1,24 @@
+pub mod Laws
+pub mod Tokens
+pub mod Lists
+pub mod Relations
+pub mod Climbing
+pub mod Heads
+pub mod Arguments
+pub mod ExprLaws
+pub mod ExprTrees
+pub mod ExprBegun
+pub mod InitLaws
+pub mod ScopeLemmas
+pub mod BoundLaws
+pub mod ParameterLaws
+pub mod DeclaratorLaws
+pub mod DeclaratorTrees
+pub mod MemberLaws
+pub mod SpecifierLaws
+pub mod Whole
+pub mod Public
+pub mod Standings
+pub mod SignLemmas
+pub mod NextLemmas
+mod Rows

@@ -1,0 +1,13 @@
+pub mod Readers
+pub mod Classes
+pub mod Lexemes
+pub mod Given
+pub mod GoesOn
+pub mod Subs
+pub mod ExprReading
+pub mod SpecifierReading
+pub mod DeclaratorReading
+pub mod InitReading
+pub mod Reading
+pub mod Answers
+pub mod Forms

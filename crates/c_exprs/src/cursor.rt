@@ -1,0 +1,76 @@
+ghost use Rattle.std.specs.Prelude.{◌≡◌, ◌+◌, ◌<◌, ◌≤◌, length, IfSome};
+ghost use Rattle.c_exprs.specs.Lexemes.{lexemes, ahead};
+ghost use Rattle.c_exprs.specs.Readers.{head};
+ghost use Rattle.c_exprs.specs.Given.{IsNext};
+
+use crate::token_list::TokenList;
+use cil_base::TokenKind;
+use std::marker::Model;
+
+/// A place between the tokens of a list, from which on they are read.
+#[derive(Drop)]
+pub struct Cursor<'a, L: TokenList> {
+    list: &'a L,
+    at: u32,
+    /// The number of tokens.
+    end: u32,
+}
+
+impl<'a, L: TokenList> Model for Cursor<'a, L> {
+    ghost use Rattle.std.specs.Prelude.{◌≡◌, ◌≤◌, length};
+    ghost use Rattle.c_exprs.specs.Lexemes.{Standing, lexemes};
+
+    ghost Value = { Standing };
+
+    ghost view = { λ c. record { all = lexemes (L.lexed c.list.now); at = c.at } };
+
+    ghost invariant = { λ c. (c.at ≤ c.end) × (c.end ≡ length (L.lexed c.list.now).entries) };
+}
+
+impl<'a, L: TokenList> Cursor<'a, L> {
+    /// Before the first token.
+    pub fn new(list: &'a L) -> Self
+        ensures { result ≡ record { all = lexemes (L.lexed list.now); at = 0 } }
+    {
+        Cursor {
+            list,
+            at: 0,
+            end: list.count(),
+        }
+    }
+
+    /// The number of the token before which the cursor stands.
+    pub fn position(&self) -> u32
+        ensures { result ≡ self.now.at }
+    {
+        self.at
+    }
+
+    /// Puts the cursor before a token, or behind the last.
+    pub fn move_to(&mut self, i: u32)
+        requires { i ≤ length self.old.all }
+        ensures { self.new ≡ record { all = self.old.all; at = i } }
+    {
+        self.at = i;
+    }
+
+    /// The kind of the next token, if there is one.
+    pub(crate) fn next(&self) -> Option<TokenKind>
+        ensures kind { IsNext result (head (ahead self.now).rest) }
+        ensures room { IfSome result (λ _. self.now.at < length self.now.all) }
+    {
+        if self.at < self.end {
+            Some(self.list.token(self.at).kind)
+        } else {
+            None
+        }
+    }
+
+    /// Puts the cursor behind the next token.
+    pub(crate) fn advance(&mut self)
+        requires { self.old.at < length self.old.all }
+        ensures { self.new ≡ record { all = self.old.all; at = self.old.at + 1 } }
+    {
+        self.at += 1;
+    }
+}
