@@ -2,7 +2,8 @@
 # What an access to the store of objects costs: nanoseconds for a load or store of a global, a local of the
 # running activation and an object of malloc, and for a call and return with four locals, beside a C program
 # that makes as many array accesses; and the process memory that one object of 64 MiB takes, that each of many
-# objects of 8, 64 and 2,048 bytes takes, and that each freed number of malloc below a live one takes.
+# objects of 8, 64 and 2,048 bytes takes, that each of 24 bytes takes beside one of 4,096 bytes that ends,
+# and that each freed number of malloc below a live one takes.
 # Usage: bench/memory.sh PROGRAM. Needs cc and GNU time. The checksums of the two programs must agree.
 program=${1:-crates/memory_bench/out/memory_bench}
 folder=$(mktemp -d) || exit 1
@@ -58,6 +59,7 @@ done <<EOF
 tiny 8 1000000
 small 64 1000000
 large 2048 30000
+beside 24 300000
 EOF
 many=1000000
 freed=$(each "$(kilobytes freed $many)" "$nothing" $many)

@@ -22,6 +22,8 @@ pub enum Cell {
 pub struct Contents {
     cells: Vec<Cell>,
     pointers: Vec<Pointer>,
+    /// The size that its objects have within a factor of two, if they are to be alike.
+    unit: Option<u32>,
 }
 
 impl Model for Contents {
@@ -46,25 +48,30 @@ impl Contents {
         Contents {
             cells: Vec::new(alloc),
             pointers: Vec::new(alloc),
+            unit: None,
         }
     }
 
-    /// No bytes, with room for so many.
-    pub fn with_room(alloc: Global, room: u32) -> Result<Self, AllocError>
+    /// No bytes, with room for so many, in objects of about a size if there is one.
+    pub fn with_room(alloc: Global, room: u32, unit: Option<u32>) -> Result<Self, AllocError>
         ensures { IfOk result (λ c. c ≡ []) }
     {
         let cells = Vec::with_capacity(alloc, room as usize)?;
         let pointers = Vec::with_capacity(alloc, room as usize)?;
-        Ok(Contents { cells, pointers })
+        Ok(Contents {
+            cells,
+            pointers,
+            unit,
+        })
     }
 
-    /// Whether there is room for so many bytes more.
+    /// Whether there is room for an object of so many bytes more.
     #[tactic(auto, using(crate::proofs::ContentsLemmas::length_seen))]
     pub fn has_room(&self, n: u32) -> bool
         ensures { IsTrue result → length self.now + n < 2 ^ 32 }
     {
         let len = self.cells.len() + n as usize;
-        len <= self.cells.capacity() && len < 0x1_0000_0000
+        is_about(n, self.unit) && len <= self.cells.capacity() && len < 0x1_0000_0000
     }
 
     /// Adds so many equal bytes at the end, which are no parts of pointers.
@@ -184,6 +191,14 @@ fn take_room(pointers: &mut Vec<Pointer>, n: usize) -> Result<(), AllocError>
         pointers.reserve(n - len)?;
     }
     Ok(())
+}
+
+/// Whether a size is another one within a factor of two, if there is another one.
+fn is_about(n: u32, unit: Option<u32>) -> bool {
+    match unit {
+        Some(unit) => n <= unit.saturating_mul(2) && unit <= n.saturating_mul(2),
+        None => true,
+    }
 }
 
 fn plain_cell(b: Byte) -> Cell

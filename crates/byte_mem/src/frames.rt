@@ -6,12 +6,16 @@ ghost use Rattle.byte_mem.specs.Places.{begun};
 use crate::objects::{Beginning, Change, Object};
 use crate::pages::Pages;
 use crate::pointers::Pointer;
+use crate::regions::Sharing;
 use cil_base::Abi;
 use std::alloc::{AllocError, Global};
 use std::marker::Model;
 
-/// So many locals of one size share a region of bytes.
-const SHARE: u32 = 4;
+/// Few locals share a region of bytes, of whatever sizes, since all of them end with their activation.
+const SHARING: Sharing = Sharing {
+    objects: 4,
+    is_alike: false,
+};
 
 /// The objects of an activation of a function.
 #[derive(Drop)]
@@ -201,7 +205,7 @@ fn add_frame(
     ensures put { LocalPut result frames.old.items frames.new.items activation i (Some (begun b.now)) }
     ensures rising { IsRising frames.new.items }
 {
-    let mut slots = Pages::new(alloc, SHARE);
+    let mut slots = Pages::new(alloc, SHARING);
     slots.put(i, b)?;
     let k = position(frames, activation);
     frames.insert(k, Frame { activation, slots })?;

@@ -5,6 +5,7 @@ ghost use Rattle.byte_mem.specs.Places.{begun};
 
 use crate::objects::{Beginning, Change, Object};
 use crate::pointers::Pointer;
+use crate::regions::Sharing;
 use crate::slots::Slots;
 use cil_base::Abi;
 use std::alloc::{AllocError, Global};
@@ -14,7 +15,7 @@ use std::marker::Model;
 #[derive(Drop)]
 pub struct Pages {
     alloc: Global,
-    share: u32,
+    sharing: Sharing,
     pages: Vec<Slots>,
 }
 
@@ -28,13 +29,13 @@ impl Model for Pages {
 }
 
 impl Pages {
-    /// No objects; a region is to have room for so many of one size.
-    pub fn new(alloc: Global, share: u32) -> Self
+    /// No objects yet.
+    pub fn new(alloc: Global, sharing: Sharing) -> Self
         ensures { result ≡ [] }
     {
         Pages {
             alloc,
-            share,
+            sharing,
             pages: Vec::new(alloc),
         }
     }
@@ -74,7 +75,7 @@ impl Pages {
         ensures { PagedPut result self.old self.new i (Some (begun b.now)) }
     {
         let page = i / 64;
-        grow(&mut self.pages, self.alloc, self.share, page)?;
+        grow(&mut self.pages, self.alloc, self.sharing, page)?;
         self.pages[page].put(i % 64, b)
     }
 
@@ -82,40 +83,45 @@ impl Pages {
     pub fn clear(&mut self, i: usize)
         ensures { IsPagedPut self.old self.new i None }
     {
-        clear_in(&mut self.pages, self.alloc, self.share, i);
+        clear_in(&mut self.pages, self.alloc, self.sharing, i);
         let last = used(&self.pages);
         self.pages.truncate(last);
     }
 }
 
 /// Ends the life of the object of a number.
-fn clear_in(pages: &mut Vec<Slots>, alloc: Global, share: u32, i: usize)
+fn clear_in(pages: &mut Vec<Slots>, alloc: Global, sharing: Sharing, i: usize)
     ensures { IsPagedPut pages.old.items pages.new.items i None }
 {
     let page = i / 64;
     if page < pages.len() {
-        clear_page(&mut pages[page], alloc, share, i % 64);
+        clear_page(&mut pages[page], alloc, sharing, i % 64);
     }
 }
 
 /// Ends the life of an object of a page. A page without objects takes no memory.
-fn clear_page(page: &mut Slots, alloc: Global, share: u32, i: usize)
+fn clear_page(page: &mut Slots, alloc: Global, sharing: Sharing, i: usize)
     ensures { IsPut page.old page.new i None }
 {
     page.clear(i);
     if page.is_empty() {
-        *page = Slots::new(alloc, share);
+        *page = Slots::new(alloc, sharing);
     }
 }
 
 /// Makes pages up to one, which are empty.
 #[tactic(auto, using(crate::proofs::SlotLemmas::page_push))]
-fn grow(pages: &mut Vec<Slots>, alloc: Global, share: u32, page: usize) -> Result<(), AllocError>
+fn grow(
+    pages: &mut Vec<Slots>,
+    alloc: Global,
+    sharing: Sharing,
+    page: usize,
+) -> Result<(), AllocError>
     ensures same { (k : ℕ) → page_at pages.new.items k ≡ page_at pages.old.items k }
     ensures long { OnOk result (page < vec_len pages.new) }
 {
     while pages.len() <= page {
-        pages.push(Slots::new(alloc, share))?;
+        pages.push(Slots::new(alloc, sharing))?;
     }
     Ok(())
 }

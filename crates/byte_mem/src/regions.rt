@@ -11,6 +11,23 @@ use std::alloc::{AllocError, Global};
 /// A region has room for no more bytes than these, unless one object has more.
 const SHARED: u32 = 8192;
 
+/// How objects share regions of bytes.
+#[derive(Clone, Copy)]
+pub struct Sharing {
+    /// A new region has room for so many objects of the size of its first one.
+    pub objects: u32,
+    /// Whether the objects of a region are alike in size, so that a small one that lives on does not keep the
+    /// bytes of large ones.
+    pub is_alike: bool,
+}
+
+impl Sharing {
+    /// The size that the objects of a region are to have within a factor of two, if they are to be alike.
+    fn unit(self, size: u32) -> Option<u32> {
+        if self.is_alike { Some(size) } else { None }
+    }
+}
+
 /// Changes what stands at a place, and gives the place that it has then.
 pub fn change_in(
     regions: &mut Vec<Contents>,
@@ -25,19 +42,19 @@ pub fn change_in(
     change_at(&mut regions[p.region], p, abi, at, change)
 }
 
-/// Finds room for what begins to live: in the region of that number, or in one that has no bytes, which has
-/// room for so many objects of the same size.
+/// Finds room for what begins to live: in the region of that number, or in the first that serves, or in one
+/// that has no bytes, which has room for so many objects of the same size.
 pub fn place_new(
     regions: &mut Vec<Contents>,
     alloc: Global,
     open: usize,
-    share: u32,
+    sharing: Sharing,
     b: &Beginning,
 ) -> Result<Place, AllocError>
     ensures grown { IsGrown regions.old.items regions.new.items }
     ensures placed { IfOk result (λ p. IsBegun regions.old.items regions.new.items b.now p) }
 {
-    let region = room_for(regions, alloc, open, share, b.size)?;
+    let region = room_for(regions, alloc, open, sharing, b.size)?;
     let start = regions[region].len();
     begin(&mut regions[region], b)?;
     Ok(Place {
@@ -54,7 +71,7 @@ fn room_for(
     regions: &mut Vec<Contents>,
     alloc: Global,
     open: usize,
-    share: u32,
+    sharing: Sharing,
     size: u32,
 ) -> Result<usize, AllocError>
     ensures same { IsSameRegions regions.old.items regions.new.items }
@@ -63,8 +80,12 @@ fn room_for(
     if has_room(regions, open, size) {
         return Ok(open);
     }
+    let fit = first_fit(regions, size);
+    if fit < regions.len() {
+        return Ok(fit);
+    }
     let r = first_empty(regions);
-    let region = Contents::with_room(alloc, room_of(share, size))?;
+    let region = Contents::with_room(alloc, room_of(sharing.objects, size), sharing.unit(size))?;
     set_region(regions, r, region)?;
     Ok(r)
 }
@@ -76,12 +97,23 @@ fn has_room(regions: &[Contents], r: usize, size: u32) -> bool
     r < regions.len() && regions[r].has_room(size)
 }
 
+/// The number of the first region with room for so many bytes, or of the next one.
+fn first_fit(regions: &[Contents], size: u32) -> usize
+    ensures { result < length regions.now → length (region_at regions.now result) + size < 2 ^ 32 }
+{
+    let mut r = 0;
+    while r < regions.len() && !regions[r].has_room(size) {
+        r += 1;
+    }
+    r
+}
+
 /// The room of a region that so many objects of a size share.
-fn room_of(share: u32, size: u32) -> u32
+fn room_of(objects: u32, size: u32) -> u32
     ensures least { size ≤ result }
     ensures most { result ≤ max size 8192 }
 {
-    size.saturating_mul(share).clamp(16, SHARED).max(size)
+    size.saturating_mul(objects).clamp(16, SHARED).max(size)
 }
 
 /// The number of the first region without bytes, or of the next one.

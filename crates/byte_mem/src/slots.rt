@@ -6,7 +6,7 @@ ghost use Rattle.byte_mem.specs.Places.{begun, place_at, given_up};
 use crate::contents::Contents;
 use crate::objects::{Beginning, Change, Object, Place};
 use crate::pointers::Pointer;
-use crate::regions::{change_in, is_last, place_new, trim};
+use crate::regions::{Sharing, change_in, is_last, place_new, trim};
 use cil_base::Abi;
 use std::alloc::{AllocError, Global};
 use std::marker::Model;
@@ -15,8 +15,7 @@ use std::marker::Model;
 #[derive(Drop)]
 pub struct Slots {
     alloc: Global,
-    /// A new region has room for so many objects of the size of its first one.
-    share: u32,
+    sharing: Sharing,
     /// The region that objects were added to last.
     open: usize,
     regions: Vec<Contents>,
@@ -37,12 +36,12 @@ impl Model for Slots {
 }
 
 impl Slots {
-    pub fn new(alloc: Global, share: u32) -> Self
+    pub fn new(alloc: Global, sharing: Sharing) -> Self
         ensures { result ≡ [] }
     {
         Slots {
             alloc,
-            share,
+            sharing,
             open: 0,
             regions: Vec::new(alloc),
             places: Vec::new(alloc),
@@ -80,7 +79,7 @@ impl Slots {
         ensures { SlotPut result self.old self.new i (Some (begun b.now)) }
     {
         grow(&mut self.places, i)?;
-        let place = place_new(&mut self.regions, self.alloc, self.open, self.share, b)?;
+        let place = place_new(&mut self.regions, self.alloc, self.open, self.sharing, b)?;
         self.open = place.region;
         let before = place_at(&self.places, i);
         self.places[i] = Some(place);

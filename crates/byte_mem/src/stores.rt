@@ -11,12 +11,16 @@ use crate::frames::Stack;
 use crate::objects::{Beginning, Change, Object};
 use crate::pages::Pages;
 use crate::pointers::{ObjName, Pointer};
+use crate::regions::Sharing;
 use crate::values::{Byte, Cells, Scalar, Value};
 use cil_base::{Abi, EntityId, Memory};
 use std::alloc::Global;
 
-/// So many objects of one size share a region of bytes.
-const SHARE: u32 = 64;
+/// Many objects share a region of bytes, of one size or nearly so.
+const SHARING: Sharing = Sharing {
+    objects: 64,
+    is_alike: true,
+};
 
 /// The objects of a run, by name. Those with numbers of one kind stand in one list, so that an access
 /// finds its object by the number; the objects of activations stand in a stack of such lists.
@@ -51,10 +55,10 @@ impl Store {
         Store {
             alloc,
             abi,
-            entities: Pages::new(alloc, SHARE),
-            literals: Pages::new(alloc, SHARE),
-            arguments: Pages::new(alloc, SHARE),
-            heap: Pages::new(alloc, SHARE),
+            entities: Pages::new(alloc, SHARING),
+            literals: Pages::new(alloc, SHARING),
+            arguments: Pages::new(alloc, SHARING),
+            heap: Pages::new(alloc, SHARING),
             locals: Stack::new(alloc),
         }
     }

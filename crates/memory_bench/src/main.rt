@@ -1,6 +1,7 @@
 //! So many stores and loads of an int over 1,000 objects of 64 bytes, calls with four locals, an object of
-//! 64 MiB, so many objects of 8, 64 or 2,048 bytes or so many that are freed, as its arguments tell, with a
-//! checksum on standard output: what the store of objects is measured by.
+//! 64 MiB, so many objects of 8, 64 or 2,048 bytes, so many small ones beside large ones that end, or so many
+//! that are freed, as its arguments tell, with a checksum on standard output: what the store of objects is
+//! measured by.
 //!
 //! It promises that what it prints depends on its arguments alone.
 //!
@@ -143,6 +144,19 @@ fn freed(alloc: Global, count: u64) -> Result<u64, Memory> {
     Ok(count)
 }
 
+/// So many objects of 24 bytes that live together, each made behind one of 4,096 bytes that ends then.
+fn beside(alloc: Global, count: u64) -> Result<u64, Memory> {
+    let mut store = Store::new(alloc);
+    for i in 0..count {
+        let large = ObjName::Heap(i.wrapping_mul(2));
+        let small = ObjName::Heap(i.wrapping_mul(2).wrapping_add(1));
+        store.make(large, 4096, Byte::Unknown, false)?;
+        store.make(small, 24, Byte::Unknown, false)?;
+        store.end(large);
+    }
+    Ok(count)
+}
+
 fn checksum(alloc: Global, mode: &str, count: u64) -> Result<u64, Memory> {
     match mode {
         "calls" => calls(alloc, count),
@@ -151,6 +165,7 @@ fn checksum(alloc: Global, mode: &str, count: u64) -> Result<u64, Memory> {
         "small" => many(alloc, 64, count),
         "large" => many(alloc, 2048, count),
         "freed" => freed(alloc, count),
+        "beside" => beside(alloc, count),
         "locals" => Ok(accesses(&mut locals(alloc)?, true, false, count)),
         "heap" => Ok(accesses(&mut heap(alloc)?, false, true, count)),
         _ => Ok(accesses(&mut globals(alloc)?, false, false, count)),
