@@ -3,54 +3,56 @@ use cil_base::{Fault, Feature, What};
 use std::test::Fail;
 
 /// What is excluded as a token, each by every word for it; the constants and literals stand with the other constants.
-const EXCLUDED: [(&str, Feature); 38] = [
-    ("float", Feature::Floating),
-    ("double", Feature::Floating),
-    ("1.5", Feature::Floating),
-    ("volatile", Feature::Volatile),
-    ("__volatile", Feature::Volatile),
-    ("__volatile__", Feature::Volatile),
-    ("_Complex", Feature::Complex),
-    ("_Imaginary", Feature::Complex),
-    ("_Atomic", Feature::Atomic),
-    ("_Thread_local", Feature::ThreadLocal),
-    ("__thread", Feature::ThreadLocal),
-    ("_Alignas", Feature::Alignas),
-    ("_Generic", Feature::Generic),
-    ("setjmp", Feature::Jump),
-    ("longjmp", Feature::Jump),
-    ("asm", Feature::Assembly),
-    ("__asm", Feature::Assembly),
-    ("__asm__", Feature::Assembly),
-    ("__builtin_va_list", Feature::Varargs),
-    ("__builtin_va_start", Feature::Varargs),
-    ("__builtin_va_arg", Feature::Varargs),
-    ("__builtin_va_end", Feature::Varargs),
-    ("__builtin_va_copy", Feature::Varargs),
-    ("L\"a\"", Feature::Prefixed),
-    ("'ab'", Feature::MultiChar),
-    (r"caf\u00e9", Feature::Universal),
-    (r"\u00e9t\U000000e9", Feature::Universal),
-    ("__int128", Feature::Int128),
-    ("__int128_t", Feature::Int128),
-    ("__uint128_t", Feature::Int128),
-    ("__func__", Feature::FuncName),
-    ("__FUNCTION__", Feature::FuncName),
-    ("typeof", Feature::Typeof),
-    ("__typeof", Feature::Typeof),
-    ("__typeof__", Feature::Typeof),
-    ("__auto_type", Feature::Typeof),
-    ("__attribute__((packed))", Feature::Attribute),
-    ("__attribute((packed))", Feature::Attribute),
-];
+fn excluded() -> &'static [(&'static str, Feature)] {
+    &[
+        ("float", Feature::Floating),
+        ("double", Feature::Floating),
+        ("1.5", Feature::Floating),
+        ("volatile", Feature::Volatile),
+        ("__volatile", Feature::Volatile),
+        ("__volatile__", Feature::Volatile),
+        ("_Complex", Feature::Complex),
+        ("_Imaginary", Feature::Complex),
+        ("_Atomic", Feature::Atomic),
+        ("_Thread_local", Feature::ThreadLocal),
+        ("__thread", Feature::ThreadLocal),
+        ("_Alignas", Feature::Alignas),
+        ("_Generic", Feature::Generic),
+        ("setjmp", Feature::Jump),
+        ("longjmp", Feature::Jump),
+        ("asm", Feature::Assembly),
+        ("__asm", Feature::Assembly),
+        ("__asm__", Feature::Assembly),
+        ("__builtin_va_list", Feature::Varargs),
+        ("__builtin_va_start", Feature::Varargs),
+        ("__builtin_va_arg", Feature::Varargs),
+        ("__builtin_va_end", Feature::Varargs),
+        ("__builtin_va_copy", Feature::Varargs),
+        ("L\"a\"", Feature::Prefixed),
+        ("'ab'", Feature::MultiChar),
+        (r"caf\u00e9", Feature::Universal),
+        (r"\u00e9t\U000000e9", Feature::Universal),
+        ("__int128", Feature::Int128),
+        ("__int128_t", Feature::Int128),
+        ("__uint128_t", Feature::Int128),
+        ("__func__", Feature::FuncName),
+        ("__FUNCTION__", Feature::FuncName),
+        ("typeof", Feature::Typeof),
+        ("__typeof", Feature::Typeof),
+        ("__typeof__", Feature::Typeof),
+        ("__auto_type", Feature::Typeof),
+        ("__attribute__((packed))", Feature::Attribute),
+        ("__attribute((packed))", Feature::Attribute),
+    ]
+}
 
 #[test]
 fn refuses_what_is_excluded_at_its_place(rt: HostRuntime) -> Result<(), Fail> {
-    for (text, feature) in EXCLUDED {
-        let want = Some((Fault::Excluded(feature), at(0, 1)));
+    for (text, feature) in excluded() {
+        let want = Some((Fault::Excluded(*feature), at(0, 1)));
         assert_eq!(rt; refusal(rt.alloc(), text.as_bytes())?, want, "{text}");
         let source = format!(in rt.alloc(); "int a;\n\n__extension__ {text} b;")?;
-        let want = Some((Fault::Excluded(feature), at(3, 3)));
+        let want = Some((Fault::Excluded(*feature), at(3, 3)));
         assert_eq!(rt; refusal(rt.alloc(), source.as_bytes())?, want, "{text}");
     }
     Ok(())

@@ -3,66 +3,68 @@ use cil_base::{Fault, NameId, Punctuator, TokenKind};
 use std::test::Fail;
 
 /// The punctuators of C11 6.4.6 that are read, and the digraphs of some.
-const PUNCTUATORS: [(&str, Punctuator); 50] = [
-    ("[", Punctuator::LeftBracket),
-    ("]", Punctuator::RightBracket),
-    ("(", Punctuator::LeftParen),
-    (")", Punctuator::RightParen),
-    ("{", Punctuator::LeftBrace),
-    ("}", Punctuator::RightBrace),
-    (".", Punctuator::Dot),
-    ("->", Punctuator::Arrow),
-    ("++", Punctuator::PlusPlus),
-    ("--", Punctuator::MinusMinus),
-    ("&", Punctuator::Ampersand),
-    ("*", Punctuator::Star),
-    ("+", Punctuator::Plus),
-    ("-", Punctuator::Minus),
-    ("~", Punctuator::Tilde),
-    ("!", Punctuator::Exclamation),
-    ("/", Punctuator::Slash),
-    ("%", Punctuator::Percent),
-    ("<<", Punctuator::LeftShift),
-    (">>", Punctuator::RightShift),
-    ("<", Punctuator::Less),
-    (">", Punctuator::Greater),
-    ("<=", Punctuator::LessEqual),
-    (">=", Punctuator::GreaterEqual),
-    ("==", Punctuator::EqualEqual),
-    ("!=", Punctuator::ExclamationEqual),
-    ("^", Punctuator::Caret),
-    ("|", Punctuator::Bar),
-    ("&&", Punctuator::AmpersandAmpersand),
-    ("||", Punctuator::BarBar),
-    ("?", Punctuator::Question),
-    (":", Punctuator::Colon),
-    (";", Punctuator::Semicolon),
-    ("...", Punctuator::Ellipsis),
-    ("=", Punctuator::Equal),
-    ("*=", Punctuator::StarEqual),
-    ("/=", Punctuator::SlashEqual),
-    ("%=", Punctuator::PercentEqual),
-    ("+=", Punctuator::PlusEqual),
-    ("-=", Punctuator::MinusEqual),
-    ("<<=", Punctuator::LeftShiftEqual),
-    (">>=", Punctuator::RightShiftEqual),
-    ("&=", Punctuator::AmpersandEqual),
-    ("^=", Punctuator::CaretEqual),
-    ("|=", Punctuator::BarEqual),
-    (",", Punctuator::Comma),
-    ("<:", Punctuator::LeftBracket),
-    (":>", Punctuator::RightBracket),
-    ("<%", Punctuator::LeftBrace),
-    ("%>", Punctuator::RightBrace),
-];
+fn punctuators() -> &'static [(&'static str, Punctuator)] {
+    &[
+        ("[", Punctuator::LeftBracket),
+        ("]", Punctuator::RightBracket),
+        ("(", Punctuator::LeftParen),
+        (")", Punctuator::RightParen),
+        ("{", Punctuator::LeftBrace),
+        ("}", Punctuator::RightBrace),
+        (".", Punctuator::Dot),
+        ("->", Punctuator::Arrow),
+        ("++", Punctuator::PlusPlus),
+        ("--", Punctuator::MinusMinus),
+        ("&", Punctuator::Ampersand),
+        ("*", Punctuator::Star),
+        ("+", Punctuator::Plus),
+        ("-", Punctuator::Minus),
+        ("~", Punctuator::Tilde),
+        ("!", Punctuator::Exclamation),
+        ("/", Punctuator::Slash),
+        ("%", Punctuator::Percent),
+        ("<<", Punctuator::LeftShift),
+        (">>", Punctuator::RightShift),
+        ("<", Punctuator::Less),
+        (">", Punctuator::Greater),
+        ("<=", Punctuator::LessEqual),
+        (">=", Punctuator::GreaterEqual),
+        ("==", Punctuator::EqualEqual),
+        ("!=", Punctuator::ExclamationEqual),
+        ("^", Punctuator::Caret),
+        ("|", Punctuator::Bar),
+        ("&&", Punctuator::AmpersandAmpersand),
+        ("||", Punctuator::BarBar),
+        ("?", Punctuator::Question),
+        (":", Punctuator::Colon),
+        (";", Punctuator::Semicolon),
+        ("...", Punctuator::Ellipsis),
+        ("=", Punctuator::Equal),
+        ("*=", Punctuator::StarEqual),
+        ("/=", Punctuator::SlashEqual),
+        ("%=", Punctuator::PercentEqual),
+        ("+=", Punctuator::PlusEqual),
+        ("-=", Punctuator::MinusEqual),
+        ("<<=", Punctuator::LeftShiftEqual),
+        (">>=", Punctuator::RightShiftEqual),
+        ("&=", Punctuator::AmpersandEqual),
+        ("^=", Punctuator::CaretEqual),
+        ("|=", Punctuator::BarEqual),
+        (",", Punctuator::Comma),
+        ("<:", Punctuator::LeftBracket),
+        (":>", Punctuator::RightBracket),
+        ("<%", Punctuator::LeftBrace),
+        ("%>", Punctuator::RightBrace),
+    ]
+}
 
 #[test]
 fn reads_punctuators(rt: HostRuntime) -> Result<(), Fail> {
-    for (spelling, punctuator) in PUNCTUATORS {
+    for (spelling, punctuator) in punctuators() {
         let found = kinds(rt.alloc(), spelling.as_bytes())?;
         assert_eq!(rt;
             found.as_slice(),
-            [TokenKind::Punctuator(punctuator)].as_slice(),
+            [TokenKind::Punctuator(*punctuator)].as_slice(),
             "{spelling}"
         );
     }
@@ -70,34 +72,36 @@ fn reads_punctuators(rt: HostRuntime) -> Result<(), Fail> {
 }
 
 /// Texts and the same with a blank behind each token but the last, as longest match cuts them (C11 6.4p4).
-const CUTS: [(&str, &str); 22] = [
-    ("a+++++b", "a ++ ++ + b"),
-    ("a+++b", "a ++ + b"),
-    ("x-->y", "x -- > y"),
-    ("x->y", "x -> y"),
-    ("x<-y", "x < - y"),
-    ("..", ". ."),
-    ("....", "... ."),
-    (".....", "... . ."),
-    ("a..b", "a . . b"),
-    ("<::", "<: :"),
-    ("<:::>", "<: : :>"),
-    ("a>>=b", "a >>= b"),
-    ("a>>>=b", "a >> >= b"),
-    ("a<<<=b", "a << <= b"),
-    ("a&&&b", "a && & b"),
-    ("a|||b", "a || | b"),
-    ("a===b", "a == = b"),
-    ("a!==b", "a != = b"),
-    ("%>%=%", "%> %= %"),
-    ("<%:>", "<% :>"),
-    ("a/ *b", "a / * b"),
-    ("a/=b", "a /= b"),
-];
+fn cuts() -> &'static [(&'static str, &'static str)] {
+    &[
+        ("a+++++b", "a ++ ++ + b"),
+        ("a+++b", "a ++ + b"),
+        ("x-->y", "x -- > y"),
+        ("x->y", "x -> y"),
+        ("x<-y", "x < - y"),
+        ("..", ". ."),
+        ("....", "... ."),
+        (".....", "... . ."),
+        ("a..b", "a . . b"),
+        ("<::", "<: :"),
+        ("<:::>", "<: : :>"),
+        ("a>>=b", "a >>= b"),
+        ("a>>>=b", "a >> >= b"),
+        ("a<<<=b", "a << <= b"),
+        ("a&&&b", "a && & b"),
+        ("a|||b", "a || | b"),
+        ("a===b", "a == = b"),
+        ("a!==b", "a != = b"),
+        ("%>%=%", "%> %= %"),
+        ("<%:>", "<% :>"),
+        ("a/ *b", "a / * b"),
+        ("a/=b", "a /= b"),
+    ]
+}
 
 #[test]
 fn takes_the_longest_piece(rt: HostRuntime) -> Result<(), Fail> {
-    for (source, blanked) in CUTS {
+    for (source, blanked) in cuts() {
         let found = kinds(rt.alloc(), source.as_bytes())?;
         assert_eq!(rt; found, kinds(rt.alloc(), blanked.as_bytes())?, "{source}");
         assert!(rt; blanked.split(' ').count() == found.len(), "{source}");
@@ -106,14 +110,16 @@ fn takes_the_longest_piece(rt: HostRuntime) -> Result<(), Fail> {
 }
 
 /// What only preprocessing has, and bytes that begin no token, as they stand behind one token.
-const STRAYS: [&str; 17] = [
-    "#", "##", "%:", "%:%:", "%:%", "$", "@", "`", "\\", "\0", "\x01", "\x08", "\x0e", "\x1f",
-    "\x7f", "é", "\\x41",
-];
+fn strays() -> &'static [&'static str] {
+    &[
+        "#", "##", "%:", "%:%:", "%:%", "$", "@", "`", "\\", "\0", "\x01", "\x08", "\x0e", "\x1f",
+        "\x7f", "é", "\\x41",
+    ]
+}
 
 #[test]
 fn refuses_what_begins_no_token(rt: HostRuntime) -> Result<(), Fail> {
-    for stray in STRAYS {
+    for stray in strays() {
         for before in ["x ", "x\n;"] {
             let source = format!(in rt.alloc(); "{before}{stray} y")?;
             let place = if before == "x " { at(1, 1) } else { at(2, 2) };
