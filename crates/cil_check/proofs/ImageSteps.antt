@@ -10,8 +10,8 @@ use Rattle.cil_tree.specs.Tree.{Item, Program}
 use Rattle.cil_tree.specs.View.{item_of}
 use Rattle.cil_tree.specs.Text.{is_function_type}
 use Rattle.cil_tree.specs.Typing.{global_type}
-use Rattle.cil_tree.specs.Globals.{Part, address_fits, constant_fits, path_part, item_fits, item_offset, is_below, are_rising, agree, unions_agree}
-use Rattle.cil_check.specs.Paths.{is_pointer, scalar_has, agrees_with}
+use Rattle.cil_tree.specs.Globals.{Part, address_fits, constant_fits, path_part, item_fits, item_offset, is_below, are_rising}
+use Rattle.cil_check.specs.Paths.{is_pointer, scalar_has}
 
 -- an address or a function is the constant of a pointer alone
 pub address_is : (p : Program) (s : Shape) (object : EntityId) (at : ℤ) → constant_fits p s (constant.Address object at) ≡ is_pointer s && address_fits p object.0 at
@@ -69,17 +69,3 @@ last_rises f (x ∷ y ∷ xs) (suc i) (suc j) k h = last_rises f (y ∷ xs) i j 
 
 pub rising_last : (f : Item → Option ℕ) (xs : List ImageItem) (i : ℕ) → i < length xs → length xs ≤ i + 1 → are_rising (map f (map item_of (drop i xs))) ≡ are_rising (map f (map item_of (drop (i + 1) xs)))
 rising_last f xs i h k = last_rises f xs i (i + 1) (omega arith) (omega arith)
-
--- agreement with others from one on
-pub agrees_from : (g : Graph) (s : Shape) (x : Item) (ys : List ImageItem) (i : ℕ) (d : ImageItem) → i < length ys →
-    agrees_with g s x (map item_of (drop i ys)) ≡ agree g s x.path (item_of (get_or ys i d)).path && agrees_with g s x (map item_of (drop (suc i) ys))
-agrees_from g s x [] i d h = absurd (omega arith)
-agrees_from g s x (y ∷ ys) zero d h = refl
-agrees_from g s x (y ∷ ys) (suc i) d h = agrees_from g s x ys i d (omega arith)
-
--- agreement of all from one on
-pub unions_from : (g : Graph) (s : Shape) (xs : List ImageItem) (i : ℕ) (d : ImageItem) → i < length xs →
-    unions_agree g s (map item_of (drop i xs)) ≡ agrees_with g s (item_of (get_or xs i d)) (map item_of (drop (suc i) xs)) && unions_agree g s (map item_of (drop (suc i) xs))
-unions_from g s [] i d h = absurd (omega arith)
-unions_from g s (x ∷ xs) zero d h = refl
-unions_from g s (x ∷ xs) (suc i) d h = unions_from g s xs i d (omega arith)

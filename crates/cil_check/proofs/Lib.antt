@@ -14,6 +14,7 @@ pub mod NameSteps
 pub mod FileLaws
 pub mod PathLaws
 pub mod UnionLaws
+pub mod OrderLaws
 pub mod ImageSteps
 pub mod ProgramLaws
 pub mod BodySteps

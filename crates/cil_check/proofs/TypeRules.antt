@@ -7,7 +7,7 @@ use Rattle.type_graph.specs.declared.nodes.Node.{Node}
 use Rattle.type_graph.specs.Shapes.{shape}
 use Rattle.type_graph.specs.Arena.{Graph, members_fit}
 use Rattle.cil_tree.specs.Typing.{is_enum}
-use Rattle.layout_lp64.specs.Tables.{AllFit, IsLeastTooBig}
+use Rattle.layout_lp64.specs.Tables.{AllFit, AggregatesFit, IsLeastTooBig}
 use Rattle.cil_tree.specs.WellFormedTypes.{AreTypes, is_unqualified, member_fits, is_nonempty, node_is_unqualified, members_are_unqualified, has_tag, enum_is_complete, members_have_kind, has_member, flexible_is_last, enums_first, stands_after, all_stand_after, array_fits, function_fits, prototype_fits}
 use Rattle.cil_check.specs.Rules.{node_rules, node_fits_at, members_rules, aggregate_rules, aggregate_fits_at, member_is_after, KeepRules}
 
@@ -139,8 +139,8 @@ there [] i h = absurd (omega arith)
 there (x ∷ xs) zero h = (x, refl)
 there (x ∷ xs) (suc i) h = there xs i (omega arith)
 
-to_types : (g : Graph) → KeepRules g → AllFit g → AreTypes g
-to_types g k f = record {
+to_types : (g : Graph) → KeepRules g → AllFit g → AggregatesFit g → AreTypes g
+to_types g k f whole = record {
   fit = record {
     unqualified = all_of_each node_is_unqualified g.nodes (λ t n e. (nodes t n e).unqualified);
     members_unqualified = all_of_each members_are_unqualified g.aggs (λ a x e. (aggs a x e).unqualified);
@@ -152,6 +152,7 @@ to_types g k f = record {
     functions = λ t h. let n = there g.nodes t h in (nodes t n.0 n.1).function;
     prototypes = λ t h. let n = there g.nodes t h in (nodes t n.0 n.1).prototype;
     small = f.each;
+    small_aggregates = whole.each;
   };
   tagged = all_of_each has_tag g.aggs (λ a x e. (aggs a x e).tagged);
   enums_first = k.enums;
@@ -192,9 +193,9 @@ from_types g r = record { nodes = nodes; aggregates = aggs; enums = r.enums_firs
 pub types_unfit : (g : Graph) (b : Bool) → (b ≡ true) ↔ KeepRules g → b ≡ false → (false ≡ true) ↔ AreTypes g
 types_unfit g b k e = (λ h. absurd (true≢false (sym h)), λ r. sym e ∙ k.1 (from_types g r))
 
--- where they are, and all types fit, the types are well-formed
-pub types_fit : (g : Graph) (b : Bool) → (b ≡ true) ↔ KeepRules g → b ≡ true → AllFit g → (true ≡ true) ↔ AreTypes g
-types_fit g b k e f = (λ h. to_types g (k.0 e) f, λ r. refl)
+-- where they are, the layouts tell whether the types are well-formed
+pub sizes_tell : (g : Graph) (b : Bool) → KeepRules g → AllFit g → (b ≡ true) ↔ AggregatesFit g → (b ≡ true) ↔ AreTypes g
+sizes_tell g b k f h = (λ e. to_types g k f (h.0 e), λ r. h.1 (record { each = r.fit.small_aggregates }))
 
 -- a type that is too big breaks them
 pub too_big : (g : Graph) (t : ℕ) → IsLeastTooBig g t → (false ≡ true) ↔ AreTypes g

@@ -1,14 +1,13 @@
 -- Device: where paths stand in order, and each agrees with the next at unions, all agree.
-use Rattle.std.proofs.Common.{◌≡◌, ℕ, zero, suc, ◌+◌, ◌<◌, ◌≤◌, Bool, true, false, ◌&&◌, ◌||◌, not, if◌then◌else◌, nat_eq, nat_lt, cond, List, [], ◌∷◌, length, drop, map, get_or, refl, sym, ap, ◌∙◌, subst, arith, eqb-true, eq-eqb}
+use Rattle.std.proofs.Common.{◌≡◌, ℕ, zero, suc, ◌+◌, ◌<◌, ◌≤◌, Bool, true, false, ◌&&◌, not, nat_eq, nat_lt, cond, List, [], ◌∷◌, length, drop, map, get_or, refl, sym, ap, ◌∙◌, subst, arith, eqb-true, eq-eqb}
 use borrow.Author.Tests.{ltb-true}
 use Rattle.type_graph.specs.Shapes.{Shape}
 use Rattle.type_graph.specs.Arena.{Graph}
 use Rattle.cil_tree.specs.declared.globals.ImageItem.{ImageItem}
 use Rattle.cil_tree.specs.Tree.{Step, ToField, ToIndex, Item}
-use Rattle.cil_tree.specs.declared.globals.Step as code
-use Rattle.cil_tree.specs.View.{item_of, step_of}
+use Rattle.cil_tree.specs.View.{item_of}
 use Rattle.cil_tree.specs.Globals.{agree, is_union, next_type, next_element, unions_agree}
-use Rattle.cil_check.specs.Paths.{same_step, step_below, before, agrees_with, adjacent_agree, in_order}
+use Rattle.cil_check.specs.Paths.{before, agrees_with, adjacent_agree, in_order}
 
 both : (p q : Bool) → p && q ≡ true → (p ≡ true) × (q ≡ true)
 both true q e = (refl, e)
@@ -143,15 +142,6 @@ some_part g s xs e = by (unions_agree g s xs) refl
     by false h = refl
     by true h = sym e ∙ all_adjacent g s xs h
 
--- all agree where each agrees with the next, and they stand in order or all do agree
-pub unions_is : (g : Graph) (s : Shape) (xs : List Item) → adjacent_agree g s xs && (in_order xs || unions_agree g s xs) ≡ unions_agree g s xs
-unions_is g s xs = by (adjacent_agree g s xs) (in_order xs) refl refl
-  where
-    by : (a o : Bool) → adjacent_agree g s xs ≡ a → in_order xs ≡ o → a && (o || unions_agree g s xs) ≡ unions_agree g s xs
-    by true true a o = sym (ordered_agree g s xs a o)
-    by true false a o = refl
-    by false o a p = some_part g s xs a
-
 -- from one item on that is not the last
 next_agrees : (g : Graph) (s : Shape) (xs : List ImageItem) (i j : ℕ) (d e : ImageItem) → j ≡ suc i → j < length xs →
     adjacent_agree g s (map item_of (drop i xs)) ≡ agree g s (item_of (get_or xs i d)).path (item_of (get_or xs j e)).path && adjacent_agree g s (map item_of (drop j xs))
@@ -179,44 +169,3 @@ alone see (x ∷ y ∷ xs) (suc i) h k =
 
 pub adjacent_last : (g : Graph) (s : Shape) (xs : List ImageItem) (i : ℕ) → i < length xs → length xs ≤ i + 1 → adjacent_agree g s (map item_of (drop i xs)) ≡ adjacent_agree g s (map item_of (drop (i + 1) xs))
 adjacent_last g s xs i h k = let a = alone item_of xs i h k in ap (adjacent_agree g s) a.1 ∙ sym (ap (adjacent_agree g s) a.2)
-
-next_ordered : (xs : List ImageItem) (i j : ℕ) (d e : ImageItem) → j ≡ suc i → j < length xs →
-    in_order (map item_of (drop i xs)) ≡ before (item_of (get_or xs i d)).path (item_of (get_or xs j e)).path && in_order (map item_of (drop j xs))
-next_ordered [] i j d e k h = absurd (omega arith)
-next_ordered (x ∷ []) i j d e k h = absurd (omega (arith, k))
-next_ordered (x ∷ y ∷ xs) i zero d e k h = absurd (omega (arith, k))
-next_ordered (x ∷ y ∷ xs) zero (suc zero) d e k h = refl
-next_ordered (x ∷ y ∷ xs) zero (suc (suc j)) d e k h = absurd (omega (arith, k))
-next_ordered (x ∷ y ∷ xs) (suc i) (suc j) d e k h = next_ordered (y ∷ xs) i j d e (omega (arith, k)) (omega arith)
-
-pub ordered_next : (xs : List ImageItem) (i : ℕ) (d e : ImageItem) → i + 1 < length xs →
-    in_order (map item_of (drop i xs)) ≡ before (item_of (get_or xs i d)).path (item_of (get_or xs (i + 1) e)).path && in_order (map item_of (drop (i + 1) xs))
-ordered_next xs i d e h = next_ordered xs i (i + 1) d e (omega arith) h
-
-pub ordered_last : (xs : List ImageItem) (i : ℕ) → i < length xs → length xs ≤ i + 1 → in_order (map item_of (drop i xs)) ≡ in_order (map item_of (drop (i + 1) xs))
-ordered_last xs i h k = let a = alone item_of xs i h k in ap in_order a.1 ∙ sym (ap in_order a.2)
-
--- two paths from one step on
-pub before_next : (xs ys : List code.Step) (i : ℕ) (d e : code.Step) → i < length xs → i < length ys →
-    before (map step_of (drop i xs)) (map step_of (drop i ys)) ≡ (if same_step (step_of (get_or xs i d)) (step_of (get_or ys i e)) then before (map step_of (drop (suc i) xs)) (map step_of (drop (suc i) ys)) else step_below (step_of (get_or xs i d)) (step_of (get_or ys i e)))
-before_next [] ys i d e h k = absurd (omega arith)
-before_next (x ∷ xs) [] i d e h k = absurd (omega arith)
-before_next (x ∷ xs) (y ∷ ys) zero d e h k = refl
-before_next (x ∷ xs) (y ∷ ys) (suc i) d e h k = before_next xs ys i d e (omega arith) (omega arith)
-
--- the other path has ended
-pub before_short : (xs ys : List code.Step) (i : ℕ) → i < length xs → length ys ≡ i → before (map step_of (drop i xs)) (map step_of (drop i ys)) ≡ false
-before_short [] ys i h k = absurd (omega arith)
-before_short (x ∷ xs) [] zero h k = refl
-before_short (x ∷ xs) [] (suc i) h k = absurd (omega (arith, k))
-before_short (x ∷ xs) (y ∷ ys) zero h k = absurd (omega (arith, k))
-before_short (x ∷ xs) (y ∷ ys) (suc i) h k = before_short xs ys i (omega arith) (omega (arith, k))
-
-all_gone : {A : Type 0} (xs : List A) (i : ℕ) → length xs ≤ i → drop i xs ≡ []
-all_gone [] zero h = refl
-all_gone [] (suc i) h = refl
-all_gone (x ∷ xs) zero h = absurd (omega arith)
-all_gone (x ∷ xs) (suc i) h = all_gone xs i (omega arith)
-
-pub before_end : (xs ys : List code.Step) (i : ℕ) → length xs ≤ i → before (map step_of (drop i xs)) (map step_of (drop i ys)) ≡ true
-before_end xs ys i h = ap (λ zs. before (map step_of zs) (map step_of (drop i ys))) (all_gone xs i h)

@@ -1,12 +1,12 @@
 -- Device: parts of objects that paths lead to, by numbers of types.
-use Rattle.std.specs.Prelude.{Bool, true, false, ◌&&◌, if◌then◌else◌, nat_eq, nat_lt, List, [], ◌∷◌, Option, unwrap_or}
+use Rattle.std.specs.Prelude.{◌≡◌, Bool, true, false, ◌&&◌, if◌then◌else◌, nat_eq, nat_lt, List, [], ◌∷◌, Option, Some, None, unwrap_or, map}
 use Rattle.std.specs.List.{list_all}
 use Rattle.std.specs.Option.{option_map}
 use Rattle.cil_base.specs.declared.numbers.TypeId.{TypeId}
 use Rattle.type_graph.specs.Shapes.{Shape, VoidType, IntType, PtrType, ArrayType, FuncType, AggType, shape}
 use Rattle.type_graph.specs.Arena.{Graph}
 use Rattle.cil_tree.specs.Tree.{Item, Program, Step, ToField, ToIndex}
-use Rattle.cil_tree.specs.Globals.{Part, agree, constant_fits, member_part, element_part, next_type, next_element}
+use Rattle.cil_tree.specs.Globals.{Part, agree, constant_fits, member_part, element_part, path_part, item_offset, are_rising, next_type, next_element}
 use Rattle.cil_base.specs.declared.constants.Constant.{Constant}
 use Rattle.cil_tree.specs.Typing.{is_scalar}
 use Rattle.cil_check.specs.declared.paths.Place.{Place}
@@ -86,3 +86,12 @@ abbrev pub in_order : List Item → Bool
 in_order [] = true
 in_order (x ∷ []) = true
 in_order (x ∷ y ∷ items) = before x.path y.path && in_order (y ∷ items)
+
+-- the item's path leads to a scalar
+abbrev pub leads_to_scalar : Graph → Shape → Item → Bool
+leads_to_scalar g s x = elim (path_part g x.path (s, 0)) [ None ↦ false | Some part ↦ is_scalar g part.0 ]
+
+-- the paths of items lead to scalars, whose offsets rise
+pub record ScalarsRise (g : Graph) (s : Shape) (items : List Item) : Type 0 where
+  pub scalars : list_all (leads_to_scalar g s) items ≡ true
+  pub rising : are_rising (map (item_offset g s) items) ≡ true

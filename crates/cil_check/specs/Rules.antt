@@ -1,5 +1,5 @@
 -- Device: the rules of types, gathered by type and by aggregate.
-use Rattle.std.specs.Prelude.{◌≡◌, ℕ, suc, max, ◌<◌, ◌≤◌, ◌&&◌, ◌||◌, not, if◌then◌else◌, Bool, true, false, List, [], ◌∷◌, Option, Some, None, slice_get, slice_index, length}
+use Rattle.std.specs.Prelude.{◌≡◌, ℕ, suc, max, ◌<◌, ◌≤◌, ◌&&◌, ◌||◌, not, if◌then◌else◌, Bool, true, false, List, [], ◌∷◌, Option, Some, None, slice_get, length}
 use Rattle.type_graph.specs.declared.aggregates.Aggregate.{Aggregate}
 use Rattle.type_graph.specs.declared.aggregates.Member.{Member}
 use Rattle.type_graph.specs.declared.nodes.Node.{Node}
@@ -8,6 +8,7 @@ use Rattle.type_graph.specs.Arena.{Graph, held, complete, flexible_shape, member
 use Rattle.type_graph.specs.declared.aggregates.AggKind.{AggKind}
 use Rattle.std.specs.List.{list_all}
 use Rattle.cil_tree.specs.Typing.{is_enum}
+use Rattle.cil_check.specs.declared.elements.Tops.{Tops}
 use Rattle.cil_tree.specs.WellFormedTypes.{is_unqualified, node_is_unqualified, has_tag, member_fits, is_nonempty, enums_first, array_fits, function_fits, prototype_fits, holds_below, elements_below}
 
 -- the rules of one type
@@ -48,10 +49,15 @@ is_empty (m ∷ ms) = false
 abbrev pub stands_here : Graph → Bool → Bool → List Member → ℕ → Bool
 stands_here g in_struct behind rest t = complete g t || (in_struct && (behind && (is_empty rest && flexible_shape g.aggs (shape g.nodes t))))
 
--- the table of the first types' greatest elements
-pub record AreTops (tops : List ℕ) (g : Graph) : Type 0 where
+-- the entry of a type in the table: what it has within itself, and its greatest element of an array
+pub record IsTop (x : Tops) (s : Shape) : Type 0 where
+  pub held : x.held ≡ held_top s
+  pub elements : x.elements ≡ element_top s
+
+-- the table has the entries of the first types
+pub record AreTops (tops : List Tops) (g : Graph) : Type 0 where
   pub few : length tops ≤ length g.nodes
-  pub each : (t : ℕ) → t < length tops → slice_index tops t ≡ element_top (shape g.nodes t)
+  pub each : (t : ℕ) (x : Tops) → slice_get tops t ≡ Some x → IsTop x (shape g.nodes t)
 
 -- a member holds by value, and has as elements of arrays, only aggregates below the number
 abbrev pub member_is_after : Graph → ℕ → Member → Bool

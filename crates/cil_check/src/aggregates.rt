@@ -8,7 +8,7 @@ ghost use Rattle.cil_tree.specs.Typing.{is_enum, same_shape};
 ghost use Rattle.cil_tree.specs.WellFormedTypes.{is_unqualified, member_fits, is_nonempty, enums_first};
 ghost use Rattle.cil_check.specs.Rules.{AreThere, AreTops, HasMembers, stands_here, member_is_after, members_rules, aggregate_rules, aggregate_fits_at, ordered};
 
-use crate::elements::{entry, held_top};
+use crate::elements::{Tops, entry};
 use crate::nodes::is_unqualified;
 use cil_base::{AggId, IntKind, TypeId};
 use type_graph::{AggKind, Aggregate, Member, Node, TypeGraph};
@@ -123,7 +123,7 @@ fn flexible_is_last(g: &TypeGraph, kind: AggKind, members: &[Member]) -> bool
 /// Whether an aggregate with the number stands after those that its members hold by value, and after those that are
 /// elements of an array anywhere in their types.
 #[tactic(auto, using(crate::proofs::TypeSteps::all_from, crate::proofs::TypeSteps::member_there))]
-fn stands_after(g: &TypeGraph, tops: &[u64], a: AggId, members: &[Member]) -> bool
+fn stands_after(g: &TypeGraph, tops: &[Tops], a: AggId, members: &[Member]) -> bool
     requires table { AreTops tops.now g.now }
     requires whole { length tops.now ≡ length g.now.nodes }
     requires there { AreThere (length g.now.nodes) members.now }
@@ -139,19 +139,19 @@ fn stands_after(g: &TypeGraph, tops: &[u64], a: AggId, members: &[Member]) -> bo
 
 /// Whether a member may be of an aggregate with the number.
 #[tactic(auto, using(crate::proofs::ElementTable::after_is))]
-fn member_is_after(g: &TypeGraph, tops: &[u64], a: AggId, member: &Member) -> bool
+fn member_is_after(g: &TypeGraph, tops: &[Tops], a: AggId, member: &Member) -> bool
     requires table { AreTops tops.now g.now }
     requires whole { length tops.now ≡ length g.now.nodes }
     requires there { member.now.ty.of.0 < length g.now.nodes }
     ensures { result ≡ member_is_after g.now a.0 member.now }
 {
-    held_top(g, member.ty.of).max(entry(g, tops, member.ty.of)) <= a.0 as u64
+    entry(g, tops, member.ty.of).greatest() <= a.0 as u64
 }
 
 /// Whether the members of an aggregate with the number keep the rules of types.
 fn members_keep_rules(
     g: &TypeGraph,
-    tops: &[u64],
+    tops: &[Tops],
     a: AggId,
     kind: AggKind,
     members: &[Member],
@@ -179,7 +179,7 @@ fn is_nonempty(members: &[Member]) -> bool
 }
 
 /// Whether an aggregate with the number keeps the rules of types.
-fn keeps_rules(g: &TypeGraph, tops: &[u64], a: AggId, x: &Aggregate) -> bool
+fn keeps_rules(g: &TypeGraph, tops: &[Tops], a: AggId, x: &Aggregate) -> bool
     requires table { AreTops tops.now g.now }
     requires whole { length tops.now ≡ length g.now.nodes }
     requires there { HasMembers (length g.now.nodes) x.now }
@@ -194,7 +194,7 @@ fn keeps_rules(g: &TypeGraph, tops: &[u64], a: AggId, x: &Aggregate) -> bool
 
 /// Whether an aggregate of the graph keeps the rules of types.
 #[tactic(auto, using(crate::proofs::AggregateRules::members_there, crate::proofs::AggregateRules::aggregate_is))]
-fn aggregate_fits(g: &TypeGraph, tops: &[u64], a: AggId) -> bool
+fn aggregate_fits(g: &TypeGraph, tops: &[Tops], a: AggId) -> bool
     requires arena { IsArena g.now }
     requires table { AreTops tops.now g.now }
     requires whole { length tops.now ≡ length g.now.nodes }
@@ -205,7 +205,7 @@ fn aggregate_fits(g: &TypeGraph, tops: &[u64], a: AggId) -> bool
 }
 
 /// Whether all aggregates keep the rules of types.
-pub(crate) fn aggregates_fit(g: &TypeGraph, tops: &[u64]) -> bool
+pub(crate) fn aggregates_fit(g: &TypeGraph, tops: &[Tops]) -> bool
     requires table { AreTops tops.now g.now }
     requires whole { length tops.now ≡ length g.now.nodes }
     ensures fit { IsTrue result → (a : ℕ) → a < length g.now.aggs → aggregate_fits_at g.now a ≡ true }

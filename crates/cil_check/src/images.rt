@@ -8,11 +8,11 @@ ghost use Rattle.cil_tree.specs.Globals.{number_fits, is_object, address_fits, c
 ghost use Rattle.cil_tree.specs.Text.{is_function_type};
 ghost use Rattle.cil_tree.specs.Typing.{global_type};
 ghost use Rattle.cil_check.specs.Seen.{at, seen_shape, IsThere};
-ghost use Rattle.cil_check.specs.Paths.{agrees_with, is_pointer, scalar_has, adjacent_agree, in_order};
+ghost use Rattle.cil_check.specs.Paths.{is_pointer, scalar_has, adjacent_agree, ScalarsRise};
 
 use crate::expressions::number_at;
 use crate::operators::{fits, is_function, is_scalar, names_enum};
-use crate::paths::{agree, is_before, path_part};
+use crate::paths::{agree, path_part};
 use crate::seen::{Seen, same_kind, see};
 use cil_base::{Constant, EntityId, IntKind, NamePool, TypeId};
 use cil_tree::{CilUnit, ImageItem};
@@ -198,34 +198,6 @@ fn are_rising(g: &TypeGraph, l: &Layouts, t: TypeId, items: &[ImageItem]) -> boo
     true
 }
 
-/// Whether an item's path and each of those of others do not part at a union.
-#[tactic(auto, using(crate::proofs::ImageSteps::agrees_from))]
-fn agrees_with(g: &TypeGraph, t: TypeId, item: &ImageItem, others: &[ImageItem]) -> bool
-    requires { t.0 < length g.now.nodes }
-    ensures { result ≡ agrees_with g.now (shape g.now.nodes t.0) (item_of item.now) (map item_of others.now) }
-{
-    for i in 0..others.len() {
-        if !agree(g, t, &item.path, &others[i].path) {
-            return false;
-        }
-    }
-    true
-}
-
-/// Whether each two paths of an image agree at unions.
-#[tactic(auto, using(crate::proofs::ImageSteps::unions_from))]
-fn all_agree(g: &TypeGraph, t: TypeId, items: &[ImageItem]) -> bool
-    requires { t.0 < length g.now.nodes }
-    ensures { result ≡ unions_agree g.now (shape g.now.nodes t.0) (map item_of items.now) }
-{
-    for i in 0..items.len() {
-        if !agrees_with(g, t, &items[i], &items[i + 1..]) {
-            return false;
-        }
-    }
-    true
-}
-
 /// Whether the path of an item agrees with that of the next at unions, if there is one.
 #[tactic(auto, using(crate::proofs::UnionLaws::adjacent_next, crate::proofs::UnionLaws::adjacent_last))]
 fn agrees_with_next(g: &TypeGraph, t: TypeId, items: &[ImageItem], i: usize) -> bool
@@ -252,39 +224,17 @@ fn adjacent_agree(g: &TypeGraph, t: TypeId, items: &[ImageItem]) -> bool
     true
 }
 
-/// Whether the path of an item stands before that of the next, if there is one.
-#[tactic(auto, using(crate::proofs::UnionLaws::ordered_next, crate::proofs::UnionLaws::ordered_last))]
-fn is_before_next(items: &[ImageItem], i: usize) -> bool
-    requires { i < length items.now }
-    ensures { in_order (map item_of (drop i items.now)) ≡ (result && in_order (map item_of (drop (i + 1) items.now))) }
-{
-    if i + 1 >= items.len() {
-        return true;
-    }
-    is_before(&items[i].path, &items[i + 1].path)
-}
-
-/// Whether the paths of an image stand in order.
-fn are_in_order(items: &[ImageItem]) -> bool
-    ensures { result ≡ in_order (map item_of items.now) }
-{
-    for i in 0..items.len() {
-        if !is_before_next(items, i) {
-            return false;
-        }
-    }
-    true
-}
-
-/// Whether of each union one member is initialised. Where each path agrees with the next, and they stand in order, all
-/// agree; paths whose offsets rise and each of which agrees with the next do stand in order, so no two others are
-/// compared then.
-#[tactic(auto, using(crate::proofs::UnionLaws::unions_is))]
+/// Whether of each union one member is initialised. Paths that agree at unions and lead to scalars whose offsets rise
+/// stand in order, so comparing each path with the next tells it of all.
+#[tactic(auto, using(crate::proofs::OrderLaws::adjacent_is))]
 fn unions_agree(g: &TypeGraph, t: TypeId, items: &[ImageItem]) -> bool
-    requires { t.0 < length g.now.nodes }
+    requires there { t.0 < length g.now.nodes }
+    requires rise { ScalarsRise g.now (shape g.now.nodes t.0) (map item_of items.now) }
     ensures { result ≡ unions_agree g.now (shape g.now.nodes t.0) (map item_of items.now) }
 {
-    adjacent_agree(g, t, items) && (are_in_order(items) || all_agree(g, t, items))
+    // What is known of an arena is known where it is read.
+    let _types = g.len();
+    adjacent_agree(g, t, items)
 }
 
 /// Whether there is an item.

@@ -3,7 +3,7 @@ ghost use Rattle.type_graph.specs.Shapes.{shape};
 ghost use Rattle.cil_tree.specs.View.{step_of};
 ghost use Rattle.cil_tree.specs.Globals.{member_part, element_part, path_part, is_union, agree};
 ghost use Rattle.layout_lp64.specs.Tables.{InStep};
-ghost use Rattle.cil_check.specs.Paths.{part_of, parts, step_part, or_void, same_step, both_fields, after_step, step_below, before};
+ghost use Rattle.cil_check.specs.Paths.{part_of, parts, step_part, or_void, same_step, both_fields, after_step};
 
 use crate::operators::{element_of, member};
 use cil_base::TypeId;
@@ -196,34 +196,6 @@ pub(crate) fn agree(g: &TypeGraph, t: TypeId, path: &[Step], other: &[Step]) -> 
             return !both_fields(path[i], other[i]) || !is_union(g, place);
         }
         place = after_step(g, place, path[i]);
-    }
-    true
-}
-
-/// Whether a step stands before another: to members before to elements, and each by its number.
-fn is_below(a: Step, b: Step) -> bool
-    ensures { result ≡ step_below (step_of a) (step_of b) }
-{
-    match (a, b) {
-        (Step::Field(m), Step::Field(n)) => m < n,
-        (Step::Index(m), Step::Index(n)) => m < n,
-        (Step::Field(_), Step::Index(_)) => true,
-        (Step::Index(_), Step::Field(_)) => false,
-    }
-}
-
-/// Whether a path is another, a beginning of it, or before it where they part.
-#[tactic(auto, using(crate::proofs::UnionLaws::before_next, crate::proofs::UnionLaws::before_short, crate::proofs::UnionLaws::before_end))]
-pub(crate) fn is_before(path: &[Step], other: &[Step]) -> bool
-    ensures { result ≡ before (map step_of path.now) (map step_of other.now) }
-{
-    for i in 0..path.len() {
-        if i >= other.len() {
-            return false;
-        }
-        if !same_step(path[i], other[i]) {
-            return is_below(path[i], other[i]);
-        }
     }
     true
 }

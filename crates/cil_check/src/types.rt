@@ -4,7 +4,7 @@ ghost use Rattle.layout_lp64.specs.Tables.{InStep};
 ghost use Rattle.cil_check.specs.Rules.{AreTops, KeepRules};
 
 use crate::aggregates::{aggregates_fit, enums_first};
-use crate::elements::element_tops;
+use crate::elements::{Tops, element_tops};
 use crate::nodes::nodes_fit;
 use cil_base::Memory;
 use layout_lp64::{LayoutStop, Layouts};
@@ -13,12 +13,27 @@ use type_graph::TypeGraph;
 
 /// Whether the types keep their rules but for sizes.
 #[tactic(auto, using(crate::proofs::TypeRules::keep))]
-fn keep_rules(g: &TypeGraph, tops: &[u64]) -> bool
+fn keep_rules(g: &TypeGraph, tops: &[Tops]) -> bool
     requires table { AreTops tops.now g.now }
     requires whole { length tops.now ≡ length g.now.nodes }
     ensures { (result ≡ true) ↔ KeepRules g.now }
 {
     nodes_fit(g) && enums_first(g) && aggregates_fit(g, tops)
+}
+
+/// The layouts, if no aggregate has too many bytes, also one that no type names.
+#[tactic(auto, using(crate::proofs::TypeRules::sizes_tell))]
+fn with_small_aggregates(g: &TypeGraph, layouts: Layouts) -> Option<Layouts>
+    requires step { InStep layouts g.now }
+    requires rules { KeepRules g.now }
+    ensures exact { (is_some result ≡ true) ↔ AreTypes g.now }
+    ensures step { IfSome result (λ l. InStep l g.now) }
+{
+    if layouts.aggregates_fit(g) {
+        Some(layouts)
+    } else {
+        None
+    }
 }
 
 /// The layouts of the types of a program; none where these do not keep the rules of types.
@@ -34,7 +49,7 @@ pub(crate) fn well_formed_layouts(alloc: Global, g: &TypeGraph) -> Result<Option
         return Ok(None);
     }
     match Layouts::of_graph(alloc, g) {
-        Ok(layouts) => Ok(Some(layouts)),
+        Ok(layouts) => Ok(with_small_aggregates(g, layouts)),
         Err(LayoutStop::TooBig(_)) => Ok(None),
         Err(LayoutStop::Memory) => Err(Memory),
     }

@@ -1,17 +1,20 @@
 -- Device: worked rows of declarators, numbers, the rules of types and the rules of names.
-use Rattle.std.proofs.Common.{◌≡◌, ℕ, Bool, true, false, List, [], ◌∷◌, ◌++◌, Some, None, refl}
+use Rattle.std.proofs.Common.{◌≡◌, ◌≤◌, ℕ, Bool, true, false, List, [], ◌∷◌, ◌++◌, Some, None, refl, arith}
+use Rattle.std.specs.Option.{option_map}
+use Rattle.cil_base.specs.declared.kinds.Abi.TheVariants.{Lp64}
 use Rattle.std.specs.Prelude.{pos, negsuc, codes, map, replicate}
 use Rattle.std.specs.Fmt.{digits}
 use Rattle.std.specs.List.{list_all, join_with_byte}
 use Rattle.cil_base.specs.declared.kinds.IntKind.TheVariants as kind
 use Rattle.type_graph.specs.declared.aggregates.AggKind.TheVariants.{Struct, Union, Enum}
-use Rattle.type_graph.specs.declared.nodes.Node.TheVariants.{Ptr, Array, Func}
+use Rattle.type_graph.specs.declared.nodes.Node.TheVariants.{Int, Ptr, Array, Func}
 use Rattle.type_graph.specs.Shapes.{Shape, VoidType, IntType, ArrayType, FuncType, AggType, NoTypes, MoreTypes, shape}
 use Rattle.type_graph.specs.Arena.{Graph}
+use Rattle.type_graph.specs.Layouts.{AggLayout, layout, agg_layout}
 use Rattle.cil_tree.specs.Tree.{Done, Local, Definition, Declared, Zeros, Function, GlobalDecl}
 use Rattle.cil_tree.specs.Typing.{unqualified}
 use Rattle.cil_tree.specs.Declarators.{declared, number}
-use Rattle.cil_tree.specs.WellFormedTypes.{node_is_unqualified, members_are_unqualified, has_tag, enum_is_complete, members_have_kind, has_member, flexible_is_last, enums_first, all_stand_after, array_fits, function_fits, prototype_fits}
+use Rattle.cil_tree.specs.WellFormedTypes.{node_is_unqualified, members_are_unqualified, has_tag, enum_is_complete, members_have_kind, has_member, flexible_is_last, enums_first, all_stand_after, array_fits, function_fits, prototype_fits, AggregatesAreSmall}
 use Rattle.cil_tree.specs.Names.{is_plain_name, global_is_named, internal_is_apart, members_are_named, definition_is_named, file_names, tags, enumerators, are_different, are_apart, host_names, memset_type}
 use Rattle.cil_tree.proofs.Rows.{int, pointer, node, four, plain, member, aggregate, graph, full, object, a_local}
 
@@ -97,6 +100,26 @@ types_accepted :
     ∷ [] ≡ replicate 3 true
 unfolding shape
 types_accepted = refl
+
+-- struct { char a[2147483647]; char b; }, which no type names: each type has few enough bytes, and the aggregate has one too many
+abbrev large : Graph
+large = record {
+  abi = Lp64;
+  nodes = Int kind.Char ∷ Array (plain 0) (Some 2147483647) ∷ [];
+  aggs = aggregate Struct 3 (Some (member 4 1 (pos 0) ∷ member 5 0 (pos 0) ∷ [])) ∷ [];
+  completed = record { 0 = 0 } ∷ [];
+}
+
+large_sizes : layout large 0 ∷ layout large 1 ∷ option_map (λ (l : AggLayout). l.whole) (agg_layout large 0) ∷ []
+    ≡ Some (record { size = 1; align = 1 }) ∷ Some (record { size = 2147483647; align = 1 }) ∷ Some (record { size = 2147483648; align = 1 }) ∷ []
+unfolding shape agg_layout
+large_sizes = refl
+
+large_refused : AggregatesAreSmall large → ⊥
+unfolding shape agg_layout
+large_refused small =
+    let h : 2147483648 ≤ 2147483647 = small 0 (record { whole = record { size = 2147483648; align = 1 }; offsets = 0 ∷ 2147483647 ∷ [] }) refl in
+    omega (arith, h)
 
 -- functions: a result that is a function or an array, a parameter that is void, a function or an array; without prototype parameters or `...`; `...` alone
 functions_refused :

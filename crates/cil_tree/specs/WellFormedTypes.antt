@@ -12,7 +12,7 @@ use Rattle.type_graph.specs.declared.nodes.Node.{Node}
 use Rattle.type_graph.specs.declared.nodes.Node.TheVariants.{Ptr, Array}
 use Rattle.type_graph.specs.Shapes.{Shape, Shapes, VoidType, IntType, PtrType, ArrayType, FuncType, AggType, NoTypes, MoreTypes, shape}
 use Rattle.type_graph.specs.Arena.{Graph, complete_shape, members_fit, held}
-use Rattle.type_graph.specs.Layouts.{layout}
+use Rattle.type_graph.specs.Layouts.{AggLayout, layout, agg_layout}
 use Rattle.cil_tree.specs.Typing.{same_shape, is_void, is_array, is_function, is_enum}
 
 abbrev pub is_unqualified : Quals → Bool
@@ -131,6 +131,10 @@ each_shape of g = (t : ℕ) → t < length g.nodes → of (shape g.nodes t) ≡ 
 abbrev pub TypesAreSmall : Graph → Type 0
 TypesAreSmall g = (t : ℕ) (l : Layout) → layout g t ≡ Some l → l.size ≤ 2147483647
 
+-- nor has a complete aggregate, also where no type of the graph names it (own)
+abbrev pub AggregatesAreSmall : Graph → Type 0
+AggregatesAreSmall g = (a : ℕ) (l : AggLayout) → agg_layout g a ≡ Some l → l.whole.size ≤ 2147483647
+
 -- the rules of types but for missing tags and the order of aggregates; numbers of types in range and kinds of the data model are what an arena always has
 pub record TypesFit (g : Graph) : Type 0 where
   pub unqualified : list_all node_is_unqualified g.nodes ≡ true
@@ -143,6 +147,7 @@ pub record TypesFit (g : Graph) : Type 0 where
   pub functions : each_shape function_fits g
   pub prototypes : each_shape prototype_fits g
   pub small : TypesAreSmall g
+  pub small_aggregates : AggregatesAreSmall g
 
 -- the rules of types
 pub record AreTypes (g : Graph) : Type 0 where

@@ -5,4 +5,6 @@ mod EntryLaws
 pub mod TableLaws
 pub mod OffsetLaws
 pub mod UpdateLaws
+mod AggregateSizes
+pub mod MemberRanges
 pub mod RenamingLaws

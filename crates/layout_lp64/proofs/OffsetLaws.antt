@@ -19,7 +19,7 @@ use Rattle.layout_lp64.proofs.AlignLaws.{mapped_from, then_from, member_in_align
 use Rattle.layout_lp64.proofs.TableLaws.{push_get}
 
 -- a size rounded up is not smaller
-rounded : (e a : ℕ) → Aligned a → e ≤ round_up e a
+pub rounded : (e a : ℕ) → Aligned a → e ≤ round_up e a
 rounded e a (inl h) = subst (λ k. e ≤ round_up e k) (sym h) (one e)
   where
     one : (e : ℕ) → e ≤ (e + 0) / 1 * 1

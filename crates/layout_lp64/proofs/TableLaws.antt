@@ -93,8 +93,11 @@ module _ (l : Layouts) (g : Graph) (t : AreTables l g) where
           subst (λ (y : Layout). 0 < y.align) from.2 (positive from.0.align (part_aligned g l.completed b from.0 from.1))
 
 -- the loop over members
-size_positive : (k : IntKind) → 0 < size_of k
+pub size_positive : (k : IntKind) → 0 < size_of k
 size_positive k = positive (size_of k) (size_aligned k)
+
+pub pointer_positive : (abi : Abi) → 0 < pointer_size_of abi
+pointer_positive abi = positive (pointer_size_of abi) (pointer_aligned abi)
 
 resolved_positive : (abi : Abi) (f : ℕ → Option Layout) (s : Shape) → ((b : ℕ) (x : Layout) → f b ≡ Some x → 0 < x.align) → (x : Layout) → resolve f (span_shape abi s) ≡ Some x → 0 < x.align
 resolved_positive abi f VoidType h x e = cc
@@ -224,12 +227,12 @@ push_get [] y (suc i) x e = cc
 push_get (z ∷ xs) y zero x e = inl e
 push_get (z ∷ xs) y (suc i) x e = elim (push_get xs y i x e) [ inl h ↦ inl h | inr h ↦ inr (ap suc h.0, h.1) ]
 
-get_pushed : {K : Type 0} (xs : List K) (y : K) (i : ℕ) → i < length xs → slice_get (xs ++ y ∷ []) i ≡ slice_get xs i
+pub get_pushed : {K : Type 0} (xs : List K) (y : K) (i : ℕ) → i < length xs → slice_get (xs ++ y ∷ []) i ≡ slice_get xs i
 get_pushed [] y i h = absurd (omega arith)
 get_pushed (z ∷ xs) y zero h = refl
 get_pushed (z ∷ xs) y (suc i) h = get_pushed xs y i (omega arith)
 
-get_last : {K : Type 0} (xs : List K) (y : K) → slice_get (xs ++ y ∷ []) (length xs) ≡ Some y
+pub get_last : {K : Type 0} (xs : List K) (y : K) → slice_get (xs ++ y ∷ []) (length xs) ≡ Some y
 get_last [] y = refl
 get_last (z ∷ xs) y = get_last xs y
 

@@ -168,7 +168,7 @@ small_size n h = let l : min n 2147483648 ≤ 2147483647 = ltb-false 2147483647 
 large_size : (n : ℕ) → nat_lt 2147483647 (min n 2147483648) ≡ true → 2147483647 < n
 large_size n h = let l : 2147483647 < min n 2147483648 = ltb-true 2147483647 (min n 2147483648) h in omega arith
 
-fits_from : (o : Option Layout) → is_large (option_map capped o) ≡ false → (x : Layout) → o ≡ Some x → x.size ≤ 2147483647
+pub fits_from : (o : Option Layout) → is_large (option_map capped o) ≡ false → (x : Layout) → o ≡ Some x → x.size ≤ 2147483647
 fits_from None h x e = cc
 fits_from (Some y) h x e = let same : y ≡ x = cc in subst (λ (z : Layout). z.size ≤ 2147483647) same (small_size y.size h)
 
@@ -179,7 +179,7 @@ capped_small (Some y) h =
     let e : min y.size 2147483648 ≡ y.size = omega arith in
     ap (λ n. let r : Option Layout = Some (record { size = n; align = y.align }) in r) e
 
-large_from : (o : Option Layout) → is_large (option_map capped o) ≡ true → (x : Layout) × (o ≡ Some x) × (2147483647 < x.size)
+pub large_from : (o : Option Layout) → is_large (option_map capped o) ≡ true → (x : Layout) × (o ≡ Some x) × (2147483647 < x.size)
 large_from None h = cc
 large_from (Some y) h = (y, refl, large_size y.size h)
 

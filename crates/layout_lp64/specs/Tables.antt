@@ -52,6 +52,10 @@ pub record AreTables (l : Layouts) (g : Graph) : Type 0 where
 pub record AllFit (g : Graph) : Type 0 where
   pub each : (t : ℕ) (x : Layout) → layout g t ≡ Some x → x.size ≤ 2147483647
 
+-- no complete aggregate of the graph has more bytes than an object may have
+pub record AggregatesFit (g : Graph) : Type 0 where
+  pub each : (a : ℕ) (x : AggLayout) → agg_layout g a ≡ Some x → x.whole.size ≤ 2147483647
+
 -- the layouts are those of the graph
 pub record InStep (l : Layouts) (g : Graph) : Type 0 where
   pub sizes : (t : ℕ) → found l t ≡ layout g t

@@ -1,4 +1,4 @@
-ghost use Rattle.std.specs.Prelude.{◌≡◌, ◌<◌, ◌≤◌, ◌+◌, ◌^◌, ℕ, true, false, Some, None, length, MatchResult, MatchOption, IfOk, OnOk, IfSome, IsSome, IsTrue, slice_get, slice_index};
+ghost use Rattle.std.specs.Prelude.{◌≡◌, ◌↔◌, ◌<◌, ◌≤◌, ◌+◌, ◌^◌, ℕ, true, false, Some, None, length, MatchResult, MatchOption, IfOk, OnOk, IfSome, IsSome, IsTrue, slice_get, slice_index};
 ghost use Rattle.type_graph.specs.declared.aggregates.Member.{Member};
 ghost use Rattle.type_graph.specs.declared.layout.Layout.{Layout};
 ghost use Rattle.type_graph.specs.Shapes.{shape};
@@ -7,7 +7,7 @@ ghost use Rattle.type_graph.specs.Arena.{IsArena, empty_graph};
 ghost use Rattle.type_graph.specs.Layouts.{AggLayout, nothing_placed, enum_layout, without_elements as no_elements};
 ghost use Rattle.layout_lp64.specs.Capped.{resolve, copies, member_span, capped_all, capped_finished, capped_members, capped_aggregate};
 ghost use Rattle.layout_lp64.specs.Placements.{placed_of, seen};
-ghost use Rattle.layout_lp64.specs.Tables.{agg_found, whole_found, found, found_offset, AreSpans, AreTables, InStep, WereInStep, AreAligned, AddsSpan, AddsLayout, AddsAggs, AddsSpans, AddsLayouts, TypesFit, AggsFit, FitsOrNew, IsLeastLarge, is_large};
+ghost use Rattle.layout_lp64.specs.Tables.{agg_found, whole_found, found, found_offset, AreSpans, AreTables, InStep, WereInStep, AreAligned, AddsSpan, AddsLayout, AddsAggs, AddsSpans, AddsLayouts, AggregatesFit, TypesFit, AggsFit, FitsOrNew, IsLeastLarge, is_large};
 ghost use Rattle.layout_lp64.specs.Stops.{StopsAt};
 ghost use Rattle.std.specs.Option.{option_and_then, option_map};
 
@@ -348,6 +348,21 @@ impl Layouts {
             Ok(()) => Ok(layouts),
             Err(stop) => Err(stop),
         }
+    }
+
+    /// Whether no complete aggregate has more bytes than an object may have, which is 2147483647 (own). That no type
+    /// is too big says this only of aggregates that a type is made of.
+    #[tactic(auto, using(crate::proofs::AggregateSizes::not_fit, crate::proofs::AggregateSizes::all_fit))]
+    pub fn aggregates_fit(&self, g: &TypeGraph) -> bool
+        requires { InStep self.now g.now }
+        ensures { (result ≡ true) ↔ AggregatesFit g.now }
+    {
+        for a in 0..g.agg_count() {
+            if large(self.aggs.whole(AggId(a))) {
+                return false;
+            }
+        }
+        true
     }
 
     /// The size of a complete object type in bytes (C11 6.5.3.4).
