@@ -1,0 +1,94 @@
+-- Device: what several calls append one after the other.
+use Rattle.std.proofs.Common.{◌≡◌, ℕ, suc, ◌+◌, ◌-◌, ◌^◌, List, [], ◌∷◌, ◌++◌, length, replicate, codes, refl, sym, ap, ◌∙◌, append_assoc, append-nil, length-append, arith, ◌<◌, ◌≤◌, ◌*◌}
+use Rattle.std.proofs.lemmas.List.{length-replicate}
+use Rattle.cil_tree.specs.Lines.{Token}
+use Rattle.cil_tree.specs.Declarators.{in_parentheses}
+use Rattle.cil_printer.specs.Output.{Output, Counted, Written, put, puts, capped}
+use Rattle.cil_printer.specs.Spaced.{spaced}
+
+capped_twice : (a m n : ℕ) → capped (capped (a + m) + n) ≡ capped (a + (m + n))
+capped_twice a m n = omega arith
+
+pub put-put : (o : Output) (xs ys : List ℕ) → put (put o xs) ys ≡ put o (xs ++ ys)
+unfolding put
+put-put o [] ys = refl
+put-put o (x ∷ xs) [] = ap (put o) (sym (append-nil (x ∷ xs)))
+put-put (Counted n) (x ∷ xs) (y ∷ ys) = ap Counted (capped_twice n (length (x ∷ xs)) (length (y ∷ ys)) ∙ ap (λ k. capped (n + k)) (sym (length-append (x ∷ xs) (y ∷ ys))))
+put-put (Written text) (x ∷ xs) (y ∷ ys) = ap Written (append_assoc text (x ∷ xs) (y ∷ ys))
+
+pub put_counted : (n : ℕ) (bytes : List ℕ) → n < 2 ^ 64 → put (Counted n) bytes ≡ Counted (capped (n + length bytes))
+unfolding put
+put_counted n [] h = ap Counted (omega (arith, h))
+put_counted n (b ∷ bytes) h = refl
+
+pub put_written : (text bytes : List ℕ) → put (Written text) bytes ≡ Written (text ++ bytes)
+unfolding put
+put_written text [] = ap Written (sym (append-nil text))
+put_written text (b ∷ bytes) = refl
+
+pub spaced-append : (xs ys : List Token) → spaced (xs ++ ys) ≡ spaced xs ++ spaced ys
+spaced-append [] ys = refl
+spaced-append (x ∷ xs) ys = ap (λ t. x ++ 32 ∷ t) (spaced-append xs ys) ∙ sym (append_assoc x (32 ∷ spaced xs) (spaced ys))
+
+pub put_known : (k n : ℕ) (bytes : List ℕ) → n < 2 ^ 64 → k ≡ capped (length bytes) → put (Counted n) bytes ≡ Counted (capped (n + k))
+put_known k n bytes h e = put_counted n bytes h ∙ ap Counted (omega (arith, e))
+
+-- tokens behind tokens
+pub puts-puts : (o : Output) (xs ys : List Token) → puts (puts o xs) ys ≡ puts o (xs ++ ys)
+unfolding puts
+puts-puts o xs ys = put-put o (spaced xs) (spaced ys) ∙ ap (put o) (sym (spaced-append xs ys))
+
+pub token_pushed : (o a b : Output) (token : Token) → a ≡ put o token → b ≡ put a (32 ∷ []) → b ≡ puts o (token ∷ [])
+unfolding puts
+token_pushed o a b token ea eb = simp (eb, ea, put-put)
+
+pub constant_pushed : (o a b c : Output) (xs ys : List ℕ) → a ≡ put o xs → b ≡ put a ys → c ≡ put b (32 ∷ []) → c ≡ puts o ((xs ++ ys) ∷ [])
+unfolding puts
+constant_pushed o a b c xs ys ea eb ec = simp (ec, eb, ea, put-put, append_assoc)
+
+pub two_pushed : (o a b : Output) (xs ys : List Token) → a ≡ puts o xs → b ≡ puts a ys → b ≡ puts o (xs ++ ys)
+two_pushed o a b xs ys ea eb = simp (eb, ea, puts-puts)
+
+pub pair_pushed : (o a b : Output) (x y : Token) → a ≡ puts o (x ∷ []) → b ≡ puts a (y ∷ []) → b ≡ puts o (x ∷ y ∷ [])
+pair_pushed o a b x y ea eb = simp (eb, ea, puts-puts)
+
+pub cons_pushed : (o a b : Output) (x : Token) (xs : List Token) → a ≡ puts o (x ∷ []) → b ≡ puts a xs → b ≡ puts o (x ∷ xs)
+cons_pushed o a b x xs ea eb = simp (eb, ea, puts-puts)
+
+pub three_pushed : (o a b c : Output) (xs ys zs : List Token) → a ≡ puts o xs → b ≡ puts a ys → c ≡ puts b zs → c ≡ puts o (xs ++ (ys ++ zs))
+three_pushed o a b c xs ys zs ea eb ec = simp (ec, eb, ea, puts-puts, append_assoc)
+
+pub nothing_pushed : (o : Output) → o ≡ puts o []
+unfolding puts put
+nothing_pushed o = refl
+
+-- what stands in brackets or parentheses
+pub enclosed : (o a b c : Output) (x y : Token) (xs : List Token) → a ≡ puts o (x ∷ []) → b ≡ puts a xs → c ≡ puts b (y ∷ []) → c ≡ puts o (x ∷ (xs ++ y ∷ []))
+enclosed o a b c x y xs ea eb ec = simp (ec, eb, ea, puts-puts)
+
+pub least_pushed : (o a b c d : Output) (x y z w : Token) → a ≡ puts o (x ∷ []) → b ≡ puts a (y ∷ []) → c ≡ puts b (z ∷ []) → d ≡ puts c (w ∷ []) → d ≡ puts o (x ∷ y ∷ z ∷ w ∷ [])
+least_pushed o a b c d x y z w ea eb ec ed = simp (ed, ec, eb, ea, puts-puts)
+
+pub binary : (o a b c d e : Output) (op : Token) (xs ys : List Token) →
+    a ≡ puts o (codes "(" ∷ []) → b ≡ puts a xs → c ≡ puts b (op ∷ []) → d ≡ puts c ys → e ≡ puts d (codes ")" ∷ []) →
+    e ≡ puts o (in_parentheses (xs ++ op ∷ ys))
+binary o a b c d e op xs ys ea eb ec ed ee = simp (ee, ed, ec, eb, ea, puts-puts, append_assoc)
+
+pub end_pushed : (o a b : Output) (token : Token) → a ≡ put o token → b ≡ put a (10 ∷ []) → b ≡ put o (token ++ 10 ∷ [])
+end_pushed o a b token ea eb = simp (eb, ea, put-put)
+
+pub indented_more : (o a : Output) (depth i j : ℕ) → j ≡ suc i → i < depth → a ≡ put o (32 ∷ 32 ∷ []) → put a (replicate (2 * (depth - j)) 32) ≡ put o (replicate (2 * (depth - i)) 32)
+indented_more o a depth i j e h ea = ap (λ x. put x (replicate (2 * (depth - j)) 32)) ea ∙ put-put o (32 ∷ 32 ∷ []) (replicate (2 * (depth - j)) 32) ∙ ap (λ k. put o (replicate k 32)) same
+  where
+    same : suc (suc (2 * (depth - j))) ≡ 2 * (depth - i)
+    same = omega (arith, e, h)
+
+pub indented_end : (o x : Output) (depth i : ℕ) → depth ≤ i → put o (replicate (2 * (depth - i)) 32) ≡ x → o ≡ x
+unfolding put
+indented_end o x depth i h e = ap (λ k. put o (replicate k 32)) none ∙ e
+  where
+    none : 0 ≡ 2 * (depth - i)
+    none = omega (arith, h)
+
+pub indent_known : (n k : ℕ) → n < 2 ^ 32 → k ≡ n * 2 → k ≡ capped (length (replicate {A = ℕ} (2 * n) 32))
+indent_known n k h e = omega (arith, h, e, length-replicate {A = ℕ} (2 * n) 32)

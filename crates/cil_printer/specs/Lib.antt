@@ -1,0 +1,9 @@
+pub mod Spaced
+pub mod Output
+pub mod Sides
+pub mod Seen
+pub mod Signs
+pub mod Typed
+pub mod Plain
+pub mod Parts
+pub mod Stops
