@@ -1,0 +1,10 @@
+pub mod Looking
+pub mod UnitRelations
+pub mod DeclarationLaws
+pub mod StatementHeads
+pub mod ControlLaws
+pub mod BlockLaws
+pub mod StatementLaws
+pub mod ExternalLaws
+pub mod UnitLaws
+mod UnitRows

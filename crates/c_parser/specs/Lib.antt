@@ -1,0 +1,9 @@
+pub mod Externals
+pub mod StatementWords
+pub mod Parts
+pub mod DeclarationReading
+pub mod StatementReading
+pub mod ExternalReading
+pub mod UnitReading
+pub mod UnitForms
+pub mod UnitAnswers
