@@ -33,5 +33,5 @@ bench-types:
 	bench/types.sh
 
 bench-memory:
-	cd crates/memory_bench && rt run >/dev/null
+	cd crates/memory_bench && rt run -- small 0 >/dev/null
 	bench/memory.sh
