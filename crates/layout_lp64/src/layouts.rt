@@ -376,6 +376,16 @@ impl Layouts {
         }
     }
 
+    /// The size of a type in bytes, if it is a complete object type (C11 6.5.3.4). The cost is the same for each type.
+    pub fn known_size(&self, t: TypeId) -> Option<u32>
+        ensures { result ≡ option_map (λ (l : Layout). l.size) (found self.now t.0) }
+    {
+        match self.found(t) {
+            Some(l) => Some(l.size),
+            None => None,
+        }
+    }
+
     /// The alignment of a complete object type in bytes (C11 6.2.8).
     pub fn align(&self, t: TypeId) -> u32
         requires { IsSome (found self.now t.0) }
