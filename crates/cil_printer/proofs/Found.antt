@@ -56,27 +56,9 @@ no_type nodes t h = ap (λ b. cond b (Some (shape nodes t.0)) None) (above t.0 (
 pub type_below : (nodes : List Node) (t : TypeId) (k : ℕ) → t.0 < k → k < length nodes → seen nodes (Some t) ≡ Some (shape nodes t.0)
 type_below nodes t k h i = type_there nodes t (omega (arith, h, i))
 
-pub no_size : (g : Graph) (t : ℕ) → IsArena g → complete g t ≡ false → layout g t ≡ None
-no_size g t is e = by (layout g t) (layout_there g is t ∙ e)
-  where
-    by : (o : Option Layout) → is_some o ≡ false → o ≡ None
-    by None e = refl
-    by (Some l) e = cc
-
-pub size_there : (l : Layouts) (g : Graph) (t n : ℕ) → IsArena g → InStep l g → complete g t ≡ true → IfSome (found l t) (λ x. n ≡ x.size) → option_map (λ (x : Layout). x.size) (layout g t) ≡ Some n
-size_there l g t n is step e h = by (layout g t) (found l t) (layout_there g is t ∙ e) (step.sizes t) h
-  where
-    by : (o p : Option Layout) → is_some o ≡ true → p ≡ o → IfSome p (λ x. n ≡ x.size) → option_map (λ (x : Layout). x.size) o ≡ Some n
-    by None p e q h = cc
-    by (Some x) None e q h = cc
-    by (Some x) (Some y) e q h = let same : y ≡ x = cc in ap Some (sym (h ∙ ap (λ (z : Layout). z.size) same))
-
-pub size_known : (l : Layouts) (g : Graph) (t : ℕ) → IsArena g → InStep l g → complete g t ≡ true → IsSome (found l t)
-size_known l g t is step e = by (found l t) (ap is_some (step.sizes t) ∙ layout_there g is t ∙ e)
-  where
-    by : (o : Option Layout) → is_some o ≡ true → IsSome o
-    by None e = cc
-    by (Some x) e = search rules
+-- the layouts have the size of each type that is complete, and of no other
+pub size_there : (l : Layouts) (g : Graph) (t : ℕ) → InStep l g → option_map (λ (x : Layout). x.size) (found l t) ≡ option_map (λ (x : Layout). x.size) (layout g t)
+size_there l g t step = ap (option_map (λ (x : Layout). x.size)) (step.sizes t)
 
 pub member_found : (g : Graph) (t n : ℕ) (a : AggId) (node : Node) (x : Aggregate) (o : Option Member) → shape g.nodes t ≡ shape_of (shape g.nodes) node → node ≡ Agg a → slice_get g.aggs a.0 ≡ Some x → o ≡ member_of g x n → o ≡ member_at g (shape g.nodes t) n
 member_found g t n a node x o s is e h = h ∙ sym (ap (λ u. member_at g u n) (s ∙ ap (shape_of (shape g.nodes)) is) ∙ ap (option_and_then (λ (y : Aggregate). member_of g y n)) e)

@@ -82,7 +82,7 @@ pub(crate) fn all_sides(
     requires { InStep layouts.now unit.now.graph }
     ensures { IfOk result (λ v. AreSides v.items (program_of names.now unit.now)) }
 {
-    let mut sides = Vec::new(unit.graph.alloc());
+    let mut sides = Vec::with_capacity(unit.graph.alloc(), unit.graph.len() as usize)?;
     for t in 0..unit.graph.len() {
         let next = next_sides(unit, names, layouts, &sides, TypeId(t))?;
         sides.push(next)?;

@@ -157,17 +157,12 @@ impl<'a> Program<'a> {
     }
 
     /// The size in bytes of a type of the program, if it is complete.
-    #[tactic(auto, using(crate::proofs::Found::size_there, crate::proofs::Found::no_size, crate::proofs::Found::size_known))]
+    #[tactic(auto, using(crate::proofs::Found::size_there))]
     fn size_of(&self, t: TypeId) -> Option<u32>
         requires { t.0 < length (tree_of self.now).graph.nodes }
         ensures { result ≡ option_map (λ (l : Layout). l.size) (layout (tree_of self.now).graph t.0) }
     {
-        let _types = self.graph().len();
-        if self.graph().is_complete(t) {
-            Some(self.layouts.size(t))
-        } else {
-            None
-        }
+        self.layouts.known_size(t)
     }
 }
 
