@@ -1,11 +1,12 @@
 -- Device: the table of what types have within them.
-use Rattle.std.proofs.Common.{◌≡◌, ℕ, zero, suc, ◌<◌, ◌≤◌, max, true, ◌&&◌, Option, Some, None, nat_lt, nat_le, List, [], ◌∷◌, ◌++◌, length, drop, get_or, slice_get, sym, ap, ◌∙◌, subst, arith, ◌⊎◌, inl, inr, length-append}
+use Rattle.std.proofs.Common.{◌≡◌, ℕ, zero, suc, ◌<◌, ◌≤◌, max, true, ◌&&◌, Option, Some, None, is_some, refl, nat_lt, nat_le, List, [], ◌∷◌, ◌++◌, length, drop, get_or, slice_get, sym, ap, ◌∙◌, subst, arith, ◌⊎◌, inl, inr, length-append}
 use Rattle.std.proofs.lemmas.Option.{slice_get-get_or}
 use Rattle.cil_base.specs.declared.numbers.TypeId.{TypeId}
 use Rattle.type_graph.specs.declared.aggregates.Member.{Member}
 use Rattle.type_graph.specs.declared.nodes.Node.{Node}
+use Rattle.type_graph.specs.declared.nodes.Quals.{Quals}
 use Rattle.type_graph.specs.Shapes.{Shape, Shapes, VoidType, IntType, PtrType, ArrayType, FuncType, AggType, NoTypes, MoreTypes, shape, shape_of, shapes_of}
-use Rattle.type_graph.specs.Arena.{Graph, held}
+use Rattle.type_graph.specs.Arena.{Graph, held, complete_shape}
 use Rattle.cil_tree.specs.WellFormedTypes.{holds_below, elements_below, all_elements_below}
 use Rattle.layout_lp64.proofs.TableLaws.{push_get}
 use Rattle.cil_check.specs.declared.elements.Tops.{Tops}
@@ -52,17 +53,22 @@ both_after g a m x y h e =
     ∙ sym (most (held_top (shape g.nodes m.ty.of.0)) (element_top (shape g.nodes m.ty.of.0)) a) ∙ ap (λ k. nat_le (max k (element_top (shape g.nodes m.ty.of.0))) a) (sym h) ∙ ap (λ k. nat_le (max x k) a) (sym e)
 
 -- both bounds of a member at once
-pub after_is : (g : Graph) (a : ℕ) (m : Member) (top : Tops) → IsTop top (shape g.nodes m.ty.of.0) → member_is_after g a m ≡ nat_le (max top.held top.elements) a
+pub after_is : (g : Graph) (a : ℕ) (m : Member) (top : Tops) → IsTop g top (shape g.nodes m.ty.of.0) → member_is_after g a m ≡ nat_le (max top.held top.elements) a
 after_is g a m top is = both_after g a m top.held top.elements is.held is.elements
 
+-- an array is complete where its bound is known and its element is complete
+pub array_is : (g : Graph) (of : Tops) (q : Quals) (s : Shape) (bound : Option ℕ) → IsTop g of s → is_some bound && of.complete ≡ complete_shape g.aggs (ArrayType q s bound)
+array_is g of q s None is = refl
+array_is g of q s (Some n) is = is.complete
+
 -- an entry of the table is that of its type
-pub entry_is : (tops : List Tops) (g : Graph) (t : ℕ) (x : Tops) → AreTops tops g → t < length tops → x ≡ get_or tops t x → IsTop x (shape g.nodes t)
+pub entry_is : (tops : List Tops) (g : Graph) (t : ℕ) (x : Tops) → AreTops tops g → t < length tops → x ≡ get_or tops t x → IsTop g x (shape g.nodes t)
 entry_is tops g t x table h e = table.each t x (slice_get-get_or tops t x h ∙ ap Some (sym e))
 
 -- a table with the entry of the next type
-pub tops_pushed : (tops : List Tops) (g : Graph) (t : ℕ) (x : Tops) (n : Node) → AreTops tops g → length tops ≡ t → t < length g.nodes → shape g.nodes t ≡ shape_of (shape g.nodes) n → IsTop x (shape_of (shape g.nodes) n) → AreTops (tops ++ x ∷ []) g
+pub tops_pushed : (tops : List Tops) (g : Graph) (t : ℕ) (x : Tops) (n : Node) → AreTops tops g → length tops ≡ t → t < length g.nodes → shape g.nodes t ≡ shape_of (shape g.nodes) n → IsTop g x (shape_of (shape g.nodes) n) → AreTops (tops ++ x ∷ []) g
 tops_pushed tops g t x n table count h same is = record { few = omega (arith, length-append tops (x ∷ []), count); each = λ u y e. one u y (push_get tops x u y e) }
   where
-    one : (u : ℕ) (y : Tops) → (slice_get tops u ≡ Some y) ⊎ ((u ≡ length tops) × (x ≡ y)) → IsTop y (shape g.nodes u)
+    one : (u : ℕ) (y : Tops) → (slice_get tops u ≡ Some y) ⊎ ((u ≡ length tops) × (x ≡ y)) → IsTop g y (shape g.nodes u)
     one u y (inl e) = table.each u y e
-    one u y (inr e) = subst (λ (z : Tops). IsTop z (shape g.nodes u)) e.1 (subst (λ (s : Shape). IsTop x s) (sym same ∙ ap (shape g.nodes) (sym (e.0 ∙ count))) is)
+    one u y (inr e) = subst (λ (z : Tops). IsTop g z (shape g.nodes u)) e.1 (subst (λ (s : Shape). IsTop g x s) (sym same ∙ ap (shape g.nodes) (sym (e.0 ∙ count))) is)

@@ -1,5 +1,5 @@
 -- Device: steps of paths, and what is known of sizes and offsets on them.
-use Rattle.std.proofs.Common.{◌≡◌, ℕ, zero, suc, ◌+◌, ◌*◌, ◌^◌, ◌<◌, ◌≤◌, Bool, true, false, ◌||◌, not, nat_lt, Option, Some, None, is_some, IsSome, List, [], ◌∷◌, length, drop, map, get_or, slice_get, refl, sym, ap, ◌∙◌, arith, if◌then◌else◌}
+use Rattle.std.proofs.Common.{◌≡◌, ℕ, zero, suc, ◌+◌, ◌*◌, ◌^◌, ◌<◌, ◌≤◌, Bool, true, false, ◌||◌, not, nat_lt, Option, Some, None, is_some, IsSome, List, [], ◌∷◌, length, drop, map, get_or, slice_get, refl, sym, ap, ◌∙◌, subst, arith, if◌then◌else◌}
 use Rattle.std.specs.Option.{option_map, option_and_then}
 use Rattle.std.proofs.Math.Nat.{mul-le-mul_right}
 use Rattle.cil_base.specs.declared.numbers.AggId.{AggId}
@@ -9,9 +9,8 @@ use Rattle.type_graph.specs.declared.layout.Layout.{Layout}
 use Rattle.type_graph.specs.declared.nodes.Node.TheVariants.{Agg}
 use Rattle.type_graph.specs.declared.nodes.Quals.{Quals}
 use Rattle.type_graph.specs.Shapes.{Shape, ArrayType, AggType, shape}
-use Rattle.type_graph.specs.Arena.{Graph, IsArena, complete, members_of}
+use Rattle.type_graph.specs.Arena.{Graph, IsArena, members_of}
 use Rattle.type_graph.specs.Layouts.{layout, layout_in, agg_layout, whole_of, array_of}
-use Rattle.type_graph.proofs.LayoutLaws.{layout_there}
 use Rattle.type_graph.proofs.OffsetLaws.{offset_there}
 use Rattle.layout_lp64.specs.declared.layouts.Layouts.{Layouts}
 use Rattle.layout_lp64.specs.Tables.{InStep, found, found_offset}
@@ -56,27 +55,40 @@ offset_known g l t a i s arena step node typed = by (slice_get g.aggs a.0) refl 
         let known : members_of g.aggs a.0 ≡ Some f.0 = ap (option_and_then (λ (y : Aggregate). y.members)) e ∙ f.1 in
         some_is (found_offset l a.0 i) (ap is_some (step.offsets t a node i) ∙ offset_there g arena a.0 f.0 i known f.2)
 
--- the size of a complete type is known
-pub size_known : (g : Graph) (l : Layouts) (t : ℕ) → IsArena g → InStep l g → complete g t ≡ true → IsSome (found l t)
-size_known g l t arena step e = some_is (found l t) (ap is_some (step.sizes t) ∙ layout_there g arena t ∙ e)
-
 -- an element of an array begins within what an object may have
-pub element_low : (g : Graph) (l : Layouts) (t e : ℕ) (q : Quals) (n i : ℕ) (x : Layout) → InStep l g → shape g.nodes t ≡ ArrayType q (shape g.nodes e) (Some n) → found l e ≡ Some x → i < n → i * x.size < 2 ^ 31
-element_low g l t e q n i x step is f h =
-    let size : layout g e ≡ Some x = sym (step.sizes e) ∙ f in
-    let whole : layout g t ≡ Some (array_of n x) = ap (layout_in g.abi (λ b. whole_of (agg_layout g b))) is ∙ ap (option_map (array_of n)) size in
-    let fits : n * x.size ≤ 2147483647 = step.fit.each t (array_of n x) whole in
-    let less : i * x.size ≤ n * x.size = mul-le-mul_right x.size (omega arith) in
-    omega (arith, fits, less)
-
--- an element of a type that is not complete has no place
-pub element_none : (g : Graph) (t e : ℕ) (q : Quals) (n i at : ℕ) → IsArena g → shape g.nodes t ≡ ArrayType q (shape g.nodes e) (Some n) → complete g e ≡ false → None ≡ element_part g i (shape g.nodes t, at)
-element_none g t e q n i at arena is c =
-    sym (ap (λ (s : Shape). element_part g i (s, at)) is ∙ by (nat_lt i n) (layout g e) (layout_there g arena e ∙ c))
+pub element_low : (g : Graph) (l : Layouts) (t e : ℕ) (q : Quals) (n i size : ℕ) → InStep l g → shape g.nodes t ≡ ArrayType q (shape g.nodes e) (Some n) → Some size ≡ option_map (λ (x : Layout). x.size) (found l e) → i < n → i * size < 2 ^ 31
+element_low g l t e q n i size step is known h = by (found l e) refl known
   where
-    by : (b : Bool) (o : Option Layout) → is_some o ≡ false → (if b then option_map {U = Part} (λ (l : Layout). (shape g.nodes e, at + i * l.size)) o else None) ≡ None
+    within : (x : Layout) → found l e ≡ Some x → i * x.size < 2 ^ 31
+    within x f =
+        let whole : layout g t ≡ Some (array_of n x) = ap (layout_in g.abi (λ b. whole_of (agg_layout g b))) is ∙ ap (option_map (array_of n)) (sym (step.sizes e) ∙ f) in
+        let fits : n * x.size ≤ 2147483647 = step.fit.each t (array_of n x) whole in
+        let less : i * x.size ≤ n * x.size = mul-le-mul_right x.size (omega arith) in
+        omega (arith, fits, less)
+
+    by : (o : Option Layout) → found l e ≡ o → Some size ≡ option_map (λ (x : Layout). x.size) o → i * size < 2 ^ 31
+    by None f k = cc
+    by (Some x) f k = let same : x.size ≡ size = cc in subst (λ m. i * m < 2 ^ 31) same (within x f)
+
+-- an element of a type with a known size has its place
+pub element_there : (g : Graph) (l : Layouts) (t e : ℕ) (q : Quals) (n i at size : ℕ) → InStep l g → shape g.nodes t ≡ ArrayType q (shape g.nodes e) (Some n) → Some size ≡ option_map (λ (x : Layout). x.size) (found l e) → i < n →
+    Some (shape g.nodes e, at + i * size) ≡ element_part g i (shape g.nodes t, at)
+element_there g l t e q n i at size step is known h =
+    sym (ap (λ (s : Shape). element_part g i (s, at)) is ∙ by (nat_lt i n) (grind arith) (layout g e) (known ∙ ap (option_map (λ (x : Layout). x.size)) (step.sizes e)))
+  where
+    by : (b : Bool) → b ≡ true → (o : Option Layout) → Some size ≡ option_map (λ (x : Layout). x.size) o → (if b then option_map {U = Part} (λ (x : Layout). (shape g.nodes e, at + i * x.size)) o else None) ≡ Some (shape g.nodes e, at + i * size)
+    by false f o k = cc
+    by true f None k = cc
+    by true f (Some x) k = let same : x.size ≡ size = cc in ap (λ m. Some (shape g.nodes e, at + i * m)) same
+
+-- an element of a type without a known size has no place
+pub element_none : (g : Graph) (l : Layouts) (t e : ℕ) (q : Quals) (n i at : ℕ) → InStep l g → shape g.nodes t ≡ ArrayType q (shape g.nodes e) (Some n) → None ≡ option_map (λ (x : Layout). x.size) (found l e) → None ≡ element_part g i (shape g.nodes t, at)
+element_none g l t e q n i at step is known =
+    sym (ap (λ (s : Shape). element_part g i (s, at)) is ∙ by (nat_lt i n) (layout g e) (known ∙ ap (option_map (λ (x : Layout). x.size)) (step.sizes e)))
+  where
+    by : (b : Bool) (o : Option Layout) → None ≡ option_map (λ (x : Layout). x.size) o → (if b then option_map {U = Part} (λ (x : Layout). (shape g.nodes e, at + i * x.size)) o else None) ≡ None
     by true None h = refl
-    by true (Some l) h = cc
+    by true (Some x) h = cc
     by false o h = refl
 
 -- the part that the steps from one on lead to

@@ -4,7 +4,7 @@ use Rattle.type_graph.specs.declared.aggregates.Aggregate.{Aggregate}
 use Rattle.type_graph.specs.declared.aggregates.Member.{Member}
 use Rattle.type_graph.specs.declared.nodes.Node.{Node}
 use Rattle.type_graph.specs.Shapes.{Shape, Shapes, VoidType, IntType, PtrType, ArrayType, FuncType, AggType, NoTypes, MoreTypes, shape}
-use Rattle.type_graph.specs.Arena.{Graph, held, complete, flexible_shape, members_fit}
+use Rattle.type_graph.specs.Arena.{Graph, held, complete, complete_shape, flexible_shape, members_fit}
 use Rattle.type_graph.specs.declared.aggregates.AggKind.{AggKind}
 use Rattle.std.specs.List.{list_all}
 use Rattle.cil_tree.specs.Typing.{is_enum}
@@ -49,15 +49,16 @@ is_empty (m ∷ ms) = false
 abbrev pub stands_here : Graph → Bool → Bool → List Member → ℕ → Bool
 stands_here g in_struct behind rest t = complete g t || (in_struct && (behind && (is_empty rest && flexible_shape g.aggs (shape g.nodes t))))
 
--- the entry of a type in the table: what it has within itself, and its greatest element of an array
-pub record IsTop (x : Tops) (s : Shape) : Type 0 where
+-- the entry of a type in the table: what it has within itself, its greatest element of an array, and whether it is complete
+pub record IsTop (g : Graph) (x : Tops) (s : Shape) : Type 0 where
   pub held : x.held ≡ held_top s
   pub elements : x.elements ≡ element_top s
+  pub complete : x.complete ≡ complete_shape g.aggs s
 
 -- the table has the entries of the first types
 pub record AreTops (tops : List Tops) (g : Graph) : Type 0 where
   pub few : length tops ≤ length g.nodes
-  pub each : (t : ℕ) (x : Tops) → slice_get tops t ≡ Some x → IsTop x (shape g.nodes t)
+  pub each : (t : ℕ) (x : Tops) → slice_get tops t ≡ Some x → IsTop g x (shape g.nodes t)
 
 -- a member holds by value, and has as elements of arrays, only aggregates below the number
 abbrev pub member_is_after : Graph → ℕ → Member → Bool

@@ -85,34 +85,48 @@ fn have_kind(g: &TypeGraph, enumerators: bool, members: &[Member]) -> bool
 }
 
 /// Whether the type is an array of unknown bound whose element is complete.
-fn is_flexible(g: &TypeGraph, t: TypeId) -> bool
-    requires { t.0 < length g.now.nodes }
+fn is_flexible(g: &TypeGraph, tops: &[Tops], t: TypeId) -> bool
+    requires table { AreTops tops.now g.now }
+    requires whole { length tops.now ≡ length g.now.nodes }
+    requires there { t.0 < length g.now.nodes }
     ensures { result ≡ flexible_shape g.now.aggs (shape g.now.nodes t.0) }
 {
     match g.node(t) {
-        Node::Array(q, None) => g.is_complete(q.of),
+        Node::Array(q, None) => entry(g, tops, q.of).complete,
         Node::Void | Node::Int(_) | Node::Ptr(_) | Node::Func { .. } | Node::Agg(_) => false,
         Node::Array(_, Some(_)) => false,
     }
 }
 
 /// Whether a member is complete, or a flexible array that may stand where it does: last in a struct behind another.
-fn may_stand(g: &TypeGraph, kind: AggKind, behind: bool, rest: &[Member], t: TypeId) -> bool
-    requires { t.0 < length g.now.nodes }
+fn may_stand(
+    g: &TypeGraph,
+    tops: &[Tops],
+    kind: AggKind,
+    behind: bool,
+    rest: &[Member],
+    t: TypeId,
+) -> bool
+    requires table { AreTops tops.now g.now }
+    requires whole { length tops.now ≡ length g.now.nodes }
+    requires there { t.0 < length g.now.nodes }
     ensures { result ≡ stands_here g.now (is_struct kind) behind rest.now t.0 }
 {
-    g.is_complete(t) || (is_struct(kind) && behind && rest.is_empty() && is_flexible(g, t))
+    entry(g, tops, t).complete
+        || (is_struct(kind) && behind && rest.is_empty() && is_flexible(g, tops, t))
 }
 
 /// Whether a flexible array stands only as a struct's last member behind another (C11 6.7.2.1p3, p18).
 #[tactic(auto, using(crate::proofs::TypeSteps::fit_from, crate::proofs::TypeSteps::member_there))]
-fn flexible_is_last(g: &TypeGraph, kind: AggKind, members: &[Member]) -> bool
-    requires { AreThere (length g.now.nodes) members.now }
+fn flexible_is_last(g: &TypeGraph, tops: &[Tops], kind: AggKind, members: &[Member]) -> bool
+    requires table { AreTops tops.now g.now }
+    requires whole { length tops.now ≡ length g.now.nodes }
+    requires there { AreThere (length g.now.nodes) members.now }
     ensures { result ≡ members_fit g.now kind false members.now }
 {
     let mut behind = false;
     for i in 0..members.len() {
-        if !may_stand(g, kind, behind, &members[i + 1..], members[i].ty.of) {
+        if !may_stand(g, tops, kind, behind, &members[i + 1..], members[i].ty.of) {
             return false;
         }
         behind = true;
@@ -164,7 +178,7 @@ fn members_keep_rules(
     are_unqualified(members)
         && have_kind(g, is_enum(kind), members)
         && is_nonempty(members)
-        && flexible_is_last(g, kind, members)
+        && flexible_is_last(g, tops, kind, members)
         && stands_after(g, tops, a, members)
 }
 

@@ -1,13 +1,14 @@
 ghost use Rattle.std.specs.Prelude.{◌≡◌, ◌<◌, length, max, IfOk};
-ghost use Rattle.type_graph.specs.Shapes.{shape, shape_of, shapes_of};
-ghost use Rattle.type_graph.specs.Arena.{EachType, NamesBelow};
+ghost use Rattle.type_graph.specs.declared.nodes.Quals.{Quals};
+ghost use Rattle.type_graph.specs.Shapes.{Shape, ArrayType, shape, shape_of, shapes_of};
+ghost use Rattle.type_graph.specs.Arena.{Graph, EachType, NamesBelow};
 ghost use Rattle.cil_check.specs.Rules.{elements_top, IsTop, AreTops};
 
 use cil_base::{Memory, TypeId};
 use std::alloc::Global;
 use type_graph::{Node, TypeGraph};
 
-/// Which aggregates are within a type.
+/// What a type has within itself: which aggregates, and whether its size is known.
 #[derive(Clone, Copy, Debug, PartialEq, Eq)]
 pub(crate) struct Tops {
     /// One more than the number of the aggregate that the type has within itself, its own or that of its elements;
@@ -16,6 +17,8 @@ pub(crate) struct Tops {
     /// One more than the greatest number of an aggregate that is an element of an array anywhere in the type; 0 where
     /// there is none.
     pub(crate) elements: u64,
+    /// Whether the type is a complete object type (C11 6.2.5p1).
+    pub(crate) complete: bool,
 }
 
 impl Tops {
@@ -32,7 +35,7 @@ impl Tops {
 pub(crate) fn entry(g: &TypeGraph, tops: &[Tops], t: TypeId) -> Tops
     requires table { AreTops tops.now g.now }
     requires there { t.0 < length tops.now }
-    ensures { IsTop result (shape g.now.nodes t.0) }
+    ensures { IsTop g.now result (shape g.now.nodes t.0) }
 {
     tops[t.0 as usize]
 }
@@ -51,37 +54,53 @@ fn parameters_top(g: &TypeGraph, tops: &[Tops], params: &[TypeId]) -> u64
     top
 }
 
+/// The entry of an array of elements with this entry. It is complete where its bound is known and its element is
+/// complete (C11 6.2.5p22).
+#[tactic(auto, using(crate::proofs::ElementTable::array_is))]
+fn array_top(of: Tops, bound: &Option<u64>) -> Tops
+    ensures { (g : Graph) (q : Quals) (s : Shape) → IsTop g of s → IsTop g result (ArrayType q s bound.now) }
+{
+    Tops {
+        held: of.held,
+        elements: of.greatest(),
+        complete: bound.is_some() && of.complete,
+    }
+}
+
 /// The entry of a type that names types with entries.
 fn top_of(g: &TypeGraph, tops: &[Tops], n: &Node) -> Tops
     requires table { AreTops tops.now g.now }
     requires there { NamesBelow (length tops.now) (length g.now.aggs) n.now }
-    ensures { IsTop result (shape_of (shape g.now.nodes) n.now) }
+    ensures { IsTop g.now result (shape_of (shape g.now.nodes) n.now) }
 {
     match n {
-        Node::Void | Node::Int(_) => Tops {
+        Node::Void => Tops {
             held: 0,
             elements: 0,
+            complete: false,
+        },
+        Node::Int(_) => Tops {
+            held: 0,
+            elements: 0,
+            complete: true,
         },
         Node::Ptr(q) => Tops {
             held: 0,
             elements: entry(g, tops, q.of).elements,
+            complete: true,
         },
-        Node::Array(q, _) => {
-            let of = entry(g, tops, q.of);
-            Tops {
-                held: of.held,
-                elements: of.greatest(),
-            }
-        }
+        Node::Array(q, bound) => array_top(entry(g, tops, q.of), bound),
         Node::Func { ret, params, .. } => Tops {
             held: 0,
             elements: entry(g, tops, *ret)
                 .elements
                 .max(parameters_top(g, tops, params.as_slice())),
+            complete: false,
         },
         Node::Agg(a) => Tops {
             held: a.0 as u64 + 1,
             elements: 0,
+            complete: g.agg(*a).members.is_some(),
         },
     }
 }

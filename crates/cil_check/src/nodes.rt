@@ -2,8 +2,9 @@ ghost use Rattle.std.specs.Prelude.{◌≡◌, ◌<◌, ◌&&◌, ◌||◌, not,
 ghost use Rattle.type_graph.specs.Shapes.{shape, shapes_of, shape_of};
 ghost use Rattle.type_graph.specs.Arena.{EachType, NamesBelow};
 ghost use Rattle.cil_tree.specs.WellFormedTypes.{is_unqualified, node_is_unqualified, bound_fits, array_fits, is_result, is_parameter, are_parameters, function_fits, prototype_fits, has_parameter};
-ghost use Rattle.cil_check.specs.Rules.{node_rules, node_fits_at};
+ghost use Rattle.cil_check.specs.Rules.{AreTops, node_rules, node_fits_at};
 
+use crate::elements::{Tops, entry};
 use cil_base::TypeId;
 use type_graph::{Node, Quals, TypeGraph};
 
@@ -79,12 +80,14 @@ fn prototype_fits(has_parameter: bool, proto: bool, variadic: bool) -> bool
 }
 
 /// Whether an array's element is a complete object type, and its bound at least 1 (C11 6.7.6.2p1).
-fn array_fits(g: &TypeGraph, n: &Node) -> bool
-    requires { NamesBelow (length g.now.nodes) (length g.now.aggs) n.now }
+fn array_fits(g: &TypeGraph, tops: &[Tops], n: &Node) -> bool
+    requires table { AreTops tops.now g.now }
+    requires whole { length tops.now ≡ length g.now.nodes }
+    requires there { NamesBelow (length g.now.nodes) (length g.now.aggs) n.now }
     ensures { result ≡ array_fits g.now n.now }
 {
     match n {
-        Node::Array(q, bound) => g.is_complete(q.of) && bound_fits(bound),
+        Node::Array(q, bound) => entry(g, tops, q.of).complete && bound_fits(bound),
         Node::Void | Node::Int(_) | Node::Ptr(_) | Node::Func { .. } | Node::Agg(_) => true,
     }
 }
@@ -118,29 +121,35 @@ fn has_prototype(g: &TypeGraph, n: &Node) -> bool
 }
 
 /// Whether a type that names types of the graph keeps the rules of types.
-fn keeps_rules(g: &TypeGraph, n: &Node) -> bool
-    requires { NamesBelow (length g.now.nodes) (length g.now.aggs) n.now }
+fn keeps_rules(g: &TypeGraph, tops: &[Tops], n: &Node) -> bool
+    requires table { AreTops tops.now g.now }
+    requires whole { length tops.now ≡ length g.now.nodes }
+    requires there { NamesBelow (length g.now.nodes) (length g.now.aggs) n.now }
     ensures { result ≡ node_rules g.now n.now (shape_of (shape g.now.nodes) n.now) }
 {
-    node_is_unqualified(n) && array_fits(g, n) && function_fits(g, n) && has_prototype(g, n)
+    node_is_unqualified(n) && array_fits(g, tops, n) && function_fits(g, n) && has_prototype(g, n)
 }
 
 /// Whether a type of the graph keeps the rules of types.
 #[tactic(auto, using(crate::proofs::TypeSteps::names_there, crate::proofs::TypeSteps::node_fits_is))]
-fn node_fits(g: &TypeGraph, t: TypeId) -> bool
-    requires { t.0 < length g.now.nodes }
+fn node_fits(g: &TypeGraph, tops: &[Tops], t: TypeId) -> bool
+    requires table { AreTops tops.now g.now }
+    requires whole { length tops.now ≡ length g.now.nodes }
+    requires there { t.0 < length g.now.nodes }
     ensures { result ≡ node_fits_at g.now t.0 }
 {
-    keeps_rules(g, g.node(t))
+    keeps_rules(g, tops, g.node(t))
 }
 
 /// Whether all types keep the rules of types.
-pub(crate) fn nodes_fit(g: &TypeGraph) -> bool
+pub(crate) fn nodes_fit(g: &TypeGraph, tops: &[Tops]) -> bool
+    requires table { AreTops tops.now g.now }
+    requires whole { length tops.now ≡ length g.now.nodes }
     ensures fit { IsTrue result → (t : ℕ) → t < length g.now.nodes → node_fits_at g.now t ≡ true }
     ensures unfit { result ≡ false → (t : ℕ) × (t < length g.now.nodes) × (node_fits_at g.now t ≡ false) }
 {
     for t in 0..g.len() {
-        if !node_fits(g, TypeId(t)) {
+        if !node_fits(g, tops, TypeId(t)) {
             return false;
         }
     }

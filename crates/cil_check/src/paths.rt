@@ -51,7 +51,7 @@ fn scaled(index: u64, size: u32) -> u128
 }
 
 /// An element of an array, whose index is below the array's known bound.
-#[tactic(auto, using(crate::proofs::PathLaws::size_known, crate::proofs::PathLaws::element_low, crate::proofs::PathLaws::element_none))]
+#[tactic(auto, using(crate::proofs::PathLaws::element_low, crate::proofs::PathLaws::element_there, crate::proofs::PathLaws::element_none))]
 fn element_part(g: &TypeGraph, l: &Layouts, whole: Place, index: u64) -> Option<Place>
     requires step { InStep l.now g.now }
     requires there { whole.ty.0 < length g.now.nodes }
@@ -66,10 +66,7 @@ fn element_part(g: &TypeGraph, l: &Layouts, whole: Place, index: u64) -> Option<
             if index >= *bound {
                 return None;
             }
-            if !g.is_complete(q.of) {
-                return None;
-            }
-            let size = l.size(q.of);
+            let size = l.known_size(q.of)?;
             Some(Place {
                 ty: q.of,
                 at: whole.at + scaled(index, size),

@@ -18,7 +18,7 @@ fn keep_rules(g: &TypeGraph, tops: &[Tops]) -> bool
     requires whole { length tops.now ≡ length g.now.nodes }
     ensures { (result ≡ true) ↔ KeepRules g.now }
 {
-    nodes_fit(g) && enums_first(g) && aggregates_fit(g, tops)
+    nodes_fit(g, tops) && enums_first(g) && aggregates_fit(g, tops)
 }
 
 /// The layouts, if no aggregate has too many bytes, also one that no type names.
