@@ -25,7 +25,7 @@ use Rattle.c_parser.specs.StatementWords.{token_ahead}
 use Rattle.c_parser.specs.Externals.{grammatical_external, file_scope, greatest_height}
 use Rattle.c_parser.specs.DeclarationReading.{declaration}
 use Rattle.c_parser.specs.StatementReading.{statement}
-use Rattle.c_parser.specs.UnitReading.{lower, external_of, more_externals, unit}
+use Rattle.c_parser.specs.UnitReading.{lower, external_of}
 use Rattle.c_parser.specs.UnitForms.{IsDeclaration, IsStatement, statement_goes, IsExternal, never_goes}
 use Rattle.c_parser.specs.UnitAnswers.{AreExternals, ReadsUnit, RefusesUnit, UnitAnswer, Read, Refused}
 use Rattle.c_parser.proofs.UnitRelations.{DeclarationIs, StatementIs, EndsStatement, ExternalIs, LawfulParts}
