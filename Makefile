@@ -2,7 +2,7 @@
 PREFIX = /usr/local
 PROGRAM = crates/cil/out/cil
 
-.PHONY: first test install check-docs bench bench-lex bench-types bench-memory program
+.PHONY: first test install check-docs bench bench-lex bench-parse bench-types bench-memory program
 
 # Proves the program and builds it.
 program:
@@ -28,6 +28,9 @@ bench: program
 
 bench-lex: program
 	bench/lex.sh $(PROGRAM)
+
+bench-parse: program
+	bench/parse.sh $(PROGRAM)
 
 bench-types:
 	bench/types.sh

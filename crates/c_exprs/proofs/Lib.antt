@@ -21,4 +21,13 @@ pub mod Public
 pub mod Standings
 pub mod SignLemmas
 pub mod NextLemmas
+pub mod Loops
+pub mod ListLoops
+pub mod Heights
+pub mod LeaveLemmas
+pub mod TailLemmas
+pub mod CallLemmas
+pub mod TreeLists
+pub mod TreeHeights
+pub mod SomeLemmas
 mod Rows

@@ -1,22 +1,22 @@
 -- Device: what each reading answers, in terms of grammatical trees; and that tokens are spelled by one tree of a form.
-use Rattle.std.proofs.Common.{◌≡◌, refl, sym, ap, ◌∙◌, ℕ, suc, ◌+◌, max, length, Bool, false, not, ◌&&◌, nat_le, List, [], ◌∷◌, ◌++◌, Option, None, Ok, Err, append-nil, arith}
+use Rattle.std.proofs.Common.{◌≡◌, refl, sym, ap, ◌∙◌, ℕ, suc, ◌+◌, max, length, Bool, true, false, not, ◌&&◌, ◌||◌, nat_le, List, [], ◌∷◌, ◌++◌, Option, None, Ok, Err, append-nil, arith}
 use Rattle.typedef_scopes.specs.Scopes.{Scope}
 use Rattle.c_tree.specs.declared.level.Level.{Level}
-use Rattle.c_tree.specs.Syntax.{ExprTree, SpecifierTrees, DeclaratorTree, InitTree}
+use Rattle.c_tree.specs.Syntax.{ExprTree, SpecifierTrees, DeclaratorTree, Declared, Absent, Grouped, Pointer, Array, Function, Unprototyped, InitTree}
 use Rattle.c_tree.specs.Spelling.{Lexeme, spell_specifiers}
 use Rattle.c_tree.specs.Height.{expr_height, specifiers_height, declarator_height, init_height}
-use Rattle.c_tree.specs.Levels.{is_within, is_type_name, has_specifier, declares, has_other_names, levelled, levelled_specifiers, levelled_declarator, levelled_init}
+use Rattle.c_tree.specs.Levels.{has_some, is_within, is_type_name, has_specifier, declares, has_names, has_other_names, is_underived, levelled, levelled_specifiers, levelled_declarator, levelled_init}
 use Rattle.c_tree.specs.Placed.{placed_expr, placed_specifiers, placed_declarator, placed_init}
 use Rattle.c_tree.specs.Scoped.{scoped_expr, scoped_type_name, scoped_specifiers, scoped_declarator, scoped_init}
 use Rattle.c_exprs.specs.declared.words.SpecifierForm.TheVariants.{Declaration as InDeclaration}
-use Rattle.c_exprs.specs.declared.words.DeclaratorForm.TheVariants.{Definition as InDefinition}
+use Rattle.c_exprs.specs.declared.words.DeclaratorForm.TheVariants.{Definition as InDefinition, Member as InMember}
 use Rattle.c_exprs.specs.Readers.{Input, input, Reader}
 use Rattle.c_exprs.specs.Subs.{In}
 use Rattle.c_exprs.specs.ExprReading.{type_name}
 use Rattle.c_exprs.specs.InitReading.{initialiser}
 use Rattle.c_exprs.specs.Reading.{below}
 use Rattle.c_exprs.specs.Answers.{Reads, Refuses}
-use Rattle.c_exprs.specs.Forms.{IsExpr, expr_goes, IsTypeName, type_name_goes, IsSpecifiers, specifiers_goes, IsDeclarator, declarator_goes, IsInit, init_goes}
+use Rattle.c_exprs.specs.Forms.{IsExpr, expr_goes, IsTypeName, type_name_goes, IsSpecifiers, specifiers_goes, IsDeclarator, declarator_goes, IsNamedDeclarator, named_declarator_goes, IsInit, init_goes}
 use Rattle.c_exprs.proofs.Laws.{Lawful, Any, said, same_value, not_both}
 use Rattle.c_exprs.proofs.Tokens.{both, le_true, true_le}
 use Rattle.c_exprs.proofs.Relations.{Below, ExprIs, TypeIs, SpecifiersIs, DeclaratorIs}
@@ -53,7 +53,7 @@ module _ {A : Type 0} {read : Reader A} {Is : A → ℕ → List Lexeme → Type
   pub one_tree : (a b : A) (n : ℕ) (text : List Lexeme) → Is a n text → Is b n text → a ≡ b
   one_tree a b n text i j = ap (λ x. x.0) (same_value (sym (front_again a n text i) ∙ front_again b n text j))
 
--- the five forms
+-- the six forms
 
 expr_to : (ds : List Scope) (level : Level) (h : ℕ) (x : In ExprTree) (n : ℕ) (t : List Lexeme) → IsExpr ds level h x n t → ExprIs (Below (suc h)) level ds x n t
 expr_to ds level h x n t i =
@@ -107,6 +107,44 @@ declarator_from ds h x n t i = record { grammatical = rw (i.of_form, i.levelled,
 
 pub declarator_reading : (ds : List Scope) (h : ℕ) → Reading ((below (suc h)).declarator InDefinition ds) (IsDeclarator ds h) declarator_goes
 declarator_reading ds h = said ((below_lawful (suc h)).declarator InDefinition ds) (declarator_to ds h) (declarator_from ds h)
+
+both_false : (a b : Bool) → (a || b) ≡ false → (a ≡ false) × (b ≡ false)
+both_false false b e = (refl, e)
+both_false true b e = let wrong : true ≡ false = e in cc
+
+neither : (a b c : Bool) → b ≡ false → c ≡ false → ((a && b) || c) ≡ false
+neither false b c e f = f
+neither true b c e f = rw (e, f) refl
+
+not_true : (a : Bool) → not a ≡ true → a ≡ false
+not_true false e = refl
+not_true true e = sym e
+
+-- what has no identifier list has none but of its own
+no_other_names : (d : DeclaratorTree) → has_names d ≡ false → has_other_names d ≡ false
+no_other_names (Declared at n) e = refl
+no_other_names (Absent at) e = refl
+no_other_names (Grouped at d) e = no_other_names d e
+no_other_names (Pointer at qs d) e = no_other_names d e
+no_other_names (Array at d b) e = no_other_names d e
+no_other_names (Function at d ps variadic) e = no_other_names d e
+no_other_names (Unprototyped at d names) e = let b = both_false (has_some names) (has_names d) e in neither (not (is_underived d)) (has_some names) (has_other_names d) b.0 (no_other_names d b.1)
+
+named_to : (ds : List Scope) (h : ℕ) (x : In DeclaratorTree) (n : ℕ) (t : List Lexeme) → IsNamedDeclarator ds h x n t → DeclaratorIs (Below (suc h)) InMember ds x n t
+named_to ds h x n t i =
+    let d = declarator_to ds h x n t i.is in
+    let named = both (declares x.0) (not (has_other_names x.0)) d.of_form in
+    record { of_form = rw (named.0, i.no_names) refl; levelled = d.levelled; placed = d.placed; scoped = d.scoped; low = d.low; after = d.after; spelled = d.spelled }
+
+named_from : (ds : List Scope) (h : ℕ) (x : In DeclaratorTree) (n : ℕ) (t : List Lexeme) → DeclaratorIs (Below (suc h)) InMember ds x n t → IsNamedDeclarator ds h x n t
+named_from ds h x n t i =
+    let named = both (declares x.0) (not (has_names x.0)) i.of_form in
+    let none : has_names x.0 ≡ false = not_true (has_names x.0) named.1 in
+    let whole : (declares x.0 && not (has_other_names x.0)) ≡ true = rw (named.0, no_other_names x.0 none) refl in
+    record { is = declarator_from ds h x n t (record { of_form = whole; levelled = i.levelled; placed = i.placed; scoped = i.scoped; low = i.low; after = i.after; spelled = i.spelled }); no_names = none }
+
+pub named_declarator_reading : (ds : List Scope) (h : ℕ) → Reading ((below (suc h)).declarator InMember ds) (IsNamedDeclarator ds h) named_declarator_goes
+named_declarator_reading ds h = said ((below_lawful (suc h)).declarator InMember ds) (named_to ds h) (named_from ds h)
 
 init_to : (ds : List Scope) (h : ℕ) (x : In InitTree) (n : ℕ) (t : List Lexeme) → IsInit ds h x n t → InitIs (Below (suc h)) ds x n t
 init_to ds h x n t i =

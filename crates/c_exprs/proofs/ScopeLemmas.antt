@@ -20,12 +20,12 @@ outer_declared n b (s ∷ t ∷ ss) =
     let d = declared_some n b t ss in
     outer_more s d.0 d.1 (declared n b (t ∷ ss)) d.2 ∙ ap (λ vs. s ∷ vs) (outer_declared n b (t ∷ ss))
 
-outer_declared_if : (n : Option NameId) (b : Bool) (ss : List Scope) → outer_of (declared_if n b ss) ≡ outer_of ss
+pub outer_declared_if : (n : Option NameId) (b : Bool) (ss : List Scope) → outer_of (declared_if n b ss) ≡ outer_of ss
 outer_declared_if None b ss = refl
 outer_declared_if (Some n) b ss = outer_declared n b ss
 
 mutual
-  outer_expr : (ds : List Scope) (e : ExprTree) → outer_of (after_expr ds e) ≡ outer_of ds
+  pub outer_expr : (ds : List Scope) (e : ExprTree) → outer_of (after_expr ds e) ≡ outer_of ds
   outer_expr ds (Name at n) = refl
   outer_expr ds (Integer at text) = refl
   outer_expr ds (Character at text) = refl
@@ -110,7 +110,7 @@ mutual
   outer_bound ds (StaticSize at qs e) = outer_expr ds e
   outer_bound ds (SizeStatic at qs e) = outer_expr ds e
 
-  outer_init : (ds : List Scope) (i : InitTree) → outer_of (after_init ds i) ≡ outer_of ds
+  pub outer_init : (ds : List Scope) (i : InitTree) → outer_of (after_init ds i) ≡ outer_of ds
   outer_init ds (Single e) = outer_expr ds e
   outer_init ds (Braces at items comma) = outer_items ds items
 
@@ -132,11 +132,11 @@ mutual
 outer_parameter : (ds : List Scope) (p : ParameterTree) → outer_of (after_parameter ds p) ≡ outer_of ds
 outer_parameter ds (Parameter ss d) = outer_declared_if (name_of d) (has_typedef ss) (after_declarator (after_specifiers ds ss) d) ∙ (outer_declarator (after_specifiers ds ss) d ∙ outer_specifiers ds ss)
 
-outer_parameters : (ds : List Scope) (ps : ParameterTrees) → outer_of (after_parameters ds ps) ≡ outer_of ds
+pub outer_parameters : (ds : List Scope) (ps : ParameterTrees) → outer_of (after_parameters ds ps) ≡ outer_of ds
 outer_parameters ds NoParameters = refl
 outer_parameters ds (MoreParameters p ps) = outer_parameters (after_parameter ds p) ps ∙ outer_parameter ds p
 
-entered_outer : (ds : List Scope) → outer_of (entered ds) ≡ ds
+pub entered_outer : (ds : List Scope) → outer_of (entered ds) ≡ ds
 entered_outer [] = refl
 entered_outer (s ∷ []) = refl
 entered_outer (s ∷ t ∷ ss) = ap (λ vs. s ∷ vs) (entered_outer (t ∷ ss))

@@ -1,4 +1,4 @@
--- Device: classes of tokens, by which the readings decide.
+-- Definition: classes of tokens, told by their kind, and of identifiers by the scopes. Definitions say by them what goes on behind a tree (GoesOn.antt), and the readings decide by them.
 use Rattle.std.specs.Prelude.{ℕ, Bool, true, false, not, ◌&&◌, ◌||◌, nat_eq, nat_le, nat_lt, List, [], ◌∷◌, Option, Some, None, if◌then◌else◌}
 use Rattle.cil_base.specs.declared.numbers.NameId.{NameId}
 use Rattle.cil_base.specs.declared.operators.BinOp.TheVariants.{Mul, Div, Rem, Add, Sub, Shl, Shr, Lt, Gt, Le, Ge, Eq, Ne, And, Xor, Or}

@@ -1,13 +1,14 @@
 -- Definition: the trees of each form that a call reads, with the scopes behind them and the tokens that they spell; and what goes on behind each.
-use Rattle.std.specs.Prelude.{◌≡◌, ℕ, Bool, true, List, ◌++◌, Option}
+use Rattle.std.specs.Prelude.{◌≡◌, ℕ, Bool, true, false, List, ◌++◌, Option}
 use Rattle.typedef_scopes.specs.Scopes.{Scope}
 use Rattle.c_tree.specs.declared.level.Level.{Level}
 use Rattle.c_tree.specs.declared.level.Level.TheVariants.{Assignment}
 use Rattle.c_tree.specs.Syntax.{ExprTree, SpecifierTrees, DeclaratorTree, InitTree}
 use Rattle.c_tree.specs.Spelling.{Lexeme, spell_expr, spell_specifiers, spell_declarator, spell_init}
+use Rattle.c_tree.specs.Levels.{has_names}
 use Rattle.c_tree.specs.Scoped.{after_expr, after_specifiers, after_declarator, after_type_name, after_init, has_type_specifier}
 use Rattle.c_tree.specs.Grammatical.{grammatical_expr, grammatical_type_name, grammatical_specifiers, grammatical_declarator, grammatical_init}
-use Rattle.c_exprs.specs.declared.words.DeclaratorForm.TheVariants.{Definition as InDefinition}
+use Rattle.c_exprs.specs.declared.words.DeclaratorForm.TheVariants.{Definition as InDefinition, Member as InMember}
 use Rattle.c_exprs.specs.GoesOn.{goes_on_expr, goes_on_specifiers, goes_on_type_name, goes_on_declarator}
 use Rattle.c_exprs.specs.Subs.{In}
 
@@ -46,6 +47,14 @@ pub record IsDeclarator (scopes : List Scope) (height : ℕ) (x : In DeclaratorT
 
 abbrev pub declarator_goes : In DeclaratorTree → Option Lexeme → Bool
 declarator_goes x o = goes_on_declarator InDefinition o
+
+-- a declarator that declares a name and has no identifier list (6.7.6, 6.7.6.3p3)
+pub record IsNamedDeclarator (scopes : List Scope) (height : ℕ) (x : In DeclaratorTree) (n : ℕ) (text : List Lexeme) : Type 0 where
+  pub is : IsDeclarator scopes height x n text
+  pub no_names : has_names x.0 ≡ false
+
+abbrev pub named_declarator_goes : In DeclaratorTree → Option Lexeme → Bool
+named_declarator_goes x o = goes_on_declarator InMember o
 
 -- an initialiser (6.7.9)
 pub record IsInit (scopes : List Scope) (height : ℕ) (x : In InitTree) (n : ℕ) (text : List Lexeme) : Type 0 where

@@ -4,6 +4,8 @@ use Rattle.cil_base.specs.declared.tokens.TokenKind.{TokenKind}
 use Rattle.c_tree.specs.Spelling.{Lexeme}
 use Rattle.c_exprs.specs.declared.stops.ParseStop.{ParseStop}
 use Rattle.c_exprs.specs.declared.stops.ParseStop.TheVariants.{At, Memory}
+use Rattle.c_exprs.specs.declared.words.Piece.{Piece}
+use Rattle.c_exprs.specs.declared.words.Piece.TheVariants.{Storage, Basic, Qualifier, Function, Name, Struct, Enum}
 use Rattle.c_exprs.specs.Readers.{Input, input}
 use Rattle.c_exprs.specs.Classes.{has_text}
 
@@ -23,6 +25,11 @@ IsNext None None = Unit {0}
 IsNext (Some k) (Some u) = (u.kind ≡ k) × (has_text k ≡ false → u.value ≡ [])
 IsNext _ _ = ⊥
 
+-- that is the text by which the next token is told
+abbrev pub IsValue : List ℕ → Option Lexeme → Type 0
+IsValue text None = ⊥
+IsValue text (Some u) = u.value ≡ text
+
 -- what a class has of the next token
 abbrev pub next_of : {A : Type 0} → (Lexeme → Option A) → Option Lexeme → Option A
 next_of p None = None
@@ -32,3 +39,18 @@ next_of p (Some u) = p u
 abbrev pub given : {A : Type 0} → Option A → Input → Result (A × Input) Input
 given None i = Err i
 given (Some a) i = Ok (a, input (i.at + 1) (drop 1 i.rest))
+
+-- what begins so is found with the text by which the next token is told
+abbrev pub IsStartNext : {A : Type 0} → Option A → Option (A × List ℕ) → Option Lexeme → Type 0
+IsStartNext None found o = found ≡ None
+IsStartNext (Some a) found o = (text : List ℕ) → IsValue text o → found ≡ Some (a, text)
+
+-- the least height of a specifier that begins so
+abbrev pub least_height : Piece → ℕ
+least_height (Storage w) = 0
+least_height (Basic w) = 0
+least_height (Qualifier w) = 0
+least_height (Function w) = 0
+least_height (Name n) = 1
+least_height (Struct kind) = 1
+least_height Enum = 1

@@ -1,4 +1,4 @@
--- Definition: the tokens that go on behind a tree: where one of them stands next, nothing ends there. They are told by their kind alone.
+-- Definition: the tokens that go on behind a tree: where one of them stands next, nothing ends there. They are told by their kind, and a typedef name by the scopes `ds` that stand behind what was read.
 use Rattle.std.specs.Prelude.{Bool, true, false, not, ◌&&◌, ◌||◌, nat_le, List, [], Option, Some, None}
 use Rattle.cil_base.specs.declared.tokens.TokenKind.{TokenKind}
 use Rattle.cil_base.specs.declared.tokens.TokenKind.TheVariants.{Name as IsName, Keyword as IsKeyword, Integer as IsInteger, Character as IsCharacter, Literal as IsLiteral, Punctuator as IsPunctuator}

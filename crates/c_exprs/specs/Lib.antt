@@ -2,6 +2,8 @@ pub mod Readers
 pub mod Classes
 pub mod Lexemes
 pub mod Given
+pub mod Steps
+pub mod ListSteps
 pub mod GoesOn
 pub mod Subs
 pub mod ExprReading
@@ -11,3 +13,4 @@ pub mod InitReading
 pub mod Reading
 pub mod Answers
 pub mod Forms
+pub mod Telling

@@ -1,4 +1,4 @@
--- Device: readers of tokens, from which the readings of the grammar are put together. A reader gives a value and the input behind what it took; where it fails it gives the input at the first token that it could not take.
+-- Device, but for `head`, the next token, of which definitions speak: readers of tokens, from which the readings of the grammar are put together. A reader gives a value and the input behind what it took; where it fails it gives the input at the first token that it could not take.
 use Rattle.std.specs.Prelude.{ℕ, zero, suc, ◌+◌, Bool, true, false, List, [], ◌∷◌, length, Option, Some, None, Result, Ok, Err}
 use Rattle.c_tree.specs.Spelling.{Lexeme}
 

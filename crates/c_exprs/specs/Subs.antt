@@ -1,4 +1,4 @@
--- Device: the readings of parts, which a reading of the grammar takes from one height below; and forms of reading that several productions share.
+-- Device, but for `In`, a tree with the scopes behind it, of which definitions speak: the readings of parts, which a reading of the grammar takes from one height below; and forms of reading that several productions share.
 use Rattle.std.specs.Prelude.{ℕ, Bool, true, false, not, ◌&&◌, List, [], ◌∷◌, ◌++◌, Option}
 use Rattle.typedef_scopes.specs.Scopes.{Scope}
 use Rattle.c_tree.specs.declared.level.Level.{Level}

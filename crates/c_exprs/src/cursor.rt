@@ -1,9 +1,10 @@
-ghost use Rattle.std.specs.Prelude.{◌≡◌, ◌+◌, ◌<◌, ◌≤◌, length, IfSome};
+ghost use Rattle.std.specs.Prelude.{◌≡◌, ◌+◌, ◌<◌, ◌≤◌, ◌^◌, length, drop, IfSome};
 ghost use Rattle.c_exprs.specs.Lexemes.{lexemes, ahead};
 ghost use Rattle.c_exprs.specs.Readers.{head};
-ghost use Rattle.c_exprs.specs.Given.{IsNext};
+ghost use Rattle.c_exprs.specs.Given.{IsNext, IsValue};
 
-use crate::token_list::TokenList;
+use crate::signs::has_text;
+use c_lexer::TokenList;
 use cil_base::TokenKind;
 use std::marker::Model;
 
@@ -54,10 +55,11 @@ impl<'a, L: TokenList> Cursor<'a, L> {
         self.at = i;
     }
 
-    /// The kind of the next token, if there is one.
-    pub(crate) fn next(&self) -> Option<TokenKind>
+    /// The kind of the next token (C11 6.4), if there is one.
+    pub fn next(&self) -> Option<TokenKind>
         ensures kind { IsNext result (head (ahead self.now).rest) }
         ensures room { IfSome result (λ _. self.now.at < length self.now.all) }
+        ensures fits { IfSome result (λ _. self.now.at + 1 < 2 ^ 32) }
     {
         if self.at < self.end {
             Some(self.list.token(self.at).kind)
@@ -66,8 +68,31 @@ impl<'a, L: TokenList> Cursor<'a, L> {
         }
     }
 
+    /// The kind of the token behind the next one, if there is one.
+    pub fn second(&self) -> Option<TokenKind>
+        ensures kind { IsNext result (head (drop 1 (ahead self.now).rest)) }
+    {
+        if self.end - self.at >= 2 {
+            Some(self.list.token(self.at + 1).kind)
+        } else {
+            None
+        }
+    }
+
+    /// The text of the next token, if it is a constant or literal; otherwise nothing.
+    pub(crate) fn next_text(&self) -> &'a [u8]
+        requires { self.now.at < length self.now.all }
+        ensures { IsValue result.now (head (ahead self.now).rest) }
+    {
+        if has_text(self.list.token(self.at).kind) {
+            self.list.text(self.at)
+        } else {
+            &[]
+        }
+    }
+
     /// Puts the cursor behind the next token.
-    pub(crate) fn advance(&mut self)
+    pub fn advance(&mut self)
         requires { self.old.at < length self.old.all }
         ensures { self.new ≡ record { all = self.old.all; at = self.old.at + 1 } }
     {

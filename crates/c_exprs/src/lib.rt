@@ -1,29 +1,57 @@
 //! The reading of C's expressions, type names, specifiers, declarators and initialisers from tokens, in scopes of typedef names and up to a height.
 //!
-//! Its public contract so far has a cursor over the tokens of a unit, however they are kept, and the law that no tokens are spelled by two grammatical
-//! trees of one form. Its definitions are executable readings on lists of tokens, proved to give exactly the grammatical trees. The functions that read
-//! trees do not stand yet.
+//! Its public contract gives a grammatical tree that spells the tokens in front of a cursor, or the number of a token with which no such tree begins
+//! and where none ends; and the law that no tokens are spelled by two grammatical trees of one form. Its definitions are executable readings on lists of
+//! tokens, proved to give exactly the grammatical trees, and its functions read one token at a time as those do.
 //!
 //! The rules come from C11 6.5 and 6.7; the height that bounds a tree is the project's own.
 #![tactic(auto)]
 
+mod argument_list;
+mod below;
+mod bounds;
+mod builders;
+mod calls;
 mod cursor;
+mod declarator_builders;
+mod declarators;
 mod derivations;
+mod enumerators;
+mod expressions;
+mod goes_on;
+mod initialisers;
 mod levels;
+mod list_builders;
+mod literals;
+mod members;
+mod nexts;
+mod operands;
 mod operators;
+mod parameters;
 mod pieces;
 mod signs;
+mod specifier_lists;
 mod starts;
 mod stops;
 mod takes;
-mod token_list;
+mod texts;
+mod told;
+mod type_names;
+mod typed_builders;
 mod uniqueness;
 mod words;
 
+pub use calls::{declarator, expr, initialiser, named_declarator, specifiers, type_name};
 pub use cursor::Cursor;
+pub use literals::some_literals;
+pub use nexts::{at_assert, at_name, at_other, at_sign};
 pub use stops::ParseStop;
-pub use token_list::TokenList;
+pub use takes::{take_assert, take_name, take_sign, taken};
+pub use told::{has_typedef, is_underived, name_of};
 pub use uniqueness::one_tree;
 pub use words::{
     DeclaratorForm, Derivation, Designation, Joint, Operator, Piece, SpecifierForm, Start,
 };
+
+#[cfg(test)]
+mod tests;

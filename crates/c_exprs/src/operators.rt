@@ -1,4 +1,4 @@
-ghost use Rattle.std.specs.Prelude.{◌≡◌};
+ghost use Rattle.std.specs.Prelude.{◌≡◌, ◌<◌, true, IfSome};
 ghost use Rattle.c_tree.specs.View.{expr_of};
 ghost use Rattle.c_tree.specs.Height.{expr_height};
 ghost use Rattle.c_exprs.specs.Classes.{fitting, joint_level, joint_left, joint_right, operator_level, operator_left, operator_sign, operator_kind, operator_fits};
@@ -129,7 +129,8 @@ fn operator_kind(kind: TokenKind) -> Option<Operator>
 /// Whether an operator can stand behind an operand, whose height is told, in an expression of that level and height.
 fn operator_fits(height: u32, level: Level, e: &Expr, e_height: u32, op: Operator) -> bool
     requires { e_height ≡ expr_height (expr_of e.now) }
-    ensures { result ≡ operator_fits height level (expr_of e.now) op }
+    ensures is { result ≡ operator_fits height level (expr_of e.now) op }
+    ensures fits { result ≡ true → e_height < height }
 {
     rank(operator_level(op)) <= rank(level) && is_within(operator_left(op), e) && e_height < height
 }
@@ -144,7 +145,8 @@ pub(crate) fn operator_for(
     kind: TokenKind,
 ) -> Option<Operator>
     requires { e_height ≡ expr_height (expr_of e.now) }
-    ensures { result ≡ fitting (operator_fits height level (expr_of e.now)) (operator_kind kind) }
+    ensures is { result ≡ fitting (operator_fits height level (expr_of e.now)) (operator_kind kind) }
+    ensures fits { IfSome result (λ _. e_height < height) }
 {
     match operator_kind(kind) {
         Some(op) if operator_fits(height, level, e, e_height, op) => Some(op),

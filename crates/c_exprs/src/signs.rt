@@ -1,5 +1,5 @@
 ghost use Rattle.std.specs.Prelude.{◌≡◌};
-ghost use Rattle.c_exprs.specs.Classes.{is_sign, is_static_word, is_assert_word, is_name, is_literal, name_kind};
+ghost use Rattle.c_exprs.specs.Classes.{is_sign, is_static_word, is_assert_word, is_name, is_literal, has_text, name_kind};
 
 use cil_base::{Keyword, NameId, Punctuator, TokenKind};
 
@@ -55,6 +55,20 @@ pub(crate) fn is_literal(kind: TokenKind) -> bool
     match kind {
         TokenKind::Literal => true,
         _ => false,
+    }
+}
+
+/// Whether a token is told by its text too.
+pub(crate) fn has_text(kind: TokenKind) -> bool
+    ensures { result ≡ has_text kind }
+{
+    match kind {
+        TokenKind::Name(_) => false,
+        TokenKind::Keyword(_) => false,
+        TokenKind::Integer => true,
+        TokenKind::Character => true,
+        TokenKind::Literal => true,
+        TokenKind::Punctuator(_) => false,
     }
 }
 

@@ -1,4 +1,4 @@
-ghost use Rattle.std.specs.Prelude.{◌≡◌, not};
+ghost use Rattle.std.specs.Prelude.{◌≡◌, ◌≤◌, true, not, IfSome};
 ghost use Rattle.typedef_scopes.specs.Scopes.{is_type};
 ghost use Rattle.c_exprs.specs.declared.words.Start.TheVariants.{Name as NameStart};
 ghost use Rattle.c_exprs.specs.Classes.{if_so, fitting, step_sign_kind, start_word_kind, start_kind, start_fits};
@@ -61,7 +61,8 @@ fn start_kind(s: &Scopes, kind: TokenKind) -> Option<Start>
 
 /// Whether an expression of that level and height may begin so.
 fn start_fits(height: u32, level: Level, start: Start) -> bool
-    ensures { result ≡ start_fits height level start }
+    ensures is { result ≡ start_fits height level start }
+    ensures some { result ≡ true → 1 ≤ height }
 {
     match start {
         Start::Name(_) => height >= 1,
@@ -78,7 +79,8 @@ fn start_fits(height: u32, level: Level, start: Start) -> bool
 
 /// How an expression of that level and height begins with a token of that kind, if it can (C11 6.5.1 to 6.5.4).
 pub(crate) fn start_of(height: u32, level: Level, s: &Scopes, kind: TokenKind) -> Option<Start>
-    ensures { result ≡ fitting (start_fits height level) (start_kind s.now kind) }
+    ensures is { result ≡ fitting (start_fits height level) (start_kind s.now kind) }
+    ensures some { IfSome result (λ _. 1 ≤ height) }
 {
     match start_kind(s, kind) {
         Some(start) if start_fits(height, level, start) => Some(start),

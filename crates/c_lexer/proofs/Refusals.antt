@@ -1,6 +1,8 @@
--- Device: what holds of the reading in front of each piece: the file of its place is in the pool, its tokens stand apart, and a refusal is one that tokens have.
-use Rattle.std.proofs.Common.{◌≡◌, ℕ, zero, suc, ◌+◌, ◌-◌, ◌<◌, ◌≤◌, Bool, true, false, cond, List, [], ◌∷◌, ◌++◌, length, length-append, Option, Some, None, Result, Ok, Err, refl, sym, ap, subst, ◌∙◌, arith}
-use Rattle.std.specs.Prelude.{if◌then◌else◌, ◌||◌, ◌==◌, not, nat_le}
+-- Device: what holds of the reading in front of each piece: the files of its place and of its tokens are in the pool, its tokens stand apart, and a refusal is one that tokens have.
+use Rattle.std.proofs.Common.{◌≡◌, ℕ, zero, suc, ◌+◌, ◌-◌, ◌<◌, ◌≤◌, Bool, true, false, cond, List, [], ◌∷◌, ◌++◌, length, length-append, Option, Some, None, Result, Ok, Err, IfOk, refl, sym, ap, subst, ◌∙◌, arith}
+use Rattle.std.specs.Prelude.{if◌then◌else◌, ◌||◌, ◌==◌, not, nat_le, slice_get}
+use Rattle.std.specs.Option.{option_map}
+use Rattle.cil_base.specs.declared.faults.Place.{Place}
 use Rattle.std.proofs.lemmas.Bool.{cond_both}
 use Rattle.std.specs.List.{list_any}
 use Rattle.std.specs.Str.{bytes_eq}
@@ -38,7 +40,7 @@ use Rattle.c_lexer.specs.Constants.{is_integer, is_floating, characters, has_uni
 use Rattle.c_lexer.specs.Lines.{Line, Marker, Pragma, Pack, Bad, line_of, has_line_feed}
 use Rattle.c_lexer.specs.Longest.{Piece, Cut, End, Next}
 use Rattle.c_lexer.specs.Tokens.{Reading, Outcome, Goes, Stops, Answer, Whole, Refused, meaning, meaning_of_text, meaning_of_word, number_meaning, character_meaning, literal_meaning, sign_meaning, moved, passed, line_feeds, refused_at, refused, refusal_at, number_of, id_of, marked, part, same_bracket, bracket_closed, closed, in_arguments, behind_name, behind_arguments, opening, named, last, advanced, refused_attribute, attribute_read, inside_read, line_refused, marker_read, line_read, with_token, with_name, with_attribute, outside_read, token_read, piece_read, ended, on_outcome, read, begun, IsAnswer}
-use Rattle.c_lexer.specs.Lexed.{Lexed, Gives as IsGiven, IfRefused, IsTokenFault, IsTokenRefusal, bytes_in}
+use Rattle.c_lexer.specs.Lexed.{Lexed, Gives as IsGiven, IfRefused, IsTokenFault, IsTokenRefusal, PlacesWithin, place_of, bytes_in}
 use Rattle.cil_base.specs.declared.faults.Stop.{Stop}
 use Rattle.cil_base.specs.declared.faults.Stop.TheVariants.{Refused as IsRefused, Memory as IsMemory}
 
@@ -179,10 +181,16 @@ abbrev HasFile : ℕ → Option Attribute → Type 0
 HasFile count None = Unit {0}
 HasFile count (Some a) = a.file.0 < count
 
+-- the file of each token is one of so many names
+abbrev HaveFiles : ℕ → List Entry → Type 0
+HaveFiles count [] = Unit {0}
+HaveFiles count (e ∷ es) = (e.file.0 < count) × HaveFiles count es
+
 record IsFit (u : UnitNo) (r : Reading) : Type 0 where
   unit : r.unit ≡ u
   file : r.spot.file.0 < length r.names
   attribute : HasFile (length r.names) r.attribute
+  entries : HaveFiles (length r.names) r.entries
   apart : bytes_in r.entries ≤ r.spot.start
 
 -- an outcome that goes on stands so many bytes from the beginning
@@ -193,6 +201,14 @@ FitOutcome unit start (Stops refusal names) = IsTokenRefusal unit (length names)
 more_files : (fewer more : ℕ) (a : Option Attribute) → fewer ≤ more → HasFile fewer a → HasFile more a
 more_files fewer more None less has = tt
 more_files fewer more (Some a) less has = omega (arith, has, less)
+
+more_have : (fewer more : ℕ) (es : List Entry) → fewer ≤ more → HaveFiles fewer es → HaveFiles more es
+more_have fewer more [] less have = tt
+more_have fewer more (e ∷ es) less have = (omega (arith, have.0, less), more_have fewer more es less have.1)
+
+last_has : (count : ℕ) (es : List Entry) (e : Entry) → HaveFiles count es → e.file.0 < count → HaveFiles count (es ++ e ∷ [])
+last_has count [] e have has = (has, tt)
+last_has count (x ∷ xs) e have has = (have.0, last_has count xs e have.1 has)
 
 bytes_in-last : (es : List Entry) (e : Entry) → bytes_in (es ++ e ∷ []) ≡ bytes_in es + (e.token.end - e.token.start)
 bytes_in-last [] e = omega arith
@@ -205,11 +221,11 @@ refuse_attribute : (unit : UnitNo) (start : ℕ) (fault : Fault) (a : Attribute)
 refuse_attribute unit start fault a r is has fit = record { fault = is; unit = fit.unit; file = has; other = refl }
 
 pass : (unit : UnitNo) (text : List ℕ) (r : Reading) → IsFit unit r → FitOutcome unit (r.spot.start + length text) (Goes (passed text r))
-pass unit text r fit = (record { unit = fit.unit; file = fit.file; attribute = fit.attribute; apart = omega (arith, fit.apart) }, refl)
+pass unit text r fit = (record { unit = fit.unit; file = fit.file; attribute = fit.attribute; entries = fit.entries; apart = omega (arith, fit.apart) }, refl)
 
 mark : (unit : UnitNo) (text : List ℕ) (line : ℕ) (file : List ℕ) (r : Reading) → IsFit unit r → FitOutcome unit (r.spot.start + length text) (Goes (marked text line file r))
 mark unit text line file r fit =
-    (record { unit = fit.unit; file = id_within r.names file; attribute = more_files _ _ r.attribute (longer r.names file) fit.attribute; apart = omega (arith, fit.apart) }, refl)
+    (record { unit = fit.unit; file = id_within r.names file; attribute = more_files _ _ r.attribute (longer r.names file) fit.attribute; entries = more_have _ _ r.entries (longer r.names file) fit.entries; apart = omega (arith, fit.apart) }, refl)
 
 refuse_line : (unit : UnitNo) (start : ℕ) (fault : Fault) (r : Reading) (a : Option Attribute) → IsTokenFault fault → r.attribute ≡ a → IsFit unit r → FitOutcome unit start (line_refused fault a r)
 refuse_line unit start fault r None is same fit = refuse unit start fault r is fit
@@ -228,27 +244,28 @@ line_fit unit text Bad r fit = refuse_line unit (r.spot.start + length text) Lex
 token_fit : (unit : UnitNo) (kind : TokenKind) (text : List ℕ) (r : Reading) → IsFit unit r → FitOutcome unit (r.spot.start + length text) (Goes (with_token kind text r))
 token_fit unit kind text r fit =
     let e : Entry = record { token = record { kind = kind; start = r.spot.start; end = r.spot.start + length text }; file = r.spot.file; line = r.spot.line } in
-    (record { unit = fit.unit; file = fit.file; attribute = fit.attribute; apart = omega (arith, bytes_in-last r.entries e, fit.apart) }, refl)
+    (record { unit = fit.unit; file = fit.file; attribute = fit.attribute; entries = last_has _ r.entries e fit.entries fit.file; apart = omega (arith, bytes_in-last r.entries e, fit.apart) }, refl)
 
 name_fit : (unit : UnitNo) (text : List ℕ) (r : Reading) → IsFit unit r → FitOutcome unit (r.spot.start + length text) (Goes (with_name text r))
 name_fit unit text r fit =
     let e : Entry = record { token = record { kind = Name (id_of (interned r.names text) text); start = r.spot.start; end = r.spot.start + length text }; file = r.spot.file; line = r.spot.line } in
     let more : length r.names ≤ length (interned r.names text) = longer r.names text in
-    (record { unit = fit.unit; file = omega (arith, fit.file, more); attribute = more_files _ _ r.attribute more fit.attribute; apart = omega (arith, bytes_in-last r.entries e, fit.apart) }, refl)
+    let has : r.spot.file.0 < length (interned r.names text) = omega (arith, fit.file, more) in
+    (record { unit = fit.unit; file = has; attribute = more_files _ _ r.attribute more fit.attribute; entries = last_has _ r.entries e (more_have _ _ r.entries more fit.entries) has; apart = omega (arith, bytes_in-last r.entries e, fit.apart) }, refl)
 
 outside_fit : (unit : UnitNo) (text : List ℕ) (m : Meaning) (r : Reading) → IfFault m → IsFit unit r → FitOutcome unit (r.spot.start + length text) (outside_read text m r)
 outside_fit unit text (Gives kind) r is fit = token_fit unit kind text r fit
 outside_fit unit text GivesName r is fit = name_fit unit text r fit
 outside_fit unit text GivesNothing r is fit = pass unit text r fit
-outside_fit unit text Begins r is fit = (record { unit = fit.unit; file = fit.file; attribute = fit.file; apart = omega (arith, fit.apart) }, refl)
+outside_fit unit text Begins r is fit = (record { unit = fit.unit; file = fit.file; attribute = fit.file; entries = fit.entries; apart = omega (arith, fit.apart) }, refl)
 outside_fit unit text (Faults fault) r is fit = refuse unit (r.spot.start + length text) fault r is fit
 
 inside_fit : (unit : UnitNo) (text : List ℕ) (a : Attribute) (o : Advance × List Bracket) (r : Reading) → Keeps a o → a.file.0 < length r.names → IsFit unit r → FitOutcome unit (r.spot.start + length text) (attribute_read text a o r)
 inside_fit unit text a (Wrong, brackets) r same has fit = refuse_attribute unit (r.spot.start + length text) Lexical a r tt has fit
-inside_fit unit text a (Done true, brackets) r same has fit = (record { unit = fit.unit; file = fit.file; attribute = tt; apart = omega (arith, fit.apart) }, refl)
+inside_fit unit text a (Done true, brackets) r same has fit = (record { unit = fit.unit; file = fit.file; attribute = tt; entries = fit.entries; apart = omega (arith, fit.apart) }, refl)
 inside_fit unit text a (Done false, brackets) r same has fit = refuse_attribute unit (r.spot.start + length text) (Excluded OtherAttribute) a r tt has fit
 inside_fit unit text a (On next, brackets) r same has fit =
-    (record { unit = fit.unit; file = fit.file; attribute = subst (λ (f : NameId). f.0 < length r.names) (sym same) has; apart = omega (arith, fit.apart) }, refl)
+    (record { unit = fit.unit; file = fit.file; attribute = subst (λ (f : NameId). f.0 < length r.names) (sym same) has; entries = fit.entries; apart = omega (arith, fit.apart) }, refl)
 
 any_token_fit : (unit : UnitNo) (kind : Kind) (text : List ℕ) (a : Option Attribute) (r : Reading) → r.attribute ≡ a → IsFit unit r → FitOutcome unit (r.spot.start + length text) (token_read kind text a r)
 any_token_fit unit kind text None r same fit = outside_fit unit text (meaning kind text) r (fault_of kind text) fit
@@ -273,13 +290,18 @@ total : List Piece → ℕ
 total [] = 0
 total (p ∷ ps) = length p.text + total ps
 
--- tokens stand in so many bytes
+-- tokens stand in so many bytes, and the files of their places and of the unit's end are in the pool
+pub record FitTokens (end : ℕ) (entries : List Entry) (spot : Spot) (count : ℕ) : Type 0 where
+  pub apart : bytes_in entries ≤ end
+  pub files : HaveFiles count entries
+  pub file : spot.file.0 < count
+
 abbrev FitAnswer : UnitNo → ℕ → Answer → Type 0
-FitAnswer unit end (Whole entries spot names) = bytes_in entries ≤ end
+FitAnswer unit end (Whole entries spot names) = FitTokens end entries spot (length names)
 FitAnswer unit end (Refused refusal names) = IsTokenRefusal unit (length names) refusal
 
 end_fit : (unit : UnitNo) (a : Option Attribute) (r : Reading) → r.attribute ≡ a → IsFit unit r → FitAnswer unit r.spot.start (ended a r)
-end_fit unit None r same fit = fit.apart
+end_fit unit None r same fit = record { apart = fit.apart; files = fit.entries; file = fit.file }
 end_fit unit (Some a) r same fit = record { fault = tt; unit = fit.unit; file = subst (HasFile (length r.names)) same fit.attribute; other = refl }
 
 answer_fit : (unit : UnitNo) (ps : List Piece) (r : Reading) → IsFit unit r → FitAnswer unit (r.spot.start + total ps) (read ps r)
@@ -300,7 +322,7 @@ pub begun_fit : (unit : UnitNo) (file : NameId) (names : List (List ℕ)) (bytes
 begun_fit unit file names bytes answer named is =
     subst (λ a. FitAnswer unit (length bytes) a) (sym is.2)
     (subst (λ n. FitAnswer unit n (read is.0 (begun unit file names))) (let same : 0 + total is.0 ≡ length bytes = omega (arith, cut_total true bytes is.0 is.1) in same)
-    (answer_fit unit is.0 (begun unit file names) (record { unit = refl; file = named; attribute = tt; apart = omega arith })))
+    (answer_fit unit is.0 (begun unit file names) (record { unit = refl; file = named; attribute = tt; entries = tt; apart = omega arith })))
 
 pub refused_fit : (t : Result Lexed Stop) (unit : UnitNo) (names : List (List ℕ)) (bytes : List ℕ) (answer : Answer) → FitAnswer unit (length bytes) answer → IsGiven t bytes unit names answer → IfRefused t (IsTokenRefusal unit (length names))
 refused_fit (Ok t) unit names bytes answer fit gives = tt
@@ -308,4 +330,35 @@ refused_fit (Err (IsRefused refusal)) unit names bytes answer fit gives = subst 
 refused_fit (Err IsMemory) unit names bytes answer fit gives = tt
 
 pub stand_apart : (unit : UnitNo) (file : NameId) (names after : List (List ℕ)) (bytes : List ℕ) (entries : List Entry) (end : Spot) → file.0 < length names → IsAnswer unit file names bytes (Whole entries end after) → bytes_in entries ≤ length bytes
-stand_apart unit file names after bytes entries end named is = begun_fit unit file names bytes (Whole entries end after) named is
+stand_apart unit file names after bytes entries end named is = (begun_fit unit file names bytes (Whole entries end after) named is).apart
+
+-- the file of a place
+file_at : (count : ℕ) (es : List Entry) (i : ℕ) (e : Entry) → HaveFiles count es → slice_get es i ≡ Some e → e.file.0 < count
+file_at count [] i e have is = let none : None ≡ Some e = is in cc
+file_at count (x ∷ xs) zero e have is = let same : Some x ≡ Some e = is in let equal : x ≡ e = cc in subst (λ (y : Entry). y.file.0 < count) equal have.0
+file_at count (x ∷ xs) (suc i) e have is = file_at count xs i e have.1 is
+
+token_file : (unit : UnitNo) (count i : ℕ) (o : Option Entry) (place : Place) → ((e : Entry) → o ≡ Some e → e.file.0 < count)
+    → option_map (λ (e : Entry). place_of unit i e.file e.line) o ≡ Some place → place.file.0 < count
+token_file unit count i None place has is = let none : None ≡ Some place = is in cc
+token_file unit count i (Some e) place has is =
+    let same : Some (place_of unit i e.file e.line) ≡ Some place = is in
+    let equal : place_of unit i e.file e.line ≡ place = cc in
+    subst (λ (p : Place). p.file.0 < count) equal (has e refl)
+
+tokens_files : (t : Lexed) (count : ℕ) → HaveFiles count t.entries → t.end.file.0 < count → PlacesWithin count t
+tokens_files t count have has = λ i place is. by i place (i == length t.entries) is
+  where
+    by : (i : ℕ) (place : Place) (b : Bool) → (if b then Some (place_of t.unit i t.end.file t.end.line) else option_map (λ (e : Entry). place_of t.unit i e.file e.line) (slice_get t.entries i)) ≡ Some place
+        → place.file.0 < count
+    by i place true is =
+        let same : Some (place_of t.unit i t.end.file t.end.line) ≡ Some place = is in
+        let equal : place_of t.unit i t.end.file t.end.line ≡ place = cc in
+        subst (λ (p : Place). p.file.0 < count) equal has
+    by i place false is = token_file t.unit count i (slice_get t.entries i) place (λ e at. file_at count t.entries i e have at) is
+
+pub tokens_fit : (r : Result Lexed Stop) (unit : UnitNo) (names : List (List ℕ)) (bytes : List ℕ) (answer : Answer) → FitAnswer unit (length bytes) answer → IsGiven r bytes unit names answer → IfOk r (PlacesWithin (length names))
+tokens_fit (Ok t) unit names bytes answer fit gives =
+    let fits : FitTokens (length bytes) t.entries t.end (length names) = subst (FitAnswer unit (length bytes)) gives.0 fit in
+    tokens_files t (length names) fits.files fits.file
+tokens_fit (Err stop) unit names bytes answer fit gives = tt

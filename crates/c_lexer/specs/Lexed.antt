@@ -37,6 +37,10 @@ place_of unit token file line = record { unit = unit; token = token; file = file
 abbrev pub place_at : Lexed → ℕ → Option Place
 place_at t i = if i == length t.entries then Some (place_of t.unit i t.end.file t.end.line) else option_map (λ (e : Entry). place_of t.unit i e.file e.line) (slice_get t.entries i)
 
+-- the file of each place, also of the unit's end, is one of so many names
+abbrev pub PlacesWithin : ℕ → Lexed → Type 0
+PlacesWithin count t = (i : ℕ) (place : Place) → place_at t i ≡ Some place → place.file.0 < count
+
 -- the tokens of the source, or the refusal, with the names that the pool has then; nothing where memory is wanting
 abbrev pub Gives : Result Lexed Stop → List ℕ → UnitNo → List (List ℕ) → Answer → Type 0
 Gives (Ok t) source unit names answer = (answer ≡ Whole t.entries t.end names) × (t.source ≡ source) × (t.unit ≡ unit)

@@ -1,8 +1,8 @@
-ghost use Rattle.std.specs.Prelude.{◌≡◌, ◌<◌, ◌≤◌, true, length};
+ghost use Rattle.std.specs.Prelude.{◌≡◌, ◌<◌, ◌≤◌, true, length, IfOk};
 ghost use Rattle.c_lexer.specs.Longest.{fresh_behind};
 ghost use Rattle.c_lexer.specs.Automaton.{pieces};
 ghost use Rattle.c_lexer.specs.Tokens.{Answer, IsAnswer, read, begun};
-ghost use Rattle.c_lexer.specs.Lexed.{Gives, IfAnswered, IfRefused, IsTokenRefusal, Grows};
+ghost use Rattle.c_lexer.specs.Lexed.{Gives, IfAnswered, IfRefused, IsTokenRefusal, Grows, PlacesWithin};
 ghost use Rattle.c_lexer.specs.ReaderView.{reading_of, IsBounded};
 
 use crate::automaton::piece;
@@ -41,6 +41,7 @@ pub fn lex<'a>(
     ensures tokens { IfAnswered (λ answer. Gives result bytes.now unit names.new answer) (IsAnswer unit file names.old bytes.now) }
     ensures only { (answer : Answer) → IsAnswer unit file names.old bytes.now answer → Gives result bytes.now unit names.new answer }
     ensures refusal { IfRefused result (IsTokenRefusal unit (length names.new)) }
+    ensures files { IfOk result (PlacesWithin (length names.new)) }
     ensures pool { Grows names.old names.new }
 {
     read_pieces(alloc, bytes, unit, file, names)

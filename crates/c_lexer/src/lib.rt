@@ -20,6 +20,7 @@ mod pieces;
 mod reader;
 mod runs;
 mod state;
+mod token_list;
 mod tokens;
 mod words;
 
@@ -28,6 +29,7 @@ pub use entries::{Entry, Spot};
 pub use laws::{one_answer, tokens_stand_apart};
 pub use lexer::lex;
 pub use pieces::{Kind, Raw, Sign};
+pub use token_list::TokenList;
 pub use tokens::Tokens;
 
 #[cfg(test)]

@@ -20,7 +20,8 @@ use Rattle.c_exprs.proofs.Tokens.{eq_true, true_eq, both, le_true, true_le, sign
 use Rattle.c_exprs.proofs.Relations.{Below}
 use Rattle.c_exprs.proofs.Lists.{grown, Grows, Over, Rest, rest_of_steps, steps_of_rest, Last, last_of, of_last, all_last}
 use Rattle.c_parser.specs.declared.words.StatementWord.TheVariants.{Block as BlockStart}
-use Rattle.c_parser.specs.StatementWords.{is_else_word, type_ahead, begins_declaration, label_ahead, when_label}
+use Rattle.c_parser.specs.StatementWords.{type_ahead, begins_declaration, label_ahead, when_label}
+use Rattle.c_parser.specs.UnitForms.{is_else_word}
 use Rattle.c_parser.specs.Parts.{Parts}
 use Rattle.c_parser.specs.StatementReading.{declaring, doing, typed_item, untyped_item, item, block_items, items, items_closed, block_behind, body}
 use Rattle.c_parser.proofs.Looking.{type_is, moves, label_lawful}

@@ -30,7 +30,8 @@ use Rattle.c_exprs.proofs.Arguments.{tall}
 use Rattle.c_exprs.proofs.Climbing.{binary_bounds, logical_bounds}
 use Rattle.c_parser.specs.declared.words.StatementWord.{StatementWord}
 use Rattle.c_parser.specs.declared.words.StatementWord.TheVariants.{Case as CaseStart, Default as DefaultStart, Block as BlockStart, If as IfStart, Switch as SwitchStart, While as WhileStart, Do as DoStart, For as ForBegin, Goto as GotoStart, Continue as ContinueStart, Break as BreakStart, Return as ReturnStart}
-use Rattle.c_parser.specs.StatementWords.{is_else_word, begins_declaration}
+use Rattle.c_parser.specs.StatementWords.{begins_declaration}
+use Rattle.c_parser.specs.UnitForms.{is_else_word}
 use Rattle.c_parser.specs.Parts.{Parts}
 use Rattle.c_parser.specs.StatementReading.{maybe_expr, maybe_closed, condition, controls, controlled, behind_colon, case_behind, else_behind, if_rest, if_behind, switch_behind, while_behind, do_rest, do_behind, for_start, for_body, for_step, for_rest, for_behind, goto_behind, jump_behind, return_behind}
 use Rattle.c_parser.proofs.UnitRelations.{MaybeIs, DeclarationIs, StatementIs, EndsStatement, LawfulParts}

@@ -8,3 +8,10 @@ pub mod StatementLaws
 pub mod ExternalLaws
 pub mod UnitLaws
 mod UnitRows
+pub mod OwnListLemmas
+pub mod NextTokens
+pub mod Lower
+pub mod Kept
+pub mod UnitWhole
+pub mod BlockTrees
+pub mod ExternalSteps

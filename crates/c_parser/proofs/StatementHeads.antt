@@ -24,7 +24,8 @@ use Rattle.c_exprs.proofs.Heads.{Starts, expr_starts, apart, declarator_begins}
 use Rattle.c_exprs.proofs.ParameterLaws.{specifiers_open}
 use Rattle.c_parser.specs.declared.words.StatementWord.{StatementWord}
 use Rattle.c_parser.specs.declared.words.StatementWord.TheVariants.{Case as CaseStart, Default as DefaultStart, Block as BlockStart, If as IfStart, Switch as SwitchStart, While as WhileStart, Do as DoStart, For as ForBegin, Goto as GotoStart, Continue as ContinueStart, Break as BreakStart, Return as ReturnStart}
-use Rattle.c_parser.specs.StatementWords.{statement_word, statement_sign, statement_kind, a_statement_word, begins_by_word, is_else_word, is_while_word, name_ahead, type_ahead, begins_declaration, label_ahead}
+use Rattle.c_parser.specs.StatementWords.{statement_word, statement_sign, statement_kind, a_statement_word, begins_by_word, is_while_word, name_ahead, type_ahead, begins_declaration, label_ahead}
+use Rattle.c_parser.specs.UnitForms.{is_else_word}
 use Rattle.c_parser.proofs.Looking.{type_is}
 use Rattle.c_parser.proofs.DeclarationLaws.{declares_some}
 

@@ -26,7 +26,8 @@ use Rattle.c_exprs.proofs.Relations.{Below, ExprIs}
 use Rattle.c_exprs.proofs.Arguments.{tall}
 use Rattle.c_parser.specs.declared.words.StatementWord.{StatementWord}
 use Rattle.c_parser.specs.declared.words.StatementWord.TheVariants.{Case as CaseStart, Default as DefaultStart, Block as BlockStart, If as IfStart, Switch as SwitchStart, While as WhileStart, Do as DoStart, For as ForBegin, Goto as GotoStart, Continue as ContinueStart, Break as BreakStart, Return as ReturnStart}
-use Rattle.c_parser.specs.StatementWords.{a_statement_word, begins_by_word, is_else_word, name_ahead, type_ahead, label_ahead, when_label}
+use Rattle.c_parser.specs.StatementWords.{a_statement_word, begins_by_word, name_ahead, type_ahead, label_ahead, when_label}
+use Rattle.c_parser.specs.UnitForms.{is_else_word}
 use Rattle.c_parser.specs.Parts.{Parts}
 use Rattle.c_parser.specs.StatementReading.{labelled, behind_word, worded, expressing, mistaken, unlabelled, named as named_reading, unnamed, statement_at, statement}
 use Rattle.c_parser.proofs.Looking.{name_is, moves, label_lawful, numbered_lawful, front_of_fault}

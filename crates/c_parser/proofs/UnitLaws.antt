@@ -112,7 +112,7 @@ one_external ds h n text x y i j = one_tree (external_reading ds h) (λ a. refl)
 
 -- external declarations one behind the other
 
-external_some : (ds : List Scope) (x : In ExternalTree) (n : ℕ) (t : List Lexeme) → IsExternal ds greatest_height x n t → 0 < length t
+pub external_some : (ds : List Scope) (x : In ExternalTree) (n : ℕ) (t : List Lexeme) → IsExternal ds greatest_height x n t → 0 < length t
 external_some ds x n t i = omega (arith, ap length i.spelled, by x.0)
   where
     by : (d : ExternalTree) → 0 < length (spell_external d)
@@ -298,7 +298,7 @@ one_start ts start stop other_start other_stop r s =
 
 -- each list of tokens has an answer
 
-some_more : (xs : List ExternalTree) (x : ExternalTree) → has_some (xs ++ x ∷ []) ≡ true
+pub some_more : (xs : List ExternalTree) (x : ExternalTree) → has_some (xs ++ x ∷ []) ≡ true
 some_more [] x = refl
 some_more (y ∷ ys) x = refl
 

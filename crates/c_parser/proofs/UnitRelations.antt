@@ -16,7 +16,7 @@ use Rattle.c_exprs.specs.Subs.{In}
 use Rattle.c_exprs.proofs.Laws.{Lawful, Any, Anywhere}
 use Rattle.c_exprs.proofs.Relations.{LawfulSubs, Below}
 use Rattle.c_exprs.proofs.InitLaws.{InitIs, EndsInit}
-use Rattle.c_parser.specs.StatementWords.{is_else_word}
+use Rattle.c_parser.specs.UnitForms.{is_else_word}
 use Rattle.c_parser.specs.Parts.{Parts}
 
 -- an expression or none

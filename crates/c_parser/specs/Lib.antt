@@ -7,3 +7,5 @@ pub mod ExternalReading
 pub mod UnitReading
 pub mod UnitForms
 pub mod UnitAnswers
+pub mod OwnList
+pub mod UnitStops

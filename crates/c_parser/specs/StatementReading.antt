@@ -12,7 +12,8 @@ use Rattle.c_exprs.specs.Classes.{is_sign, next_is, next_is_not, take, a_name}
 use Rattle.c_exprs.specs.Subs.{In, grow}
 use Rattle.c_parser.specs.declared.words.StatementWord.{StatementWord}
 use Rattle.c_parser.specs.declared.words.StatementWord.TheVariants.{Case as CaseStart, Default as DefaultStart, Block as BlockStart, If as IfStart, Switch as SwitchStart, While as WhileStart, Do as DoStart, For as ForBegin, Goto as GotoStart, Continue as ContinueStart, Break as BreakStart, Return as ReturnStart}
-use Rattle.c_parser.specs.StatementWords.{a_statement_word, begins_by_word, is_else_word, is_while_word, name_ahead, type_ahead, begins_declaration, when_label}
+use Rattle.c_parser.specs.StatementWords.{a_statement_word, begins_by_word, is_while_word, name_ahead, type_ahead, begins_declaration, when_label}
+use Rattle.c_parser.specs.UnitForms.{is_else_word}
 use Rattle.c_parser.specs.Parts.{Parts}
 
 -- an expression or none, and the punctuator behind it

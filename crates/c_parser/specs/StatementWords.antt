@@ -3,7 +3,7 @@ use Rattle.std.specs.Prelude.{Bool, true, false, ◌&&◌, ◌||◌, List, [], �
 use Rattle.cil_base.specs.declared.tokens.TokenKind.{TokenKind}
 use Rattle.cil_base.specs.declared.tokens.TokenKind.TheVariants.{Name as IsName, Keyword as IsKeyword, Integer as IsInteger, Character as IsCharacter, Literal as IsLiteral, Punctuator as IsPunctuator}
 use Rattle.cil_base.specs.declared.tokens.Keyword.{Keyword}
-use Rattle.cil_base.specs.declared.tokens.Keyword.TheVariants.{Break as BreakWord, Case as CaseWord, Continue as ContinueWord, Default as DefaultWord, Do as DoWord, Else as ElseWord, For as ForWord, Goto as GotoWord, If as IfWord, Return as ReturnWord, Switch as SwitchWord, While as WhileWord}
+use Rattle.cil_base.specs.declared.tokens.Keyword.TheVariants.{Break as BreakWord, Case as CaseWord, Continue as ContinueWord, Default as DefaultWord, Do as DoWord, For as ForWord, Goto as GotoWord, If as IfWord, Return as ReturnWord, Switch as SwitchWord, While as WhileWord}
 use Rattle.cil_base.specs.declared.tokens.Punctuator.{Punctuator}
 use Rattle.cil_base.specs.declared.tokens.Punctuator.TheVariants.{LeftBrace, Colon}
 use Rattle.typedef_scopes.specs.Scopes.{Scope, is_type}
@@ -46,10 +46,6 @@ a_statement_word u = plain statement_kind u
 
 abbrev pub begins_by_word : TokenKind → Bool
 begins_by_word k = is_some_of (statement_kind k)
-
-abbrev pub is_else_word : TokenKind → Bool
-is_else_word (IsKeyword ElseWord) = true
-is_else_word _ = false
 
 abbrev pub is_while_word : TokenKind → Bool
 is_while_word (IsKeyword WhileWord) = true

@@ -1,5 +1,8 @@
 -- Definition: the declarations, statements and external declarations that stand at a place between others, with the scopes behind them and the tokens that they spell; and what goes on behind each.
 use Rattle.std.specs.Prelude.{◌≡◌, ℕ, Bool, true, false, ◌&&◌, List, Option}
+use Rattle.cil_base.specs.declared.tokens.TokenKind.{TokenKind}
+use Rattle.cil_base.specs.declared.tokens.TokenKind.TheVariants.{Keyword as IsKeyword}
+use Rattle.cil_base.specs.declared.tokens.Keyword.TheVariants.{Else as ElseWord}
 use Rattle.typedef_scopes.specs.Scopes.{Scope}
 use Rattle.c_tree.specs.Units.{DeclarationTree, StmtTree, ExternalTree}
 use Rattle.c_tree.specs.Spelling.{Lexeme}
@@ -8,7 +11,6 @@ use Rattle.c_tree.specs.Levels.{takes_else}
 use Rattle.c_tree.specs.Scoped.{after_declaration, after_stmt, after_external}
 use Rattle.c_exprs.specs.Classes.{next_is}
 use Rattle.c_exprs.specs.Subs.{In}
-use Rattle.c_parser.specs.StatementWords.{is_else_word}
 use Rattle.c_parser.specs.Externals.{grammatical_declaration, grammatical_statement, grammatical_external}
 
 -- a declaration (6.7)
@@ -22,6 +24,10 @@ pub record IsStatement (scopes : List Scope) (height : ℕ) (x : In StmtTree) (n
   pub grammatical : grammatical_statement scopes height n x.0 ≡ true
   pub after : x.1 ≡ after_stmt scopes x.0
   pub spelled : text ≡ spell_stmt x.0
+
+abbrev pub is_else_word : TokenKind → Bool
+is_else_word (IsKeyword ElseWord) = true
+is_else_word _ = false
 
 -- an else behind a statement that ends in an if without else goes on (6.8.4.1p3)
 abbrev pub statement_goes : In StmtTree → Option Lexeme → Bool

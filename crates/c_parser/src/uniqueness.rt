@@ -4,14 +4,18 @@ ghost use Rattle.c_tree.specs.Units.{DeclarationTree, StmtTree, ExternalTree, Un
 ghost use Rattle.c_tree.specs.Spelling.{Lexeme};
 ghost use Rattle.c_tree.specs.UnitSpelling.{spell_unit};
 ghost use Rattle.c_tree.specs.Grammatical.{is_grammatical};
+ghost use Rattle.c_exprs.specs.Readers.{input};
 ghost use Rattle.c_exprs.specs.Subs.{In};
 ghost use Rattle.c_parser.specs.UnitAnswers.{RefusesUnit, UnitAnswer};
+ghost use Rattle.c_parser.specs.UnitStops.{AnswersUnit};
+ghost use Rattle.c_parser.specs.UnitReading.{unit};
 ghost use Rattle.c_parser.specs.UnitForms.{IsDeclaration, IsStatement, IsExternal};
 
 /// A law, which does nothing when it is called: each list of tokens is spelled by a grammatical unit or refused, with one token at which,
-/// behind whole external declarations, none begins (C11 6.9).
+/// behind whole external declarations, none begins (C11 6.9); and the reading of a whole unit tells which.
 pub fn one_answer()
     ensures answers { (ts : List Lexeme) → UnitAnswer ts }
+    ensures reading { (ts : List Lexeme) → AnswersUnit ts (unit (input 0 ts)) }
     ensures starts { (ts : List Lexeme) (start stop other_start other_stop : ℕ) → RefusesUnit ts start stop → RefusesUnit ts other_start other_stop → start ≡ other_start }
 {}
 

@@ -12,9 +12,9 @@ use Rattle.cil_meaning.proofs.ReadBack.{same_program}
 use Rattle.cil.specs.Execute.{IsNoText, IsRunAnswer, RanAs, RunSays, Tells}
 use Rattle.cil.specs.Lowering.{Merges}
 use Rattle.cil.specs.Command.{steps_asked}
-use Rattle.cil.specs.Merge.{unit_asked, IsMergeAnswer, IsRefused, IfRefused, not_built}
+use Rattle.cil.specs.Merge.{unit_asked, IsMergeAnswer, IsRefused, IsRefusedLike, IfRefused, not_built}
 use Rattle.cil.specs.Messages.{HasFiles, AreNames, Begins, names_asked, line_of}
-use Rattle.cil.proofs.Units.{not_both, same_refusal}
+use Rattle.cil.proofs.Units.{not_both, like_refusal}
 use Rattle.cil.specs.declared.status.Status.{Status}
 use Rattle.cil.specs.declared.status.Status.TheVariants.{Done, Exited, StillRunning, WentUndefined, Usage, Refused, NotCil, ReadFault, WriteFault, Memory}
 
@@ -44,13 +44,13 @@ accepted_by (Some unit) status names files out kind read write refused = λ e is
 
 -- of a file that is refused: what is written is a program that some unit is merged to
 refused_as : (status : Status) (unit : SourceFile) (refusal : Refusal) (names others : List (List ℕ)) (files : Type 0) → IsMergeAnswer status → (status ≡ ReadFault → files) → status ≢ Done → status ≢ WriteFault
-    → IfRefused status (λ r. IsRefused unit r names) → IsRefused unit refusal others → ¬ files → (status ≡ Refused refusal) ⊎ (status ≡ Memory)
+    → IfRefused status (λ r. IsRefused unit r names) → IsRefused unit refusal others → ¬ files → IsRefusedLike status refusal ⊎ (status ≡ Memory)
 refused_as Done unit refusal names others files kind read done write says is calm = absurd (done refl)
 refused_as (Exited s) unit refusal names others files kind read done write says is calm = absurd kind
 refused_as StillRunning unit refusal names others files kind read done write says is calm = absurd kind
 refused_as WentUndefined unit refusal names others files kind read done write says is calm = absurd kind
 refused_as Usage unit refusal names others files kind read done write says is calm = absurd kind
-refused_as (Refused r) unit refusal names others files kind read done write says is calm = inl (ap Refused (same_refusal unit r refusal names others says is))
+refused_as (Refused r) unit refusal names others files kind read done write says is calm = inl (r, refl, like_refusal unit r refusal names others says is)
 refused_as (NotCil k) unit refusal names others files kind read done write says is calm = absurd kind
 refused_as ReadFault unit refusal names others files kind read done write says is calm = absurd (calm (read refl))
 refused_as WriteFault unit refusal names others files kind read done write says is calm = absurd (write refl)
@@ -59,7 +59,7 @@ refused_as Memory unit refusal names others files kind read done write says is c
 pub refuses_by : (asked : Option SourceFile) (status : Status) (names : List (List ℕ)) (files : Type 0) → IsMergeAnswer status → (status ≡ ReadFault → files)
     → (status ≡ Done → IfSome asked (λ unit. (e : Expression) × IsUnit unit e)) → (status ≡ WriteFault → IfSome asked (λ unit. (e : Expression) × IsUnit unit e))
     → IfSome asked (λ unit. IfRefused status (λ refusal. IsRefused unit refusal names))
-    → IfSome asked (λ unit. (refusal : Refusal) (others : List (List ℕ)) → IsRefused unit refusal others → ¬ files → (status ≡ Refused refusal) ⊎ (status ≡ Memory))
+    → IfSome asked (λ unit. (refusal : Refusal) (others : List (List ℕ)) → IsRefused unit refusal others → ¬ files → IsRefusedLike status refusal ⊎ (status ≡ Memory))
 refuses_by None status names files kind read done write refused = tt
 refuses_by (Some unit) status names files kind read done write refused = λ refusal others is calm.
     refused_as status unit refusal names others files kind read (λ s. not_both unit (done s).0 refusal others (done s).1 is) (λ s. not_both unit (write s).0 refusal others (write s).1 is) refused is calm

@@ -7,6 +7,7 @@ pub mod Numbers
 pub mod Merging
 pub mod Pieces
 pub mod Printing
+pub mod SmallUnits
 pub mod Units
 pub mod Words
 pub mod Tokens

@@ -14,6 +14,7 @@ use Rattle.cil_meaning.specs.Program.{IsExp, IsProgram, depth}
 use Rattle.cil_meaning.specs.Meaning.{value_of, RunCil}
 use Rattle.cil.specs.Lowering.{lowered, Merges}
 use Rattle.cil.proofs.Lengths.{length-lowered}
+use Rattle.cil.proofs.SmallUnits.{small_is_grammatical}
 
 lowered-IsExp : (level : Level) (e : Expression) → IsAt level e → IsExp (lowered e)
 lowered-IsExp level (Constant value) at = at
@@ -42,7 +43,7 @@ same_run e env (suc steps) = ap (λ v. returned v []) (value_of-lowered e)
 
 pub lowered-Merges : (unit : SourceFile) (e : Expression) → IsUnit unit e → Merges unit (lowered e)
 lowered-Merges unit e is = record {
-  made = record { tree = e; unit_of = is; lowered_is = refl };
+  made = record { grammatical = small_is_grammatical unit e is; tree = e; unit_of = is; lowered_is = refl };
   program = lowered-IsProgram unit e is;
   short = length-lowered unit e is;
   allowed = λ f also env steps. subst (λ g. Allows (RunC g env steps) (RunCil (lowered e) env steps)) (same_expression unit e f is also) (inl (same_run e env steps));

@@ -1,17 +1,20 @@
 -- What was read of a file tells what becomes of the file: so many bytes that the limit was reached are too many for a unit.
-use Rattle.std.proofs.Common.{◌≡◌, ℕ, ◌<◌, ◌≤◌, List, [], ◌∷◌, ◌++◌, Option, Some, None, IfSome, length, length-append, append-nil, append_assoc, Result, Ok, Err, IfOk, ap, sym, subst, ◌∙◌, arith, refl}
-use Rattle.std.specs.Prelude.{option_map}
+use Rattle.std.proofs.Common.{◌≡◌, ℕ, ◌<◌, ◌≤◌, List, [], ◌∷◌, ◌++◌, Option, Some, None, IfSome, length, length-append, append-nil, append_assoc, Result, Ok, Err, IfOk, ap, sym, subst, ◌∙◌, arith, refl, Bool, true, false}
+use Rattle.std.specs.Prelude.{option_map, slice_get, ◌==◌, if◌then◌else◌}
+use Rattle.std.proofs.lemmas.Option.{same_Some}
 use Rattle.std.specs.List.{list_any}
 use Rattle.std.specs.Str.{bytes_eq}
 use Rattle.std.proofs.lemmas.Bool.{cond_both}
 use Rattle.cil_base.specs.NamePool.{interned, interned_all, Interns}
 use Rattle.cil_base.specs.declared.numbers.NameId.{NameId}
+use Rattle.cil_base.specs.declared.numbers.UnitNo.{UnitNo}
+use Rattle.cil_base.specs.declared.faults.Place.{Place}
 use Rattle.cil_base.specs.declared.faults.Stop.{Stop}
 use Rattle.cil_base.specs.declared.faults.Stop.TheVariants as stops
 use Rattle.cil_base.specs.declared.faults.Refusal.{Refusal}
 use Rattle.c_lexer.specs.declared.entries.Entry.{Entry}
 use Rattle.c_lexer.specs.declared.entries.Spot.{Spot}
-use Rattle.c_lexer.specs.Lexed.{Lexed, Gives, Grows, IfAnswered, IfRefused as IfStopped, IsTokenFault, IsTokenRefusal}
+use Rattle.c_lexer.specs.Lexed.{Lexed, Gives, Grows, IfAnswered, IfRefused as IfStopped, IsTokenFault, IsTokenRefusal, PlacesWithin, place_at, place_of}
 use Rattle.c_lexer.specs.Tokens.{Answer, IsAnswer, Whole, Refused}
 use Rattle.cil.specs.Messages.{Begins}
 use Rattle.c_lexer.proofs.Answered.{same_answer}
@@ -19,12 +22,18 @@ use Rattle.c_meaning.specs.SourceFile.{SourceFile, IsLexed, HasTokens, Spelled, 
 use Rattle.c_meaning.specs.Grammar.{Expression, IsUnit}
 use Rattle.c_meaning.specs.Reading.{reading}
 use Rattle.c_meaning.proofs.Units.{unit_reads}
+use Rattle.c_tree.specs.Units.{UnitTree}
+use Rattle.c_exprs.specs.Lexemes.{lexemes}
+use Rattle.c_parser.specs.UnitAnswers.{ReadsUnit, IsSyntaxFault}
+use Rattle.c_parser.proofs.UnitLaws.{one_start}
 use Rattle.cil_meaning.specs.Program.{Exp}
 use Rattle.cil.specs.Lowering.{Merges}
 use Rattle.cil_base.specs.declared.faults.Fault.{Fault}
 use Rattle.cil_base.specs.declared.faults.Fault.TheVariants.{Lexical, Excluded, Syntax, Constraint, Limit, Duplicate, Incompatible, NotBuilt}
-use Rattle.cil.specs.Merge.{IsMergeFault, IsFrontOf, IsNoUnit, IsRefused, Large, OfToken, NotOfForm, IfRefused, not_built, too_large}
-use Rattle.cil.specs.Merged.{file_in, IsAlone, IsOf, IsMergeRefusal}
+use Rattle.cil.specs.Grammatical.{AreTokens, IsGrammatical}
+use Rattle.cil.specs.Merge.{IsMergeFault, HasOther, IsFrontOf, IsNoUnit, IsRefused, Large, OfToken, OfGrammar, NotOfForm, IsLike, IfRefused, not_built, too_large}
+use Rattle.cil.specs.Merged.{file_in, IsAlone, IsMergeRefusal}
+use Rattle.cil.proofs.SmallUnits.{small_is_grammatical}
 use Rattle.cil.specs.declared.status.Status.{Status}
 use Rattle.cil.specs.declared.status.Status.TheVariants.{Done, Exited, StillRunning, WentUndefined, Usage, Refused as IsRefusal, NotCil, ReadFault, WriteFault, Memory}
 
@@ -47,7 +56,8 @@ merges_file name bytes file p front merges = same_file name bytes file (λ f. Me
 refused_file : (name bytes file : List ℕ) (names : List (List ℕ)) (refusal : Refusal) → IsFrontOf 4194305 bytes file → IsRefused (record { name = name; bytes = bytes }) refusal names → IsRefused (record { name = name; bytes = file }) refusal names
 refused_file name bytes file _ _ front (Large names large) = Large names (omega (arith, large, at_least 4194305 bytes file front))
 refused_file name bytes file _ _ front (OfToken refusal names small lexed) = same_file name bytes file (λ f. IsRefused f refusal names) front small (OfToken refusal names small lexed)
-refused_file name bytes file _ _ front (NotOfForm names tokens has none) = same_file name bytes file (λ f. IsRefused f not_built names) front has.small (NotOfForm names tokens has none)
+refused_file name bytes file _ _ front (OfGrammar refusal names tokens are fault) = same_file name bytes file (λ f. IsRefused f refusal names) front are.small (OfGrammar refusal names tokens are fault)
+refused_file name bytes file _ _ front (NotOfForm names reads none) = same_file name bytes file (λ f. IsRefused f not_built names) front reads.are.small (NotOfForm names reads none)
 
 -- of a file that may not be told
 pub merges_asked : (asked : Option (List ℕ)) (name bytes : List ℕ) (p : Exp) → IfSome asked (IsFrontOf 4194305 bytes) → Merges (record { name = name; bytes = bytes }) p
@@ -80,36 +90,115 @@ clash unit entries end names others refusal one two =
     let same : Whole entries end names ≡ Refused refusal others = same_answer (record { 0 = 0 }) (record { 0 = 0 }) (unit.name ∷ []) unit.bytes (Whole entries end names) (Refused refusal others) one two in
     cc
 
+no_token : (unit : SourceFile) (t : Lexed) (names others : List (List ℕ)) (refusal : Refusal) → AreTokens unit t names → IsLexed unit (Refused refusal others) → ⊥
+no_token unit t names others refusal are lexed = clash unit t.entries t.end names others refusal are.lexed lexed
+
+-- a file has one list of tokens
+
+abbrev lexed_of : List ℕ → UnitNo → List Entry → Spot → Lexed
+lexed_of source unit entries end = record { source = source; unit = unit; entries = entries; end = end }
+
+lexed_same : (t u : Lexed) → t.source ≡ u.source → t.unit ≡ u.unit → t.entries ≡ u.entries → t.end ≡ u.end → t ≡ u
+lexed_same t u source unit entries end =
+    let same : lexed_of t.source t.unit t.entries t.end ≡ lexed_of u.source u.unit u.entries u.end = cc in
+    same
+
+same_tokens : (unit : SourceFile) (t u : Lexed) (names others : List (List ℕ)) → AreTokens unit t names → AreTokens unit u others → t ≡ u
+same_tokens unit t u names others one two =
+    let same : Whole t.entries t.end names ≡ Whole u.entries u.end others = same_answer (record { 0 = 0 }) (record { 0 = 0 }) (unit.name ∷ []) unit.bytes (Whole t.entries t.end names) (Whole u.entries u.end others) one.lexed two.lexed in
+    let entries : t.entries ≡ u.entries = cc in
+    let end : t.end ≡ u.end = cc in
+    lexed_same t u (one.source ∙ sym two.source) (one.unit ∙ sym two.unit) entries end
+
+not_grammatical : (unit : SourceFile) (t : Lexed) (names : List (List ℕ)) (refusal : Refusal) → AreTokens unit t names → IsSyntaxFault t refusal → IsGrammatical unit → ⊥
+not_grammatical unit t names refusal are fault reads =
+    fault.refuses.no_unit reads.tree (subst (λ u. ReadsUnit (lexemes u) reads.tree) (same_tokens unit reads.tokens t reads.names names reads.are are) reads.reads)
+
 pub not_both : (unit : SourceFile) (e : Expression) (refusal : Refusal) (names : List (List ℕ)) → IsUnit unit e → IsRefused unit refusal names → ⊥
 not_both unit e _ _ is (Large names large) = omega (arith, is.tokens.small, large)
 not_both unit e _ _ is (OfToken refusal names small lexed) = clash unit is.tokens.entries is.tokens.end is.tokens.names names refusal is.tokens.lexed lexed
-not_both unit e _ _ is (NotOfForm names tokens has none) = none e is
+not_both unit e _ _ is (OfGrammar refusal names tokens are fault) = not_grammatical unit tokens names refusal are fault (small_is_grammatical unit e is)
+not_both unit e _ _ is (NotOfForm names grammatical none) = none e is
 
-pub same_refusal : (unit : SourceFile) (one two : Refusal) (names others : List (List ℕ)) → IsRefused unit one names → IsRefused unit two others → one ≡ two
-same_refusal unit _ _ _ _ (Large names large) (Large others also) = refl
-same_refusal unit _ _ _ _ (Large names large) (OfToken two others small lexed) = absurd (omega (arith, large, small))
-same_refusal unit _ _ _ _ (Large names large) (NotOfForm others tokens has none) = absurd (omega (arith, large, has.small))
-same_refusal unit _ _ _ _ (OfToken one names small lexed) (Large others large) = absurd (omega (arith, large, small))
-same_refusal unit _ _ _ _ (OfToken one names small lexed) (OfToken two others low also) =
+like_itself : (one two : Refusal) → one ≡ two → IsLike one two
+like_itself one two same = record { fault = ap (λ (r : Refusal). r.fault) same; at = ap (λ (r : Refusal). r.at) same; other = λ no. ap (λ (r : Refusal). r.other) same }
+
+-- two syntax faults of one list of tokens begin at one token
+same_start : (t : Lexed) (one two : Refusal) → IsSyntaxFault t one → IsSyntaxFault t two → IsLike one two
+same_start t one two first second =
+    let start : first.start ≡ second.start = one_start (lexemes t) first.start first.stop second.start second.stop first.refuses second.refuses in
+    let places : Some one.at ≡ Some two.at = sym first.at ∙ (ap (place_at t) start ∙ second.at) in
+    record { fault = first.fault ∙ sym second.fault; at = same_Some one.at two.at places; other = λ no. absurd (no first.fault) }
+
+pub like_refusal : (unit : SourceFile) (one two : Refusal) (names others : List (List ℕ)) → IsRefused unit one names → IsRefused unit two others → IsLike one two
+like_refusal unit _ _ _ _ (Large names large) (Large others also) = like_itself too_large too_large refl
+like_refusal unit _ _ _ _ (Large names large) (OfToken two others small lexed) = absurd (omega (arith, large, small))
+like_refusal unit _ _ _ _ (Large names large) (OfGrammar two others tokens are fault) = absurd (omega (arith, large, are.small))
+like_refusal unit _ _ _ _ (Large names large) (NotOfForm others reads none) = absurd (omega (arith, large, reads.are.small))
+like_refusal unit _ _ _ _ (OfToken one names small lexed) (Large others large) = absurd (omega (arith, large, small))
+like_refusal unit _ _ _ _ (OfToken one names small lexed) (OfToken two others low also) =
     let same : Refused one names ≡ Refused two others = same_answer (record { 0 = 0 }) (record { 0 = 0 }) (unit.name ∷ []) unit.bytes (Refused one names) (Refused two others) lexed also in
-    cc
-same_refusal unit _ _ _ _ (OfToken one names small lexed) (NotOfForm others tokens has none) = absurd (clash unit has.entries has.end has.names names one has.lexed lexed)
-same_refusal unit _ _ _ _ (NotOfForm names tokens has none) (Large others large) = absurd (omega (arith, large, has.small))
-same_refusal unit _ _ _ _ (NotOfForm names tokens has none) (OfToken two others small lexed) = absurd (clash unit has.entries has.end has.names others two has.lexed lexed)
-same_refusal unit _ _ _ _ (NotOfForm names tokens has none) (NotOfForm others more also nor) = refl
+    like_itself one two cc
+like_refusal unit _ _ _ _ (OfToken one names small lexed) (OfGrammar two others tokens are fault) = absurd (no_token unit tokens others names one are lexed)
+like_refusal unit _ _ _ _ (OfToken one names small lexed) (NotOfForm others reads none) = absurd (no_token unit reads.tokens reads.names names one reads.are lexed)
+like_refusal unit _ _ _ _ (OfGrammar one names tokens are fault) (Large others large) = absurd (omega (arith, large, are.small))
+like_refusal unit _ _ _ _ (OfGrammar one names tokens are fault) (OfToken two others small lexed) = absurd (no_token unit tokens names others two are lexed)
+like_refusal unit _ _ _ _ (OfGrammar one names tokens are fault) (OfGrammar two others more also wrong) =
+    same_start tokens one two fault (subst (λ u. IsSyntaxFault u two) (same_tokens unit more tokens others names also are) wrong)
+like_refusal unit _ _ _ _ (OfGrammar one names tokens are fault) (NotOfForm others reads none) = absurd (not_grammatical unit tokens names one are fault reads)
+like_refusal unit _ _ _ _ (NotOfForm names reads none) (Large others large) = absurd (omega (arith, large, reads.are.small))
+like_refusal unit _ _ _ _ (NotOfForm names reads none) (OfToken two others small lexed) = absurd (no_token unit reads.tokens reads.names others two reads.are lexed)
+like_refusal unit _ _ _ _ (NotOfForm names reads none) (OfGrammar two others tokens are fault) = absurd (not_grammatical unit tokens others two are fault reads)
+like_refusal unit _ _ _ _ (NotOfForm names reads none) (NotOfForm others also nor) = like_itself not_built not_built refl
+
+-- what the parser says of the first unit
+
+pub refused_by_grammar : {A : Type 0} (r : Result A Stop) (file : SourceFile) (t : Lexed) (names : List (List ℕ)) → AreTokens file t names → IfStopped r (IsSyntaxFault t) → IfStopped r (λ refusal. IsRefused file refusal names)
+refused_by_grammar (Ok a) file t names are says = tt
+refused_by_grammar (Err (stops.Refused refusal)) file t names are says = OfGrammar refusal names t are says
+refused_by_grammar (Err stops.Memory) file t names are says = tt
+
+entry_unit : (unit : UnitNo) (i : ℕ) (o : Option Entry) (place : Place) → option_map (λ (e : Entry). place_of unit i e.file e.line) o ≡ Some place → place.unit ≡ unit
+entry_unit unit i None place is = let none : None ≡ Some place = is in cc
+entry_unit unit i (Some e) place is = sym (ap (λ (p : Place). p.unit) (same_Some (place_of unit i e.file e.line) place is))
+
+-- a place has the unit's number
+place_unit : (t : Lexed) (i : ℕ) (place : Place) → place_at t i ≡ Some place → place.unit ≡ t.unit
+place_unit t i place is = by (i == length t.entries) is
+  where
+    by : (b : Bool) → (if b then Some (place_of t.unit i t.end.file t.end.line) else option_map (λ (e : Entry). place_of t.unit i e.file e.line) (slice_get t.entries i)) ≡ Some place → place.unit ≡ t.unit
+    by true is = sym (ap (λ (p : Place). p.unit) (same_Some (place_of t.unit i t.end.file t.end.line) place is))
+    by false is = entry_unit t.unit i (slice_get t.entries i) place is
+
+grammar_fault : (file : SourceFile) (t : Lexed) (names : List (List ℕ)) (count : ℕ) (refusal : Refusal) → AreTokens file t names → PlacesWithin count t → IsSyntaxFault t refusal → IsMergeRefusal count refusal
+grammar_fault file t names count refusal are within fault = record {
+  fault = subst IsMergeFault (sym fault.fault) tt;
+  unit = place_unit t fault.start refusal.at fault.at ∙ are.unit;
+  file = within fault.start refusal.at fault.at;
+  other = subst (λ f. HasOther f refusal.other) (sym fault.fault) (fault.other, fault.told, place_unit t fault.stop fault.other fault.behind ∙ are.unit);
+  other_file = λ place is. within fault.stop place (fault.behind ∙ (sym fault.told ∙ is));
+}
+
+pub grammar_refusal : {A : Type 0} (r : Result A Stop) (file : SourceFile) (t : Lexed) (names : List (List ℕ)) (count : ℕ) → AreTokens file t names → PlacesWithin count t → IfStopped r (IsSyntaxFault t) → IfStopped r (IsMergeRefusal count)
+grammar_refusal (Ok a) file t names count are within says = tt
+grammar_refusal (Err (stops.Refused refusal)) file t names count are within says = grammar_fault file t names count refusal are within says
+grammar_refusal (Err stops.Memory) file t names count are within says = tt
 
 -- what the reading finds in the tokens of a file
 
-has_tokens : (file : SourceFile) (t : Lexed) (names : List (List ℕ)) → IsOf file t names → HasTokens file (spelled_in t.source t.entries)
-has_tokens file t names of = record { small = of.small; entries = t.entries; end = t.end; names = names; lexed = of.lexed; are = ap (λ bs. spelled_in bs t.entries) (sym of.source) }
+has_tokens : (file : SourceFile) (t : Lexed) (names : List (List ℕ)) → AreTokens file t names → HasTokens file (spelled_in t.source t.entries)
+has_tokens file t names are = record { small = are.small; entries = t.entries; end = t.end; names = names; lexed = are.lexed; are = ap (λ bs. spelled_in bs t.entries) (sym are.source) }
 
-pub found_unit : (file : SourceFile) (t : Lexed) (names : List (List ℕ)) (e : Expression) → IsOf file t names → reading (spelled_in t.source t.entries) ≡ Some e → IsUnit file e
-found_unit file t names e of is = (unit_reads file (spelled_in t.source t.entries) e (has_tokens file t names of)).1 is
+pub found_unit : (file : SourceFile) (t : Lexed) (names : List (List ℕ)) (e : Expression) → AreTokens file t names → reading (spelled_in t.source t.entries) ≡ Some e → IsUnit file e
+found_unit file t names e are is = (unit_reads file (spelled_in t.source t.entries) e (has_tokens file t names are)).1 is
 
-pub found_none : (file : SourceFile) (t : Lexed) (names : List (List ℕ)) → IsOf file t names → reading (spelled_in t.source t.entries) ≡ None → IsRefused file not_built names
-found_none file t names of is =
-    NotOfForm names (spelled_in t.source t.entries) (has_tokens file t names of)
-    (λ e unit. let some : reading (spelled_in t.source t.entries) ≡ Some e = (unit_reads file (spelled_in t.source t.entries) e (has_tokens file t names of)).0 unit in cc)
+pub found_none : (file : SourceFile) (t : Lexed) (names : List (List ℕ)) → AreTokens file t names → IsGrammatical file → reading (spelled_in t.source t.entries) ≡ None → IsRefused file not_built names
+found_none file t names are reads is =
+    NotOfForm names reads
+    (λ e unit. let some : reading (spelled_in t.source t.entries) ≡ Some e = (unit_reads file (spelled_in t.source t.entries) e (has_tokens file t names are)).0 unit in cc)
+
+pub found_tree : (file : SourceFile) (t : Lexed) (names : List (List ℕ)) (tree : UnitTree) → AreTokens file t names → ReadsUnit (lexemes t) tree → IsGrammatical file
+found_tree file t names tree are reads = record { tokens = t; names = names; are = are; tree = tree; reads = reads }
 
 -- the pool only grows
 
@@ -153,38 +242,40 @@ refused_by_tokens r (name ∷ []) unit file others alone zero_is small answered 
 refused_by_tokens r (name ∷ other ∷ names) unit file others alone zero_is small answered = absurd alone
 
 lexed_tokens : (r : Result Lexed Stop) (name unit : List ℕ) (others : List (List ℕ)) (answer : Answer) → length unit ≤ 4194304 → IsAnswer (record { 0 = 0 }) (record { 0 = 0 }) (name ∷ []) unit answer → Gives r unit (record { 0 = 0 }) others answer
-    → IfOk r (λ t. IsOf (record { name = name; bytes = unit }) t others)
-lexed_tokens (Ok t) name unit others answer small is gives = record { small = small; source = gives.1; lexed = subst (IsAnswer (record { 0 = 0 }) (record { 0 = 0 }) (name ∷ []) unit) gives.0 is }
+    → IfOk r (λ t. AreTokens (record { name = name; bytes = unit }) t others)
+lexed_tokens (Ok t) name unit others answer small is gives = record { small = small; source = gives.1; unit = gives.2; lexed = subst (IsAnswer (record { 0 = 0 }) (record { 0 = 0 }) (name ∷ []) unit) gives.0 is }
 lexed_tokens (Err stop) name unit others answer small is gives = tt
 
 pub has_by_tokens : (r : Result Lexed Stop) (names : List (List ℕ)) (unit : List ℕ) (file : NameId) (others : List (List ℕ)) → IsAlone names → file.0 ≡ 0 → length unit ≤ 4194304
-    → IfAnswered (λ answer. Gives r unit (record { 0 = 0 }) others answer) (IsAnswer (record { 0 = 0 }) file names unit) → IfOk r (λ t. IsOf (file_in names unit) t others)
+    → IfAnswered (λ answer. Gives r unit (record { 0 = 0 }) others answer) (IsAnswer (record { 0 = 0 }) file names unit) → IfOk r (λ t. AreTokens (file_in names unit) t others)
 has_by_tokens r [] unit file others alone zero_is small answered = absurd alone
 has_by_tokens r (name ∷ []) unit file others alone zero_is small answered =
     lexed_tokens r name unit others answered.0 small (subst (λ (f : NameId). IsAnswer (record { 0 = 0 }) f (name ∷ []) unit answered.0) (first_is file zero_is) answered.1) answered.2
 has_by_tokens r (name ∷ other ∷ names) unit file others alone zero_is small answered = absurd alone
 
 pub not_built_is : (count : ℕ) → 0 < count → IsMergeRefusal count not_built
-not_built_is count within = record { fault = tt; unit = refl; file = within; other = refl }
+not_built_is count within = record { fault = tt; unit = refl; file = within; other = refl; other_file = λ place e. let none : None ≡ Some place = e in cc }
 
 pub too_large_is : (count : ℕ) → 0 < count → IsMergeRefusal count too_large
-too_large_is count within = record { fault = tt; unit = refl; file = within; other = refl }
+too_large_is count within = record { fault = tt; unit = refl; file = within; other = refl; other_file = λ place e. let none : None ≡ Some place = e in cc }
 
 -- a refusal of tokens is one of `merge`
 
-merge_fault : (fault : Fault) → IsTokenFault fault → IsMergeFault fault
-merge_fault Lexical is = tt
-merge_fault (Excluded feature) is = tt
-merge_fault Syntax is = absurd is
-merge_fault (Constraint code) is = absurd is
-merge_fault (Limit what) is = tt
-merge_fault Duplicate is = absurd is
-merge_fault Incompatible is = absurd is
-merge_fault NotBuilt is = absurd is
+merge_fault : (fault : Fault) (other : Option Place) → IsTokenFault fault → other ≡ None → IsMergeFault fault × HasOther fault other
+merge_fault Lexical other is none = (tt, none)
+merge_fault (Excluded feature) other is none = (tt, none)
+merge_fault Syntax other is none = absurd is
+merge_fault (Constraint code) other is none = absurd is
+merge_fault (Limit what) other is none = (tt, none)
+merge_fault Duplicate other is none = absurd is
+merge_fault Incompatible other is none = absurd is
+merge_fault NotBuilt other is none = absurd is
 
 pub token_refusal : (r : Result Lexed Stop) (count : ℕ) → IfStopped r (IsTokenRefusal (record { 0 = 0 }) count) → IfStopped r (IsMergeRefusal count)
 token_refusal (Ok t) count is = tt
-token_refusal (Err (stops.Refused refusal)) count is = record { fault = merge_fault refusal.fault is.fault; unit = is.unit; file = is.file; other = is.other }
+token_refusal (Err (stops.Refused refusal)) count is =
+    let both : IsMergeFault refusal.fault × HasOther refusal.fault refusal.other = merge_fault refusal.fault refusal.other is.fault is.other in
+    record { fault = both.0; unit = is.unit; file = is.file; other = both.1; other_file = λ place e. let some : None ≡ Some place = sym is.other ∙ e in cc }
 token_refusal (Err stops.Memory) count is = tt
 
 -- the pool of a file's name alone

@@ -8,6 +8,7 @@ use Rattle.c_meaning.specs.Meaning.{RunC}
 use Rattle.cil_meaning.specs.Program.{Exp, Const, Bin, IsProgram}
 use Rattle.cil_meaning.specs.Meaning.{RunCil}
 use Rattle.cil_meaning.specs.Text.{Text}
+use Rattle.cil.specs.Grammatical.{IsGrammatical}
 
 -- the expression without its parentheses, each operator over its lowered operands
 abbrev pub lowered : Expression → Exp
@@ -15,8 +16,9 @@ lowered (Constant value) = Const value
 lowered (Parentheses inner) = lowered inner
 lowered (Binary op left right) = Bin op (lowered left) (lowered right)
 
--- the program is made of the unit
+-- the program is made of the unit, which is grammatical and of the form
 pub record Made (unit : SourceFile) (p : Exp) : Type 0 where
+  pub grammatical : IsGrammatical unit
   pub tree : Expression
   pub unit_of : IsUnit unit tree
   pub lowered_is : p ≡ lowered tree

@@ -1,16 +1,19 @@
 -- Definition: what `merge` answers (own).
-use Rattle.std.specs.Prelude.{◌≡◌, ℕ, ◌<◌, ◌≤◌, List, [], ◌++◌, length, Option, None}
+use Rattle.std.specs.Prelude.{◌≡◌, ◌≢◌, ℕ, ◌<◌, ◌≤◌, List, [], ◌++◌, length, Option, Some, None}
 use Rattle.std.specs.Option.{option_and_then, option_map}
 use Rattle.cil_base.specs.declared.faults.Fault.{Fault}
-use Rattle.cil_base.specs.declared.faults.Fault.TheVariants.{NotBuilt, Limit}
+use Rattle.cil_base.specs.declared.faults.Fault.TheVariants.{NotBuilt, Limit, Syntax}
+use Rattle.cil_base.specs.declared.faults.Place.{Place}
 use Rattle.cil_base.specs.declared.faults.What.TheVariants.{UnitBytes}
 use Rattle.cil_base.specs.declared.faults.Refusal.{Refusal}
-use Rattle.c_lexer.specs.Lexed.{IsTokenFault}
+use Rattle.c_lexer.specs.Lexed.{Lexed, IsTokenFault}
 use Rattle.c_lexer.specs.Tokens.{Refused}
-use Rattle.c_meaning.specs.SourceFile.{SourceFile, IsLexed, HasTokens, Spelled}
+use Rattle.c_meaning.specs.SourceFile.{SourceFile, IsLexed}
 use Rattle.c_meaning.specs.Grammar.{Expression, IsUnit}
+use Rattle.c_parser.specs.UnitAnswers.{IsSyntaxFault}
 use Rattle.outside.specs.Named.{Told, find_file}
 use Rattle.cil.specs.Command.{merged_file}
+use Rattle.cil.specs.Grammatical.{AreTokens, IsGrammatical}
 use Rattle.cil.specs.declared.status.Status.{Status}
 use Rattle.cil.specs.declared.status.Status.TheVariants.{Done, Exited, StillRunning, WentUndefined, Usage, Refused as IsRefusal, NotCil, ReadFault, WriteFault, Memory}
 
@@ -39,29 +42,46 @@ too_large = refused_first (Limit UnitBytes)
 abbrev pub not_built : Refusal
 not_built = refused_first NotBuilt
 
--- why a file is refused, with the names that its places' files are numbers in: it has too many bytes, or a token of it is refused, or its tokens are not of the form
+-- why a file is refused, with the names that its places' files are numbers in: it has too many bytes, or a token of it is refused, or no grammatical unit spells its tokens, or one does that is not of the form
 pub data IsRefused (unit : SourceFile) : Refusal → List (List ℕ) → Type 0 where
   Large : (names : List (List ℕ)) → 4194304 < length unit.bytes → IsRefused unit too_large names
   OfToken : (refusal : Refusal) (names : List (List ℕ)) → length unit.bytes ≤ 4194304 → IsLexed unit (Refused refusal names) → IsRefused unit refusal names
-  NotOfForm : (names : List (List ℕ)) (tokens : List Spelled) → HasTokens unit tokens → IsNoUnit unit → IsRefused unit not_built names
+  OfGrammar : (refusal : Refusal) (names : List (List ℕ)) (tokens : Lexed) → AreTokens unit tokens names → IsSyntaxFault tokens refusal → IsRefused unit refusal names
+  NotOfForm : (names : List (List ℕ)) → IsGrammatical unit → IsNoUnit unit → IsRefused unit not_built names
+
+-- the same fault at the same place. Of a syntax fault the place behind may be another one: no external declaration begins with the tokens up to a later one either
+pub record IsLike (one two : Refusal) : Type 0 where
+  pub fault : one.fault ≡ two.fault
+  pub at : one.at ≡ two.at
+  pub other : one.fault ≢ Syntax → one.other ≡ two.other
 
 -- the faults of `merge`
 abbrev pub IsMergeFault : Fault → Type 0
 IsMergeFault NotBuilt = Unit {0}
+IsMergeFault Syntax = Unit {0}
 IsMergeFault fault = IsTokenFault fault
 
--- the statuses that `merge` answers; a refusal is of the first unit and has one place
+-- a syntax fault has a second place, in the first unit, and no other fault of `merge` has one
+abbrev pub HasOther : Fault → Option Place → Type 0
+HasOther Syntax other = (place : Place) × (other ≡ Some place) × (place.unit ≡ record { 0 = 0 })
+HasOther fault other = other ≡ None
+
+-- the statuses that `merge` answers; a refusal is of the first unit
 abbrev pub IsMergeAnswer : Status → Type 0
 IsMergeAnswer Done = Unit {0}
 IsMergeAnswer (Exited status) = ⊥
 IsMergeAnswer StillRunning = ⊥
 IsMergeAnswer WentUndefined = ⊥
 IsMergeAnswer Usage = ⊥
-IsMergeAnswer (IsRefusal refusal) = IsMergeFault refusal.fault × (refusal.at.unit ≡ record { 0 = 0 }) × (refusal.other ≡ None)
+IsMergeAnswer (IsRefusal refusal) = IsMergeFault refusal.fault × (refusal.at.unit ≡ record { 0 = 0 }) × HasOther refusal.fault refusal.other
 IsMergeAnswer (NotCil byte) = ⊥
 IsMergeAnswer ReadFault = Unit {0}
 IsMergeAnswer WriteFault = Unit {0}
 IsMergeAnswer Memory = Unit {0}
+
+-- the status is a refusal like that one
+abbrev pub IsRefusedLike : Status → Refusal → Type 0
+IsRefusedLike status refusal = (like : Refusal) × (status ≡ IsRefusal like) × IsLike like refusal
 
 -- what a refusal says
 abbrev pub IfRefused : Status → (Refusal → Type 0) → Type 0

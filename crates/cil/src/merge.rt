@@ -1,13 +1,14 @@
 ghost use Rattle.std.specs.Prelude.{◌≡◌, ◌≢◌, ◌≤◌, ◌⊎◌, None, [], ◌∷◌, length, IfOk, IfSome};
-ghost use Rattle.c_lexer.specs.Lexed.{Grows, IfRefused as IfStopped};
+ghost use Rattle.c_lexer.specs.Lexed.{Grows, PlacesWithin, IfRefused as IfStopped};
 ghost use Rattle.cil_meaning.specs.Program.{Exp};
 ghost use Rattle.cil_meaning.specs.Text.{Text, IsTextOf};
 ghost use Rattle.outside.specs.Counts.{Rose};
 ghost use Rattle.outside.specs.Moves.{Began, Wrote};
 ghost use Rattle.outside.specs.Named.{find_file, names_of};
+ghost use Rattle.cil.specs.Grammatical.{AreTokens, IsGrammatical};
 ghost use Rattle.cil.specs.Lowering.{Merges};
 ghost use Rattle.cil.specs.Merge.{bytes_under, file_under, IsFrontOf, IsMergeAnswer, IsRefused, IfRefused};
-ghost use Rattle.cil.specs.Merged.{file_in, IsAlone, IsOf, IsMergeRefusal};
+ghost use Rattle.cil.specs.Merged.{file_in, IsAlone, IsMergeRefusal};
 ghost use Rattle.cil.specs.Messages.{HasFiles, Begins};
 
 use crate::file::{read_file, refused_first};
@@ -16,6 +17,7 @@ use crate::printer::print;
 use crate::reader::unit_of;
 use crate::status::Status;
 use c_lexer::{Tokens, lex};
+use c_parser::parse;
 use cil_base::{Fault, NameId, NamePool, Stop, UnitNo, What};
 use outside::{Files, ReadStop, Sink, write_all};
 use std::alloc::Global;
@@ -35,7 +37,8 @@ fn unit_tokens<'a>(
 ) -> Result<Tokens<'a>, Stop>
     requires first { file.0 ≡ 0 }
     requires alone { IsAlone names.old }
-    ensures tokens { IfOk result (λ t. IsOf (file_in names.old unit.now) t names.new) }
+    ensures tokens { IfOk result (λ t. AreTokens (file_in names.old unit.now) t names.new) }
+    ensures places { IfOk result (PlacesWithin (length names.new)) }
     ensures refused { IfStopped result (λ refusal. IsRefused (file_in names.old unit.now) refusal names.new) }
     ensures refusal { IfStopped result (IsMergeRefusal (length names.new)) }
     ensures pool { Grows names.old names.new }
@@ -44,6 +47,26 @@ fn unit_tokens<'a>(
         return Err(Stop::Refused(refused_first(Fault::Limit(What::UnitBytes), file)));
     }
     lex(alloc, unit, UnitNo(0), file, names)
+}
+
+// The tokens of the first unit, where it is grammatical; its file is the only name of the pool.
+fn grammatical_tokens<'a>(
+    alloc: Global,
+    unit: &'a [u8],
+    file: NameId,
+    names: &mut NamePool,
+) -> Result<Tokens<'a>, Stop>
+    requires first { file.0 ≡ 0 }
+    requires alone { IsAlone names.old }
+    ensures tokens { IfOk result (λ t. AreTokens (file_in names.old unit.now) t names.new) }
+    ensures grammatical { IfOk result (λ t. IsGrammatical (file_in names.old unit.now)) }
+    ensures refused { IfStopped result (λ refusal. IsRefused (file_in names.old unit.now) refusal names.new) }
+    ensures refusal { IfStopped result (IsMergeRefusal (length names.new)) }
+    ensures pool { Grows names.old names.new }
+{
+    let tokens = unit_tokens(alloc, unit, file, names)?;
+    parse(alloc, &tokens)?;
+    Ok(tokens)
 }
 
 // The text of the program that the first unit is merged to.
@@ -60,7 +83,7 @@ fn merged_text(
     ensures refusal { IfStopped result (IsMergeRefusal (length names.new)) }
     ensures pool { Grows names.old names.new }
 {
-    let tokens = unit_tokens(alloc, unit, file, names)?;
+    let tokens = grammatical_tokens(alloc, unit, file, names)?;
     let Some(tree) = unit_of(alloc, &tokens)? else {
         return Err(Stop::Refused(refused_first(Fault::NotBuilt, file)));
     };

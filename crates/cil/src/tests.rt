@@ -19,6 +19,8 @@ const USAGE: &str =
 
 const NOT_BUILT: &str = "cil: a.c:1: not built\n";
 
+const SYNTAX: &str = "cil: a.c:1: syntax fault, stopped at a.c:1\n";
+
 // What a command answered: its exit status, what it wrote and what it told.
 #[derive(Drop)]
 struct Answer {
@@ -63,7 +65,7 @@ fn owned(alloc: Global, words: &[&str]) -> Result<Vec<String>, Fail> {
     Ok(owned)
 }
 
-// Units, and the text of the expression that their program returns, or none where they are not of the form.
+// Grammatical units, and the text of the expression that their program returns, or none where they are not of the form.
 fn units() -> &'static [(&'static [u8], &'static str)] {
     &[
         (b"int main(void) { return 2 + 3; }", "( 2 + 3 )"),
@@ -76,11 +78,16 @@ fn units() -> &'static [(&'static [u8], &'static str)] {
             b"# 7 \"main.c\"\nint /* the\nstart */ main(void)\n{ return 1; // one\n}",
             "1",
         ),
-        (b"", ""),
-        (b"int main(void) { return 1--1; }", ""),
         (b"int main(void) { return 2147483648; }", ""),
         (b"int main(void) { return 007; }", ""),
+        (b"int main(void) { return 1 - -1; }", ""),
+        (b"int main(void) { return 1; } int main(void);", ""),
         (b"# 9 \"other.c\"\nint x;", ""),
+        (b"int f(a, b) int b; { return a; }", ""),
+        (
+            b"typedef int T; int main(void) { int r; { int T = 6, x = 7; T * x; r = T * x; } { T * x = 0; return r + (x == 0); } }",
+            "",
+        ),
     ]
 }
 
@@ -100,6 +107,75 @@ fn merges_units_of_the_form_and_no_others(rt: HostRuntime) -> Result<(), Fail> {
         assert_eq!(rt; answer.status, status, "{unit:?}");
         assert_eq!(rt; answer.written.as_slice(), written.as_bytes(), "{unit:?}");
         assert_eq!(rt; answer.told.as_slice(), told.as_bytes(), "{unit:?}");
+    }
+    Ok(())
+}
+
+// Units whose tokens no grammatical unit spells, and where they begin and stop.
+fn ungrammatical() -> &'static [(&'static [u8], &'static str, &'static str)] {
+    &[
+        (b"", "a.c:1", "a.c:1"),
+        (b"\n\n", "a.c:3", "a.c:3"),
+        (b";", "a.c:1", "a.c:1"),
+        // a token a line: the number of the token is the line less one
+        (b"int\na\n;\nint\nb\nc\n;", "a.c:4", "a.c:6"),
+        (b"int\na\n;\nint\nb", "a.c:4", "a.c:5"),
+        (b"int\na\n;\nint\nb\n", "a.c:4", "a.c:6"),
+        (b"int\nmain(void)\n{ return\n1--\n1; }", "a.c:1", "a.c:5"),
+        // behind line markers, also where the two places are in two files
+        (b"int a;\n# 7 \"x.h\"\nint b\nc;", "x.h:7", "x.h:8"),
+        (b"int b\n# 7 \"x.h\"\nc;", "a.c:1", "x.h:7"),
+        (b"# 7 \"x.h\"\nint b\n# 3 \"a.c\" 2\nc;", "x.h:7", "a.c:3"),
+        // a statement expression, a label as a value and a case range, which C11 has not
+        (
+            b"int a;\nint f(void) { return (\n{ 1; }); }",
+            "a.c:2",
+            "a.c:3",
+        ),
+        (b"int a;\nint f(void) { l: return\n&&l; }", "a.c:2", "a.c:3"),
+        (
+            b"int a;\nint f(int x) { switch (x) { case 1\n... 2: return 1; } return 0; }",
+            "a.c:2",
+            "a.c:3",
+        ),
+    ]
+}
+
+#[test]
+fn tells_where_units_are_not_grammatical(rt: HostRuntime) -> Result<(), Fail> {
+    let alloc = rt.alloc();
+    for (unit, start, stop) in ungrammatical() {
+        let answer = answer_to(alloc, &["merge", "a.c"], unit, &[], &[], &[])?;
+        let line = format!(in alloc; "cil: {start}: syntax fault, stopped at {stop}\n")?;
+        assert_eq!(rt; answer.status, 65, "{unit:?}");
+        assert_eq!(rt; answer.written.as_slice(), b"".as_slice(), "{unit:?}");
+        assert_eq!(rt; answer.told.as_slice(), line.as_bytes(), "{unit:?}");
+    }
+    Ok(())
+}
+
+// The unit whose main returns a constant in so many pairs of parentheses.
+fn in_parentheses(alloc: Global, pairs: usize) -> Result<Vec<u8>, Fail> {
+    let mut unit = b"int main(void) { return ".to_vec(alloc)?;
+    for _ in 0..pairs {
+        unit.push(b'(')?;
+    }
+    unit.push(b'0')?;
+    for _ in 0..pairs {
+        unit.push(b')')?;
+    }
+    unit.extend_from_slice(b"; }")?;
+    Ok(unit)
+}
+
+#[test]
+fn tells_a_unit_that_is_too_high(rt: HostRuntime) -> Result<(), Fail> {
+    let alloc = rt.alloc();
+    for (pairs, status, told) in [(508, 0, ""), (509, 65, SYNTAX)] {
+        let unit = in_parentheses(alloc, pairs)?;
+        let answer = answer_to(alloc, &["merge", "a.c"], &unit, &[], &[], &[])?;
+        assert_eq!(rt; answer.status, status, "{pairs}");
+        assert_eq!(rt; answer.told.as_slice(), told.as_bytes(), "{pairs}");
     }
     Ok(())
 }
@@ -189,7 +265,7 @@ fn long() -> &'static [(&'static str, u8, usize, u8, &'static str)] {
         (SUM, b' ', 4_194_272, 0, ""),
         (SUM, b' ', 4_194_273, 65, "cil: a.c:1: limit: unit bytes\n"),
         ("@", b' ', 4_194_304, 65, "cil: a.c:1: limit: unit bytes\n"),
-        ("int ", b'a', 1024, 65, NOT_BUILT),
+        ("int ", b'a', 1024, 65, SYNTAX),
         ("int\n", b'a', 1025, 65, "cil: a.c:2: limit: name bytes\n"),
     ]
 }

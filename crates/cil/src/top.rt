@@ -14,7 +14,7 @@ ghost use Rattle.cil.specs.Answers.{IsAnswerTo};
 ghost use Rattle.cil.specs.Command.{command_of, file_of, bound_of, steps_asked};
 ghost use Rattle.cil.specs.Execute.{text_asked, IsNoText, IsRunAnswer, RunSays, Tells};
 ghost use Rattle.cil.specs.Lowering.{Merges};
-ghost use Rattle.cil.specs.Merge.{unit_asked, bytes_under, IsMergeAnswer, IsRefused, IfRefused, not_built};
+ghost use Rattle.cil.specs.Merge.{unit_asked, bytes_under, IsMergeAnswer, IsRefused, IsRefusedLike, IfRefused, not_built};
 ghost use Rattle.cil.specs.Messages.{line_of, AreNames, IsQuiet, HasFiles};
 ghost use Rattle.cil.specs.Sent.{Sent};
 
@@ -32,8 +32,10 @@ use std::alloc::Global;
 /// `merge FILE` reads the file as a C translation unit and writes the text of the CIL program that it is merged to. Where it is
 /// `Done`, out took the whole text of a program that is made of the unit and whose run is, in every environment and at every bound
 /// of steps, one that the unit's run allows. Where no call on the files failed it is `Refused` exactly for the first of these: the
-/// unit has more than 4,194,304 bytes; a token of it is a lexical fault, excluded or a name that is too long; its tokens are not
-/// those of the form `int main(void) { return E; }`. Then, as in each other case but `Done` and `WriteFault`, out took nothing.
+/// unit has more than 4,194,304 bytes; a token of it is a lexical fault, excluded or a name that is too long; no grammatical unit
+/// (C11 6.9) spells its tokens; they are not those of the form `int main(void) { return E; }`. A unit that is not grammatical has two
+/// places: that of the token at which, behind whole external declarations, none begins, and that of one up to which none does.
+/// Then, as in each other case but `Done` and `WriteFault`, out took nothing.
 ///
 /// `run [--steps N] FILE [ARG...]` reads the file as a CIL text and runs its program: it is `Exited`, `StillRunning` or
 /// `WentUndefined` as the program's run in every environment is, bounded by N steps. It is `Refused` exactly where no call on the
@@ -57,7 +59,7 @@ pub fn cil<F: Files, I: Source, O: Sink, E: Sink>(
     ensures done { result ≡ Status.Done → (p : Exp) × IsTextOf (Text p) p × Wrote (O.taken out.old) (O.taken out.new) (Text p) × IfSome (unit_asked (F.told files.old) (map string_bytes words.now)) (λ unit. Merges unit p) }
     ensures accepted { IfSome (unit_asked (F.told files.old) (map string_bytes words.now)) (λ unit. (e : Expression) → IsUnit unit e → ¬ (Rose (F.faults files.old) (F.faults files.new)) → ¬ (Rose (O.faults out.old) (O.faults out.new)) → (result ≡ Status.Done) ⊎ (result ≡ Status.Memory)) }
     ensures refused { IfSome (unit_asked (F.told files.old) (map string_bytes words.now)) (λ unit. IfRefused result (λ refusal. (names : List (List ℕ)) × IsRefused unit refusal names)) }
-    ensures refuses { IfSome (unit_asked (F.told files.old) (map string_bytes words.now)) (λ unit. (refusal : Refusal) (names : List (List ℕ)) → IsRefused unit refusal names → ¬ (Rose (F.faults files.old) (F.faults files.new)) → (result ≡ Status.Refused refusal) ⊎ (result ≡ Status.Memory)) }
+    ensures refuses { IfSome (unit_asked (F.told files.old) (map string_bytes words.now)) (λ unit. (refusal : Refusal) (names : List (List ℕ)) → IsRefused unit refusal names → ¬ (Rose (F.faults files.old) (F.faults files.new)) → IsRefusedLike result refusal ⊎ (result ≡ Status.Memory)) }
 
     // Where a write failed, out took a front of the text of such a program.
     ensures part { result ≡ Status.WriteFault → (p : Exp) × IsTextOf (Text p) p × Began (O.taken out.old) (O.taken out.new) (Text p) × IfSome (unit_asked (F.told files.old) (map string_bytes words.now)) (λ unit. Merges unit p) }
@@ -120,7 +122,7 @@ fn run_command<F: Files, I: Source, O: Sink>(
     ensures files { HasFiles (length names.new) result }
     ensures done { result ≡ Status.Done → (p : Exp) × IsTextOf (Text p) p × Wrote (O.taken out.old) (O.taken out.new) (Text p) × IfSome (unit_asked (F.told files.old) (map string_bytes words.now)) (λ unit. Merges unit p) }
     ensures accepted { IfSome (unit_asked (F.told files.old) (map string_bytes words.now)) (λ unit. (e : Expression) → IsUnit unit e → ¬ (Rose (F.faults files.old) (F.faults files.new)) → ¬ (Rose (O.faults out.old) (O.faults out.new)) → (result ≡ Status.Done) ⊎ (result ≡ Status.Memory)) }
-    ensures refuses { IfSome (unit_asked (F.told files.old) (map string_bytes words.now)) (λ unit. (refusal : Refusal) (names : List (List ℕ)) → IsRefused unit refusal names → ¬ (Rose (F.faults files.old) (F.faults files.new)) → (result ≡ Status.Refused refusal) ⊎ (result ≡ Status.Memory)) }
+    ensures refuses { IfSome (unit_asked (F.told files.old) (map string_bytes words.now)) (λ unit. (refusal : Refusal) (names : List (List ℕ)) → IsRefused unit refusal names → ¬ (Rose (F.faults files.old) (F.faults files.new)) → IsRefusedLike result refusal ⊎ (result ≡ Status.Memory)) }
     ensures refused { IfSome (unit_asked (F.told files.old) (map string_bytes words.now)) (λ unit. IfRefused result (λ refusal. (others : List (List ℕ)) × IsRefused unit refusal others)) }
     ensures runs { IfSome (text_asked (F.told files.old) (map string_bytes words.now)) (λ bytes. (p : Exp) → IsTextOf bytes p → ¬ (Rose (F.faults files.old) (F.faults files.new)) → ((env : Env) → Tells result (RunCil p env (steps_asked (map string_bytes words.now)))) ⊎ (result ≡ Status.Memory)) }
     ensures no_text { IfSome (text_asked (F.told files.old) (map string_bytes words.now)) (λ bytes. IsNoText bytes → ¬ (Rose (F.faults files.old) (F.faults files.new)) → (result ≡ Status.Refused not_built) ⊎ (result ≡ Status.Memory)) }
@@ -165,7 +167,7 @@ fn merge_words<F: Files, O: Sink>(
     ensures files { HasFiles (length names.new) result }
     ensures done { result ≡ Status.Done → (p : Exp) × IsTextOf (Text p) p × Wrote (O.taken out.old) (O.taken out.new) (Text p) × IfSome (unit_asked (F.told files.old) (map string_bytes words.now)) (λ unit. Merges unit p) }
     ensures accepted { IfSome (unit_asked (F.told files.old) (map string_bytes words.now)) (λ unit. (e : Expression) → IsUnit unit e → ¬ (Rose (F.faults files.old) (F.faults files.new)) → ¬ (Rose (O.faults out.old) (O.faults out.new)) → (result ≡ Status.Done) ⊎ (result ≡ Status.Memory)) }
-    ensures refuses { IfSome (unit_asked (F.told files.old) (map string_bytes words.now)) (λ unit. (refusal : Refusal) (names : List (List ℕ)) → IsRefused unit refusal names → ¬ (Rose (F.faults files.old) (F.faults files.new)) → (result ≡ Status.Refused refusal) ⊎ (result ≡ Status.Memory)) }
+    ensures refuses { IfSome (unit_asked (F.told files.old) (map string_bytes words.now)) (λ unit. (refusal : Refusal) (names : List (List ℕ)) → IsRefused unit refusal names → ¬ (Rose (F.faults files.old) (F.faults files.new)) → IsRefusedLike result refusal ⊎ (result ≡ Status.Memory)) }
     ensures refused { IfSome (unit_asked (F.told files.old) (map string_bytes words.now)) (λ unit. IfRefused result (λ refusal. (others : List (List ℕ)) × IsRefused unit refusal others)) }
     ensures part { result ≡ Status.WriteFault → (p : Exp) × IsTextOf (Text p) p × Began (O.taken out.old) (O.taken out.new) (Text p) × IfSome (unit_asked (F.told files.old) (map string_bytes words.now)) (λ unit. Merges unit p) }
     ensures read { result ≡ Status.ReadFault → Rose (F.faults files.old) (F.faults files.new) }

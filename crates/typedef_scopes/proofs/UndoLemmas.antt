@@ -174,6 +174,21 @@ seen_declared outer inner new n b e = ap (λ s. map (map pair_of) outer ++ s ∷
 pub more_than_one : (outer : List (List Declaration)) (s : Scope) → 2 ≤ length (map (map pair_of) outer ++ s ∷ []) → 0 < length outer
 more_than_one outer s h = omega (arith, simp (length-append, length-map) at h)
 
+two_seen : (more : List (List Declaration)) (s : Scope) → 1 ≤ length more → 2 ≤ length (map (map pair_of) more ++ s ∷ [])
+two_seen [] s h = absurd (omega (arith, h))
+two_seen (t ∷ []) s h = omega arith
+two_seen (t ∷ u ∷ ts) s h = omega (arith, two_seen (u ∷ ts) s (omega arith))
+
+one_entered : (outer : List (List Declaration)) (inner : List Declaration) → 1 ≤ length (outer ++ inner ∷ [])
+one_entered [] inner = omega arith
+one_entered (t ∷ ts) inner = omega arith
+
+-- where a scope was opened, there are two at least
+pub two_opened : {X E : Type 0} (r : Result X E) (outer more : List (List Declaration)) (inner new : List Declaration) →
+    OnOk r ((more ≡ outer ++ inner ∷ []) × (new ≡ [])) → OnOk r (2 ≤ length (map (map pair_of) more ++ map pair_of new ∷ []))
+two_opened (Ok x) outer more inner new ok = two_seen more (map pair_of new) (subst (λ m. 1 ≤ length m) (sym ok.0) (one_entered outer inner))
+two_opened (Err e) outer more inner new ok = tt
+
 pub step_opened : {X E : Type 0} (r : Result X E) (table : List Bool) (outer more : List (List Declaration)) (inner new : List Declaration) →
     OnOk r ((more ≡ outer ++ inner ∷ []) × (new ≡ [])) → OnErr r ((more ≡ outer) × (new ≡ inner)) → InStep table outer inner → InStep table more new
 step_opened (Ok x) table outer more inner new ok err i = step_entered table outer more inner new ok.0 ok.1 i

@@ -46,6 +46,7 @@ impl Scopes {
     #[tactic(auto, using(crate::proofs::UndoLemmas::step_entered, crate::proofs::UndoLemmas::seen_entered))]
     pub fn enter(&mut self) -> Result<(), Memory>
         ensures ok { OnOk result (self.new ≡ self.old ++ [] ∷ []) }
+        ensures room { OnOk result (2 ≤ length self.new) }
         ensures err { OnErr result (self.new ≡ self.old) }
     {
         open_scope(self.alloc, &mut self.outer, &mut self.inner)

@@ -13,16 +13,16 @@ use Rattle.cil.proofs.merge.merged_text.Goals as goal
 pub returns-in_default-clause-refused : goal.returns-in_default-clause-refused
 returns-in_default-clause-refused c =
     let none : None ≡ reading (spelled_in c.in_ok-tokens.tokens.source c.in_ok-tokens.tokens.entries) = rw c.in_default.is at c.in_ok-tree.ensures in
-    subst (λ refusal. IsRefused (file_in c.args.names.now c.args.unit.now) refusal c.unit_tokens.new.names) (sym c.refused_first.ensures)
-    (found_none (file_in c.args.names.now c.args.unit.now) c.in_ok-tokens.tokens c.unit_tokens.new.names c.in_ok-tokens.ensures.tokens (sym none))
+    subst (λ refusal. IsRefused (file_in c.args.names.now c.args.unit.now) refusal c.grammatical_tokens.new.names) (sym c.refused_first.ensures)
+    (found_none (file_in c.args.names.now c.args.unit.now) c.in_ok-tokens.tokens c.grammatical_tokens.new.names c.in_ok-tokens.ensures.tokens c.in_ok-tokens.ensures.grammatical (sym none))
 
 pub returns-in_default-clause-refusal : goal.returns-in_default-clause-refusal
 returns-in_default-clause-refusal c =
-    let within : 0 < length c.unit_tokens.new.names = first_within c.args.names.now c.unit_tokens.new.names c.requires.alone c.unit_tokens.ensures.pool in
-    subst (IsMergeRefusal (length c.unit_tokens.new.names)) (sym c.refused_first.ensures) (not_built_is (length c.unit_tokens.new.names) within)
+    let within : 0 < length c.grammatical_tokens.new.names = first_within c.args.names.now c.grammatical_tokens.new.names c.requires.alone c.grammatical_tokens.ensures.pool in
+    subst (IsMergeRefusal (length c.grammatical_tokens.new.names)) (sym c.refused_first.ensures) (not_built_is (length c.grammatical_tokens.new.names) within)
 
 pub returns-clause-merged : goal.returns-clause-merged
 returns-clause-merged c =
     let some : Some (expression_of c.in-Some.tree) ≡ reading (spelled_in c.in_ok-tokens.tokens.source c.in_ok-tokens.tokens.entries) = rw c.in-Some.is at c.in_ok-tree.ensures in
-    let is = found_unit (file_in c.args.names.now c.args.unit.now) c.in_ok-tokens.tokens c.unit_tokens.new.names (expression_of c.in-Some.tree) c.in_ok-tokens.ensures.tokens (sym some) in
+    let is = found_unit (file_in c.args.names.now c.args.unit.now) c.in_ok-tokens.tokens c.grammatical_tokens.new.names (expression_of c.in-Some.tree) c.in_ok-tokens.ensures.tokens (sym some) in
     (lowered (expression_of c.in-Some.tree), lowered-Merges (file_in c.args.names.now c.args.unit.now) (expression_of c.in-Some.tree) is, c.in_ok-text.ensures ∙ ap Text c.in_ok-program.ensures)

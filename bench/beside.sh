@@ -1,0 +1,49 @@
+# What a merge of a preprocessed unit costs beside gcc -fsyntax-only, and how it grows: instruction counts by callgrind, and peak memory,
+# at 1, 2 and 4 MiB. Read by lex.sh and parse.sh. Needs python3, gcc, valgrind and GNU time.
+
+# The instructions of a command and of the processes that it starts.
+instructions() {
+    valgrind --tool=callgrind --callgrind-out-file=/dev/null --trace-children=yes "$@" 2>&1 >/dev/null |
+        awk '/Collected : / { sum += $NF } END { printf "%.0f\n", sum }'
+}
+
+# Compares the program with gcc. NAME: who complains; PROGRAM; BEHIND: what is put behind the unit that gcc reads; TOLD: how the line on
+# standard error ends, by which it is seen that the program went so far and no further; the most instructions for each of gcc's, and
+# bytes of memory for each byte of the unit.
+beside() {
+    name=$1 program=$2 behind=$3 told=$4 most=$5 bytes=$6
+    folder=$(mktemp -d) || return 1
+    trap 'rm -rf "$folder"' EXIT
+    status=0
+    printf '%4s %15s %15s %9s %7s %12s %11s\n' MiB instructions "gcc's" 'of gcc' ratio 'peak bytes' 'bytes/byte'
+    before=0
+    for mib in 1 2 4; do
+        theirs=$folder/gcc-$mib.c unit=$folder/unit-$mib.c
+        "$(dirname "$0")/unit.py" $mib >"$theirs" || return 1
+        gcc -std=c11 -fsyntax-only "$theirs" || return 1
+        { cat "$theirs" && printf '%s' "$behind"; } >"$unit"
+        line=$("$program" merge "$unit" 2>&1 >/dev/null)
+        case $line in
+        *": $told") ;;
+        *)
+            echo "$name: at $mib MiB the program tells '$line', not $told"
+            status=1
+            ;;
+        esac
+        count=$(instructions "$program" merge "$unit")
+        gcc=$(instructions gcc -std=c11 -fsyntax-only "$theirs")
+        peak=$(/usr/bin/time -f %M "$program" merge "$unit" 2>&1 >/dev/null | tail -n 1)
+        size=$(stat -c %s "$unit")
+        awk -v n="$name" -v most="$most" -v bytes="$bytes" -v m="$mib" -v c="$count" -v g="$gcc" -v b="$before" -v p="$peak" -v s="$size" 'BEGIN {
+            r = b > 0 ? sprintf("%.2f", c / b) : "-"
+            printf "%4d %15.0f %15.0f %9.3f %7s %12.0f %11.1f\n", m, c, g, c / g, r, p * 1024, p * 1024 / s
+            if (c == 0 || g == 0) { print n ": nothing was counted at " m " MiB"; bad = 1 }
+            if (c > most * g) { print n ": more than " most " of the instructions of gcc at " m " MiB"; bad = 1 }
+            if (b > 0 && c > 2.1 * b) { print n ": " m " MiB take more than 2.1 times the instructions of half of it"; bad = 1 }
+            if (p * 1024 > bytes * s) { print n ": more than " bytes " bytes of memory a byte at " m " MiB"; bad = 1 }
+            exit bad
+        }' || status=1
+        before=$count
+    done
+    return $status
+}
