@@ -25,6 +25,3 @@ pub use operators::{compute, compute_unary, convert};
 pub use pointers::{ObjName, Pointer};
 pub use stores::Store;
 pub use values::{Byte, Cells, Scalar, Value};
-
-#[cfg(test)]
-mod tests;

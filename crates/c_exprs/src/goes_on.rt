@@ -4,13 +4,12 @@ ghost use Rattle.c_exprs.specs.Readers.{head};
 ghost use Rattle.c_exprs.specs.GoesOn.{goes_on_by, goes_on_level, goes_on_expr, goes_on_typed, goes_on_specifiers, goes_on_name, goes_on_absent, goes_on_kind, goes_on_declarator, goes_on_type, goes_on_type_name};
 
 use crate::cursor::Cursor;
-use crate::levels::rank;
 use crate::operators::{operator_level, operator_sign};
 use crate::pieces::piece_word;
 use crate::signs::{is_name, is_sign};
 use crate::words::{DeclaratorForm, Operator};
 use c_lexer::TokenList;
-use c_tree::Level;
+use c_tree::{Level, rank};
 use cil_base::{Punctuator, TokenKind};
 use typedef_scopes::Scopes;
 

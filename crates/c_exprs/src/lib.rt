@@ -20,7 +20,6 @@ mod enumerators;
 mod expressions;
 mod goes_on;
 mod initialisers;
-mod levels;
 mod list_builders;
 mod literals;
 mod members;
@@ -47,11 +46,8 @@ pub use literals::some_literals;
 pub use nexts::{at_assert, at_name, at_other, at_sign};
 pub use stops::ParseStop;
 pub use takes::{take_assert, take_name, take_sign, taken};
-pub use told::{has_typedef, is_underived, name_of};
+pub use told::{has_typedef, name_of};
 pub use uniqueness::one_tree;
 pub use words::{
     DeclaratorForm, Derivation, Designation, Joint, Operator, Piece, SpecifierForm, Start,
 };
-
-#[cfg(test)]
-mod tests;

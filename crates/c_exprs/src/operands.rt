@@ -9,7 +9,6 @@ ghost use Rattle.c_exprs.specs.ExprReading.{in_parentheses, compound, behind_par
 use crate::below::{expr_below, literal_below, parenthesised_below};
 use crate::builders::{parentheses_of, prefix_of, sizeof_of, unary_of};
 use crate::cursor::Cursor;
-use crate::levels::rank;
 use crate::literals::literals_from;
 use crate::nexts::{at_sign, at_type};
 use crate::stops::ParseStop;
@@ -18,7 +17,7 @@ use crate::type_names::{braced, type_name_closed};
 use crate::typed_builders::{alignof_of, cast_of, compound_of, sizeof_type_of};
 use crate::words::Start;
 use c_lexer::TokenList;
-use c_tree::{Expr, Level, TypeName, UnaryOp};
+use c_tree::{Expr, Level, TypeName, UnaryOp, rank};
 use cil_base::{Bytes, Punctuator};
 use std::alloc::Global;
 use typedef_scopes::Scopes;
@@ -88,14 +87,14 @@ pub(crate) fn behind_parenthesis<L: TokenList>(
     if !at_type(c, s) {
         return in_parentheses(alloc, c, s, height, at);
     }
-    if rank(level) < 1 {
+    if rank(level) < rank(Level::Postfix) {
         return Err(ParseStop::At(c.position()));
     }
     let (t, t_height) = type_name_closed(alloc, c, s, height)?;
     if at_sign(c, Punctuator::LeftBrace) {
         return compound(alloc, c, s, height, at, t, t_height);
     }
-    if rank(level) < 3 {
+    if rank(level) < rank(Level::Cast) {
         return Err(ParseStop::At(c.position()));
     }
     let (operand, operand_height) = expr_below(alloc, c, s, height, Level::Cast)?;

@@ -3,9 +3,10 @@ ghost use Rattle.c_tree.specs.View.{expr_of};
 ghost use Rattle.c_tree.specs.Height.{expr_height};
 ghost use Rattle.c_exprs.specs.Classes.{fitting, joint_level, joint_left, joint_right, operator_level, operator_left, operator_sign, operator_kind, operator_fits};
 
-use crate::levels::{binary_level, is_within, logical_level, rank, tighter};
 use crate::words::{Joint, Operator};
-use c_tree::{Expr, Level, LogicalOp, StepOp};
+use c_tree::{
+    Expr, Level, LogicalOp, StepOp, binary_level, is_within, logical_level, rank, tighter,
+};
 use cil_base::{BinOp, Punctuator, TokenKind};
 
 fn joint_level(joint: Joint) -> Level

@@ -3,9 +3,8 @@ ghost use Rattle.typedef_scopes.specs.Scopes.{is_type};
 ghost use Rattle.c_exprs.specs.declared.words.Start.TheVariants.{Name as NameStart};
 ghost use Rattle.c_exprs.specs.Classes.{if_so, fitting, step_sign_kind, start_word_kind, start_kind, start_fits};
 
-use crate::levels::rank;
 use crate::words::Start;
-use c_tree::{Level, StepOp, UnaryOp};
+use c_tree::{Level, StepOp, UnaryOp, rank};
 use cil_base::{Keyword, NameId, Punctuator, TokenKind};
 use typedef_scopes::Scopes;
 
@@ -70,10 +69,10 @@ fn start_fits(height: u32, level: Level, start: Start) -> bool
         Start::Character => height >= 1,
         Start::Literal => height >= 1,
         Start::Parenthesis => height >= 2,
-        Start::Step(_) => height >= 2 && rank(level) >= 2,
-        Start::Unary(_) => height >= 2 && rank(level) >= 2,
-        Start::Sizeof => height >= 2 && rank(level) >= 2,
-        Start::Alignof => height >= 2 && rank(level) >= 2,
+        Start::Step(_) => height >= 2 && rank(level) >= rank(Level::Unary),
+        Start::Unary(_) => height >= 2 && rank(level) >= rank(Level::Unary),
+        Start::Sizeof => height >= 2 && rank(level) >= rank(Level::Unary),
+        Start::Alignof => height >= 2 && rank(level) >= rank(Level::Unary),
     }
 }
 

@@ -1,6 +1,5 @@
 ghost use Rattle.std.specs.Prelude.{◌≡◌, ◌||◌};
 ghost use Rattle.c_tree.specs.View.{specifier_of, specifiers_of, declarator_of};
-ghost use Rattle.c_tree.specs.Levels.{declares, is_absent, is_underived};
 ghost use Rattle.c_tree.specs.Scoped.{names_type, has_type_specifier, is_typedef_word, is_typedef, has_typedef, name_of};
 
 use c_tree::{Declarator, Specifier, StorageClass};
@@ -18,51 +17,6 @@ pub fn name_of(d: &Declarator) -> Option<NameId>
         Declarator::Array(_, d, _) => name_of(d),
         Declarator::Function(_, d, _, _) => name_of(d),
         Declarator::Identifiers(_, d, _) => name_of(d),
-    }
-}
-
-/// Whether a declarator declares an identifier (C11 6.7.6).
-pub(crate) fn declares(d: &Declarator) -> bool
-    ensures { result ≡ declares (declarator_of d.now) }
-{
-    match d {
-        Declarator::Name(..) => true,
-        Declarator::Absent(_) => false,
-        Declarator::Parentheses(_, d) => declares(d),
-        Declarator::Pointer(_, _, d) => declares(d),
-        Declarator::Array(_, d, _) => declares(d),
-        Declarator::Function(_, d, _, _) => declares(d),
-        Declarator::Identifiers(_, d, _) => declares(d),
-    }
-}
-
-/// Whether a declarator is an identifier, perhaps in parentheses.
-pub fn is_underived(d: &Declarator) -> bool
-    ensures { result ≡ is_underived (declarator_of d.now) }
-{
-    match d {
-        Declarator::Name(..) => true,
-        Declarator::Absent(_) => false,
-        Declarator::Parentheses(_, d) => is_underived(d),
-        Declarator::Pointer(..) => false,
-        Declarator::Array(..) => false,
-        Declarator::Function(..) => false,
-        Declarator::Identifiers(..) => false,
-    }
-}
-
-/// Whether nothing stands where a declarator may stand.
-pub(crate) fn is_absent(d: &Declarator) -> bool
-    ensures { result ≡ is_absent (declarator_of d.now) }
-{
-    match d {
-        Declarator::Absent(_) => true,
-        Declarator::Name(..) => false,
-        Declarator::Parentheses(..) => false,
-        Declarator::Pointer(..) => false,
-        Declarator::Array(..) => false,
-        Declarator::Function(..) => false,
-        Declarator::Identifiers(..) => false,
     }
 }
 

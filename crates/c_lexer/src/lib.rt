@@ -31,6 +31,3 @@ pub use lexer::lex;
 pub use pieces::{Kind, Raw, Sign};
 pub use token_list::TokenList;
 pub use tokens::Tokens;
-
-#[cfg(test)]
-mod tests;

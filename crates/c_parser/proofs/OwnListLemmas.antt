@@ -1,5 +1,5 @@
 -- Lists that are gone through while scopes change.
-use Rattle.std.proofs.Common.{◌≡◌, refl, sym, ◌∙◌, ap, ℕ, zero, suc, ◌+◌, ◌<◌, ◌≤◌, Bool, true, false, not, nat_eq, ◌||◌, List, [], ◌∷◌, drop, length, get_or, arith, add-one}
+use Rattle.std.proofs.Common.{◌≡◌, refl, sym, ◌∙◌, ap, ℕ, zero, suc, ◌+◌, ◌<◌, ◌≤◌, false, List, [], ◌∷◌, drop, length, get_or, arith, add-one}
 use Rattle.std.proofs.Math.Seq.{drop-cons}
 use Rattle.cil_base.specs.declared.numbers.NameId.{NameId}
 use Rattle.typedef_scopes.specs.Scopes.{Scope, declared}
@@ -12,10 +12,8 @@ use Rattle.c_tree.specs.declared.expression.Enumerator.{Enumerator}
 use Rattle.c_tree.specs.declared.expression.InitItem.{InitItem}
 use Rattle.c_tree.specs.declared.expression.Parameter.{Parameter}
 use Rattle.c_tree.specs.View.{expr_of, exprs_of, specifier_of, specifiers_of, member_of, members_of, member_declarator_of, member_declarators_of, designator_of, designators_of, enumerator_of, enumerators_of, item_of, items_of, parameter_of, parameters_of}
-use Rattle.c_tree.specs.Levels.{has_some}
-use Rattle.c_tree.specs.Scoped.{is_typedef, has_typedef, declared_all, after_expr, after_exprs, after_specifier, after_specifiers, after_member, after_members, after_member_declarator, after_member_declarators, after_designator, after_designators, after_enumerator, after_enumerators, after_item, after_items, after_parameter, after_parameters}
-use Rattle.c_tree.proofs.ToldLemmas.{some_is}
-use Rattle.c_parser.specs.OwnList.{folded, Reaches, Untold}
+use Rattle.c_tree.specs.Scoped.{declared_all, after_expr, after_exprs, after_specifier, after_specifiers, after_member, after_members, after_member_declarator, after_member_declarators, after_designator, after_designators, after_enumerator, after_enumerators, after_item, after_items, after_parameter, after_parameters}
+use Rattle.c_parser.specs.OwnList.{folded, Reaches}
 
 drop_at : {A : Type 0} (xs : List A) (i : ℕ) (d : A) → i < length xs → drop i xs ≡ get_or xs i d ∷ drop (i + 1) xs
 drop_at xs i d lt = rw add-one (drop-cons xs i d lt)
@@ -75,33 +73,3 @@ fold_parameters ds (x ∷ xs) = fold_parameters (after_parameter ds (parameter_o
 pub fold_names : (ds : List Scope) (xs : List NameId) → folded (λ s n. declared n false s) ds xs ≡ declared_all ds xs
 fold_names ds [] = refl
 fold_names ds (n ∷ ns) = fold_names (declared n false ds) ns
-
--- whether one of the specifiers is `typedef`
-
-abbrev tells : List Specifier → Bool
-tells xs = has_typedef (specifiers_of xs)
-
-pub typedef_start : (xs : List Specifier) → Untold (λ ys. has_typedef (specifiers_of ys)) xs 0
-unfolding Untold
-typedef_start xs = refl
-
-tells_first : (xs : List Specifier) (i : ℕ) (x : Specifier) → i < length xs → x ≡ get_or xs i x → tells (drop i xs) ≡ (is_typedef (specifier_of x) || tells (drop (i + 1) xs))
-tells_first xs i x lt is = ap tells (drop_at xs i x lt ∙ ap (λ y. y ∷ drop (i + 1) xs) (sym is))
-
-pub typedef_here : (xs : List Specifier) (i : ℕ) (x : Specifier) (here : Bool) → i < length xs → x ≡ get_or xs i x → here ≡ is_typedef (specifier_of x) → here ≡ true → Untold (λ ys. has_typedef (specifiers_of ys)) xs i → true ≡ has_typedef (specifiers_of xs)
-unfolding Untold
-typedef_here xs i x here lt is e met r = ap (λ b. b || tells (drop (i + 1) xs)) (sym met ∙ e) ∙ (sym (tells_first xs i x lt is) ∙ r)
-
-pub typedef_step : (xs : List Specifier) (i : ℕ) (x : Specifier) (here : Bool) → i < length xs → x ≡ get_or xs i x → here ≡ is_typedef (specifier_of x) → here ≡ false → Untold (λ ys. has_typedef (specifiers_of ys)) xs i → Untold (λ ys. has_typedef (specifiers_of ys)) xs (i + 1)
-unfolding Untold
-typedef_step xs i x here lt is e unmet r = ap (λ b. b || tells (drop (i + 1) xs)) (sym unmet ∙ e) ∙ (sym (tells_first xs i x lt is) ∙ r)
-
-pub typedef_end : (xs : List Specifier) (i : ℕ) → length xs ≤ i → Untold (λ ys. has_typedef (specifiers_of ys)) xs i → false ≡ has_typedef (specifiers_of xs)
-unfolding Untold
-typedef_end xs i le r = ap tells (sym (drop_all xs i le)) ∙ r
-
--- a list that has some
-
-pub some_listed : {A : Type 0} (xs : List A) (e : Bool) → e ≡ nat_eq (length xs) 0 → not e ≡ has_some xs
-some_listed [] e is = ap not is
-some_listed (x ∷ xs) e is = ap not (is ∙ some_is (length xs))

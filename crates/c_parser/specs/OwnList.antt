@@ -1,5 +1,5 @@
 -- Device: scopes that the code has reached when it went through the first places of a list.
-use Rattle.std.specs.Prelude.{◌≡◌, ℕ, Bool, List, [], ◌∷◌, drop}
+use Rattle.std.specs.Prelude.{◌≡◌, ℕ, List, [], ◌∷◌, drop}
 use Rattle.typedef_scopes.specs.Scopes.{Scope}
 
 -- the scopes behind a list, each of whose elements changes them so
@@ -10,7 +10,3 @@ folded f scopes (x ∷ xs) = folded f (f scopes x) xs
 -- `now` are the scopes behind the first i places, where `start` are those in front of the list
 unfoldable pub Reaches : {A : Type 0} → (List Scope → A → List Scope) → List Scope → List A → ℕ → List Scope → Type 0
 Reaches f start xs i now = folded f now (drop i xs) ≡ folded f start xs
-
--- the test of a list is that of what stands behind the first i places
-unfoldable pub Untold : {A : Type 0} → (List A → Bool) → List A → ℕ → Type 0
-Untold test xs i = test (drop i xs) ≡ test xs

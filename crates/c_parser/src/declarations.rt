@@ -11,9 +11,12 @@ ghost use Rattle.c_parser.specs.DeclarationReading.{assert_end, static_assert, i
 ghost use Rattle.c_parser.specs.UnitReading.{lower};
 
 use crate::below::{expr_below, init_below, named_declarator_below, specifiers_below};
-use crate::own_list::{declare_if, declared_name, has_typedef};
+use crate::own_list::declare_if;
 use crate::statement_builders::assert_of;
-use c_exprs::{Cursor, ParseStop, at_assert, at_sign, some_literals, take_assert, take_sign};
+use c_exprs::{
+    Cursor, ParseStop, at_assert, at_sign, has_typedef, name_of, some_literals, take_assert,
+    take_sign,
+};
 use c_lexer::TokenList;
 use c_tree::{Declaration, Declarator, Expr, InitDeclarator, Level, Specifier, Specifiers};
 use cil_base::Punctuator;
@@ -104,7 +107,7 @@ pub(crate) fn behind_declarator<L: TokenList>(
 pub(crate) fn declare_name(s: &mut Scopes, d: &Declarator, typedef: bool) -> Result<(), ParseStop>
     ensures { MatchResult result (λ _. s.new ≡ declared_if (name_of (declarator_of d.now)) typedef s.old) (λ stop. stop ≡ WantOfMemory) }
 {
-    declare_if(declared_name(d), typedef, s)?;
+    declare_if(name_of(d), typedef, s)?;
     Ok(())
 }
 

@@ -22,12 +22,13 @@ use crate::declarations::{
     behind_declarator, declaration_below, declare_name, more_init_declarators, static_assert,
 };
 use crate::nexts::at_declaration;
-use crate::own_list::{declare_own_list, has_own_names, has_typedef};
+use crate::own_list::declare_own_list;
 use crate::statements::body_below;
-use c_exprs::{Cursor, ParseStop, at_assert, at_sign, take_sign};
+use c_exprs::{Cursor, ParseStop, at_assert, at_sign, has_typedef, take_sign};
 use c_lexer::TokenList;
 use c_tree::{
     Declaration, Declarator, ExtDecl, FunctionDefinition, InitDeclarator, Specifier, Specifiers,
+    has_own_names,
 };
 use cil_base::Punctuator;
 use std::alloc::Global;

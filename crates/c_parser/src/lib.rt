@@ -27,8 +27,3 @@ pub use own_list::declare_own_list;
 pub use uniqueness::{one_answer, one_unit};
 pub use units::parse;
 pub use words::StatementWord;
-
-#[cfg(test)]
-mod parse_tests;
-#[cfg(test)]
-mod tests;

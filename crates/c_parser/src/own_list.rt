@@ -1,11 +1,11 @@
 ghost use Rattle.std.specs.Prelude.{◌≡◌, OnOk};
 ghost use Rattle.c_tree.specs.View.{expr_of, specifier_of, specifiers_of, member_of, member_declarator_of, enumerator_of, declarator_of, bound_of, parameter_of, init_of, item_of, designator_of, exprs_of, members_of, member_declarators_of, enumerators_of, parameters_of, items_of, designators_of};
-ghost use Rattle.c_tree.specs.Levels.{is_underived, has_some, has_own_names};
-ghost use Rattle.c_tree.specs.Scoped.{is_typedef, has_typedef, name_of, declared_if, declared_all, after_expr, after_exprs, after_type_name, after_specifier, after_specifiers, after_member, after_members, after_member_declarator, after_member_declarators, after_enumerator, after_enumerators, after_declarator, after_bound, after_parameter, after_parameters, after_init, after_item, after_items, after_designator, after_designators, after_own_list};
+ghost use Rattle.c_tree.specs.Scoped.{declared_if, declared_all, after_expr, after_exprs, after_type_name, after_specifier, after_specifiers, after_member, after_members, after_member_declarator, after_member_declarators, after_enumerator, after_enumerators, after_declarator, after_bound, after_parameter, after_parameters, after_init, after_item, after_items, after_designator, after_designators, after_own_list};
 
+use c_exprs::{has_typedef, name_of};
 use c_tree::{
     ArrayBound, Declarator, Designator, Enumerator, Expr, Init, InitItem, MemberDeclaration,
-    MemberDeclarator, Parameter, Specifier, StorageClass, TypeName,
+    MemberDeclarator, Parameter, Specifier, TypeName, is_underived,
 };
 use cil_base::{Memory, NameId};
 use typedef_scopes::Scopes;
@@ -287,41 +287,6 @@ fn declare_designators(xs: &[Designator], s: &mut Scopes) -> Result<(), Memory>
     Ok(())
 }
 
-/// The declared identifier.
-pub(crate) fn declared_name(x: &Declarator) -> Option<NameId>
-    ensures { result ≡ name_of (declarator_of x.now) }
-{
-    match x {
-        Declarator::Name(_, n) => Some(*n),
-        Declarator::Absent(_) => None,
-        Declarator::Parentheses(_, d) => declared_name(d),
-        Declarator::Pointer(_, _, d) => declared_name(d),
-        Declarator::Array(_, d, _) => declared_name(d),
-        Declarator::Function(_, d, _, _) => declared_name(d),
-        Declarator::Identifiers(_, d, _) => declared_name(d),
-    }
-}
-
-/// Whether a specifier is `typedef`.
-fn is_typedef(x: &Specifier) -> bool
-    ensures { result ≡ is_typedef (specifier_of x.now) }
-{
-    matches!(x, Specifier::Storage(_, StorageClass::Typedef))
-}
-
-/// Whether what is declared with these specifiers is a typedef name (C11 6.7.8p3).
-#[tactic(auto, using(crate::proofs::OwnListLemmas::typedef_start, crate::proofs::OwnListLemmas::typedef_here, crate::proofs::OwnListLemmas::typedef_step, crate::proofs::OwnListLemmas::typedef_end))]
-pub(crate) fn has_typedef(xs: &[Specifier]) -> bool
-    ensures { result ≡ has_typedef (specifiers_of xs.now) }
-{
-    for x in xs {
-        if is_typedef(x) {
-            return true;
-        }
-    }
-    false
-}
-
 /// A name, where there is one.
 pub(crate) fn declare_if(name: Option<NameId>, typedef: bool, s: &mut Scopes) -> Result<(), Memory>
     ensures { OnOk result (s.new ≡ declared_if name typedef s.old) }
@@ -338,7 +303,7 @@ fn declare_parameter(x: &Parameter, s: &mut Scopes) -> Result<(), Memory>
 {
     declare_specifiers(&x.specifiers, s)?;
     declare_declarator(&x.declarator, s)?;
-    declare_if(declared_name(&x.declarator), has_typedef(&x.specifiers), s)
+    declare_if(name_of(&x.declarator), has_typedef(&x.specifiers), s)
 }
 
 /// The parameters of a list.
@@ -361,41 +326,6 @@ fn declare_names(xs: &[NameId], s: &mut Scopes) -> Result<(), Memory>
         s.declare(*x, false)?;
     }
     Ok(())
-}
-
-/// Whether a declarator is the declared identifier without a derivation, in parentheses or not.
-fn is_underived(x: &Declarator) -> bool
-    ensures { result ≡ is_underived (declarator_of x.now) }
-{
-    match x {
-        Declarator::Name(..) => true,
-        Declarator::Parentheses(_, d) => is_underived(d),
-        _ => false,
-    }
-}
-
-/// Whether a list has an identifier.
-#[tactic(auto, using(crate::proofs::OwnListLemmas::some_listed))]
-fn has_some(names: &[NameId]) -> bool
-    ensures { result ≡ has_some names.now }
-{
-    !names.is_empty()
-}
-
-/// Whether a declarator has an identifier list that is not empty as the first derivation of the declared identifier (C11 6.9.1p5, p6).
-pub(crate) fn has_own_names(x: &Declarator) -> bool
-    ensures { result ≡ has_own_names (declarator_of x.now) }
-{
-    match x {
-        Declarator::Name(..) | Declarator::Absent(_) => false,
-        Declarator::Parentheses(_, d) => has_own_names(d),
-        Declarator::Pointer(_, _, d) => has_own_names(d),
-        Declarator::Array(_, d, _) => has_own_names(d),
-        Declarator::Function(_, d, _, _) => has_own_names(d),
-        Declarator::Identifiers(_, d, names) => {
-            is_underived(d) && has_some(names) || has_own_names(d)
-        }
-    }
 }
 
 /// Declares in the innermost scope what a function's own list declares: the parameter list or identifier list that is the first derivation

@@ -26,17 +26,18 @@ pub use expression::{
     MemberDeclarator, Parameter, Specifier, Specifiers, StaticAssert, TypeName,
 };
 pub use level::Level;
+pub use rules::{
+    binary_level, declares, has_own_names, is_absent, is_underived, is_within, logical_level, rank,
+    tighter,
+};
 pub use spelled::SpelledToken;
 pub use statement::{
     BlockItem, Declaration, ExtDecl, ForStart, FunctionDefinition, InitDeclarator, Stmt, Unit,
 };
 pub use unit_levelling::well_levelled;
-pub use unit_measure::height;
+pub use unit_measure::{height, height_of_external};
 pub use unit_speller::spell;
 pub use words::{
     BasicType, FunctionSpecifier, LogicalOp, Qualifier, StepOp, StorageClass, StructKind, TagKind,
     UnaryOp,
 };
-
-#[cfg(test)]
-mod tests;

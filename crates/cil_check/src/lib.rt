@@ -28,6 +28,3 @@ mod words;
 
 pub use globals::check;
 pub use types::types_are_well_formed;
-
-#[cfg(test)]
-mod tests;

@@ -29,8 +29,6 @@ mod scopes;
 mod sides;
 mod sink;
 mod statements;
-#[cfg(test)]
-mod tests;
 mod types;
 
 pub use printing::{PrintStop, print};

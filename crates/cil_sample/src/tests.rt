@@ -1,6 +1,6 @@
 use super::*;
-use cil_base::TypeId;
-use cil_tree::GlobalDef;
+use cil_base::{Constant, IntKind, TypeId};
+use cil_tree::{GlobalDef, ImageItem};
 use std::test::Fail;
 
 /// `void ( * ) ( void )`, and so many types more, each a pointer to a function that takes two of the one before.
@@ -103,5 +103,98 @@ fn a_text_is_too_long_from_one_byte_above_the_limit(rt: HostRuntime) -> Result<(
     assert_eq!(rt; length, Some(268435456));
     let length = short(function_length(rt.alloc(), 188512))?;
     assert_eq!(rt; length, None);
+    Ok(())
+}
+
+/// A number, its kind, and the definition of an object that has it.
+struct NumberRow {
+    kind: IntKind,
+    value: i128,
+    text: &'static [u8],
+}
+
+/// The suffixes of C11 6.4.4.1, a sign for what is negative, and the least values, which no constant negates.
+fn number_rows() -> &'static [NumberRow] {
+    &[
+        NumberRow {
+            kind: IntKind::Int,
+            value: 2147483647,
+            text: b"extern int x ;\nint x = 2147483647 ;\n",
+        },
+        NumberRow {
+            kind: IntKind::UInt,
+            value: 4294967295,
+            text: b"extern unsigned int x ;\nunsigned int x = 4294967295U ;\n",
+        },
+        NumberRow {
+            kind: IntKind::Long,
+            value: -5,
+            text: b"extern long x ;\nlong x = - 5L ;\n",
+        },
+        NumberRow {
+            kind: IntKind::ULong,
+            value: 16,
+            text: b"extern unsigned long x ;\nunsigned long x = 16UL ;\n",
+        },
+        NumberRow {
+            kind: IntKind::LLong,
+            value: 7,
+            text: b"extern long long x ;\nlong long x = 7LL ;\n",
+        },
+        NumberRow {
+            kind: IntKind::ULLong,
+            value: 18446744073709551615,
+            text: b"extern unsigned long long x ;\nunsigned long long x = 18446744073709551615ULL ;\n",
+        },
+        NumberRow {
+            kind: IntKind::Char,
+            value: -128,
+            text: b"extern char x ;\nchar x = - 127 - 1 ;\n",
+        },
+        NumberRow {
+            kind: IntKind::Char,
+            value: -127,
+            text: b"extern char x ;\nchar x = - 127 ;\n",
+        },
+        NumberRow {
+            kind: IntKind::Short,
+            value: -32768,
+            text: b"extern short x ;\nshort x = - 32767 - 1 ;\n",
+        },
+        NumberRow {
+            kind: IntKind::Int,
+            value: -2147483648,
+            text: b"extern int x ;\nint x = - 2147483647 - 1 ;\n",
+        },
+        NumberRow {
+            kind: IntKind::Long,
+            value: -9223372036854775808,
+            text: b"extern long x ;\nlong x = - 9223372036854775807L - 1 ;\n",
+        },
+        NumberRow {
+            kind: IntKind::LLong,
+            value: -9223372036854775808,
+            text: b"extern long long x ;\nlong long x = - 9223372036854775807LL - 1 ;\n",
+        },
+    ]
+}
+
+/// The text of a program of one object `x` with that value.
+fn object_text(alloc: Global, kind: IntKind, value: i128) -> Result<Vec<u8>, Stop> {
+    let mut b = Builder::new(alloc);
+    let ty = b.int(kind)?;
+    let value = Constant::Int(kind, value);
+    let path = Vec::new(alloc);
+    let image = vec![in alloc; ImageItem { path, value }]?;
+    b.external(b"x", ty, GlobalDef::Image(image))?;
+    b.text()
+}
+
+#[test]
+fn numbers_have_their_suffixes(rt: HostRuntime) -> Result<(), Fail> {
+    for row in number_rows() {
+        let text = object_text(rt.alloc(), row.kind, row.value)?;
+        assert_eq!(rt; text.as_slice(), row.text);
+    }
     Ok(())
 }

@@ -15,6 +15,3 @@ mod names;
 pub use calls::{HostResult, Io, host};
 pub use laws::host_keeps_order;
 pub use names::HostName;
-
-#[cfg(test)]
-mod tests;

@@ -1,0 +1,194 @@
+use crate::graphs::{Form, function};
+use cil_base::{EntityId, IntKind, LabelId, LocalId, Memory, NameId, NamePool, TypeId};
+use cil_check::check;
+use cil_tree::{Body, CilUnit, Exp, GlobalDecl, GlobalDef, Host, Instr, Local, Lval, Stmt};
+use std::alloc::Global;
+use std::test::Fail;
+use type_graph::{Node, TypeGraph};
+
+/// What is changed in the program `int main ( void ) { int y ; again : ; out : ; return 0 ; }`.
+#[derive(Clone, Copy, Debug, PartialEq, Eq)]
+enum Change {
+    Nothing,
+    GotoThere,
+    GotoMissing,
+    LabelTwice,
+    LabelsOutOfOrder,
+    LabelNotSet,
+    LabelWithoutName,
+    BreakOutside,
+    CaseOutside,
+    DefaultOutside,
+    ReturnNothing,
+    ReturnLong,
+    ReturnNarrow,
+    ReturnTooBig,
+    Assign,
+    AssignNoLocal,
+    AssignNoGlobal,
+    LocalNoName,
+    LocalNoType,
+    GlobalNoName,
+    GlobalNoType,
+}
+
+/// The changes, and whether the program keeps the rules with each.
+fn rows() -> &'static [(Change, bool)] {
+    &[
+        (Change::Nothing, true),
+        (Change::GotoThere, true),
+        (Change::GotoMissing, false),
+        (Change::LabelTwice, false),
+        (Change::LabelsOutOfOrder, false),
+        (Change::LabelNotSet, false),
+        (Change::LabelWithoutName, false),
+        (Change::BreakOutside, false),
+        (Change::CaseOutside, false),
+        (Change::DefaultOutside, false),
+        (Change::ReturnNothing, false),
+        (Change::ReturnLong, false),
+        (Change::ReturnNarrow, false),
+        (Change::ReturnTooBig, false),
+        (Change::Assign, true),
+        (Change::AssignNoLocal, false),
+        (Change::AssignNoGlobal, false),
+        (Change::LocalNoName, false),
+        (Change::LocalNoType, false),
+        (Change::GlobalNoName, false),
+        (Change::GlobalNoType, false),
+    ]
+}
+
+/// An assignment of 1 to an `int`.
+fn set(alloc: Global, host: Host) -> Stmt {
+    let place = Lval {
+        host,
+        offsets: Vec::new(alloc),
+    };
+    Stmt::Instr(Instr::Set(place, Exp::Const(IntKind::Int, 1)))
+}
+
+/// `return` with a constant.
+fn give(kind: IntKind, value: u64) -> Stmt {
+    Stmt::Return(Some(Exp::Const(kind, value)))
+}
+
+/// The statement before the last one; 1 is assigned where a change has none of its own.
+fn statement(alloc: Global, change: Change) -> Stmt {
+    match change {
+        Change::GotoMissing => Stmt::Goto(LabelId(2)),
+        Change::GotoThere => Stmt::Goto(LabelId(0)),
+        Change::LabelTwice => Stmt::Label(LabelId(0)),
+        Change::LabelWithoutName => Stmt::Label(LabelId(2)),
+        Change::BreakOutside => Stmt::Break,
+        Change::CaseOutside => Stmt::Case(IntKind::Int, 1),
+        Change::DefaultOutside => Stmt::Default,
+        Change::ReturnNothing => Stmt::Return(None),
+        Change::ReturnLong => give(IntKind::Long, 1),
+        Change::ReturnNarrow => give(IntKind::Char, 1),
+        Change::ReturnTooBig => give(IntKind::Int, 2147483648),
+        Change::AssignNoLocal => set(alloc, Host::Var(LocalId(9))),
+        Change::AssignNoGlobal => set(alloc, Host::Global(EntityId(9))),
+        _ => set(alloc, Host::Var(LocalId(0))),
+    }
+}
+
+/// The labels in the order in which they are set.
+fn labels_set(change: Change) -> (LabelId, LabelId) {
+    if change == Change::LabelsOutOfOrder {
+        (LabelId(1), LabelId(0))
+    } else {
+        (LabelId(0), LabelId(1))
+    }
+}
+
+/// The statements.
+fn statements(alloc: Global, change: Change) -> Result<Vec<Stmt>, Memory> {
+    let (first, second) = labels_set(change);
+    let mut stmts = Vec::new(alloc);
+    stmts.push(Stmt::Label(first))?;
+    if change != Change::LabelNotSet {
+        stmts.push(Stmt::Label(second))?;
+    }
+    stmts.push(statement(alloc, change))?;
+    stmts.push(give(IntKind::Int, 0))?;
+    Ok(stmts)
+}
+
+/// The local `y`.
+fn locals(alloc: Global, name: NameId, ty: TypeId, change: Change) -> Result<Vec<Local>, Memory> {
+    let mut locals = Vec::new(alloc);
+    locals.push(Local {
+        name: if change == Change::LocalNoName {
+            NameId(99)
+        } else {
+            name
+        },
+        ty: if change == Change::LocalNoType {
+            TypeId(99)
+        } else {
+            ty
+        },
+    })?;
+    Ok(locals)
+}
+
+/// The names of the labels.
+fn labels(alloc: Global, pool: &mut NamePool) -> Result<Vec<NameId>, Memory> {
+    let mut labels = Vec::new(alloc);
+    labels.push(pool.intern(b"again")?)?;
+    labels.push(pool.intern(b"out")?)?;
+    Ok(labels)
+}
+
+/// What `main` is.
+fn body(
+    alloc: Global,
+    pool: &mut NamePool,
+    int: TypeId,
+    change: Change,
+) -> Result<GlobalDef, Memory> {
+    let y = pool.intern(b"y")?;
+    let labels = labels(alloc, pool)?;
+    Ok(GlobalDef::Body(Body {
+        params: Vec::new(alloc),
+        locals: locals(alloc, y, int, change)?,
+        labels,
+        stmts: statements(alloc, change)?,
+    }))
+}
+
+/// The answer for the program with a change.
+fn answer(alloc: Global, change: Change) -> Result<bool, Memory> {
+    let mut pool = NamePool::new(alloc);
+    let mut graph = TypeGraph::new(alloc);
+    let int = graph.add_node(Node::Int(IntKind::Int))?;
+    let ty = function(&mut graph, int, None, Form::Prototype)?;
+    let name = pool.intern(b"main")?;
+    let def = body(alloc, &mut pool, int, change)?;
+    let mut globals = Vec::new(alloc);
+    globals.push(GlobalDecl {
+        name: if change == Change::GlobalNoName {
+            NameId(99)
+        } else {
+            name
+        },
+        ty: if change == Change::GlobalNoType {
+            TypeId(99)
+        } else {
+            ty
+        },
+        internal: false,
+        def,
+    })?;
+    check(&CilUnit { graph, globals }, &pool)
+}
+
+/// Labels are set in order and once, jumps and returns are where they may be, and each number names something.
+#[test]
+fn tells_jumps_and_numbers(rt: HostRuntime) -> Result<(), Fail> {
+    for (change, right) in rows() {
+        assert_eq!(rt; answer(rt.alloc(), *change)?, *right, "with {change:?}");
+    }
+    Ok(())
+}
