@@ -36,7 +36,7 @@ through f g h d (Some x) (Some y) e = let same : f x ≡ g y = cc in ap h same
 abbrev pub seen_words : SeenAggregate → List Token
 seen_words x = keyword_of x.kind ∷ elim x.tag [ None ↦ [] | Some t ↦ t ] ∷ []
 
-tag_seen : (p : Program) (o : Option NameId) → elim o as (λ _. List ℕ) [ None ↦ [] | Some n ↦ text_at p.names n ] ≡ elim (option_map (text_at p.names) o) as (λ _. List ℕ) [ None ↦ [] | Some t ↦ t ]
+pub tag_seen : (p : Program) (o : Option NameId) → elim o as (λ _. List ℕ) [ None ↦ [] | Some n ↦ text_at p.names n ] ≡ elim (option_map (text_at p.names) o) as (λ _. List ℕ) [ None ↦ [] | Some t ↦ t ]
 tag_seen p None = refl
 tag_seen p (Some n) = refl
 
@@ -124,7 +124,7 @@ scalar_alike p q same (PtrType r s) = refl
 scalar_alike p q same (ArrayType r s bound) = refl
 scalar_alike p q same (FuncType r ps pr v) = refl
 
-some_mapped : {A B : Type 0} (f : A → B) (o : Option A) → is_some o ≡ is_some (option_map f o)
+pub some_mapped : {A B : Type 0} (f : A → B) (o : Option A) → is_some o ≡ is_some (option_map f o)
 some_mapped f None = refl
 some_mapped f (Some x) = refl
 

@@ -121,7 +121,7 @@ index_path p k i path s t b e small back =
       (refl, (decimal_clean i small, (refl, subst (λ (o : Option Shape). AllClean (path_tokens p path o)) (sym e) back.3))),
     )
 
-path_back : (p : Program) → IsFile p → (k : ℕ) (path : List Step) (a b : Part) → path_weight path < k → IsShape p a.0 → path_part p.graph path a ≡ Some b → PathBack p k path a.0 b
+pub path_back : (p : Program) → IsFile p → (k : ℕ) (path : List Step) (a b : Part) → path_weight path < k → IsShape p a.0 → path_part p.graph path a ≡ Some b → PathBack p k path a.0 b
 path_back p is zero path a b low shaped e = absurd (omega arith)
 path_back p is (suc k) [] a b low shaped e =
     let same : a ≡ b = cc in
@@ -225,7 +225,7 @@ constant_back p is n s x rest low shaped e stops = absurd (cc e)
 -- items
 
 -- the part that an item initialises
-item_part : (p : Program) (s : Shape) (x : Item) → item_fits p s x ≡ true → (part : Part) × (path_part p.graph x.path (s, 0) ≡ Some part) × (constant_fits p part.0 x.value ≡ true)
+pub item_part : (p : Program) (s : Shape) (x : Item) → item_fits p s x ≡ true → (part : Part) × (path_part p.graph x.path (s, 0) ≡ Some part) × (constant_fits p part.0 x.value ≡ true)
 item_part p s x e = by (path_part p.graph x.path (s, 0)) refl e
   where
     by : (o : Option Part) → path_part p.graph x.path (s, 0) ≡ o → elim o as (λ _. Bool) [ None ↦ false | Some part ↦ is_scalar p.graph part.0 && constant_fits p part.0 x.value ] ≡ true →
@@ -332,7 +332,7 @@ scalar_path p s (ToIndex i ∷ path) part e f =
     by t g m = absurd (cc m)
 
 -- the one item of a scalar
-scalar_item : (p : Program) (s : Shape) (x : Item) → is_scalar p.graph s ≡ true → item_fits p s x ≡ true → (x.path ≡ []) × (constant_fits p s x.value ≡ true)
+pub scalar_item : (p : Program) (s : Shape) (x : Item) → is_scalar p.graph s ≡ true → item_fits p s x ≡ true → (x.path ≡ []) × (constant_fits p s x.value ≡ true)
 scalar_item p s x scalar e =
     let h = item_part p s x e in
     let empty = scalar_path p s x.path h.0 scalar h.1 in
@@ -340,7 +340,7 @@ scalar_item p s x scalar e =
     let same : (s, 0) ≡ h.0 = cc in
     (empty, ap (λ (y : Part). constant_fits p y.0 x.value) same ∙ h.2)
 
-one_scalar : (p : Program) (s : Shape) (x y : Item) (ys : List Item) → is_scalar p.graph s ≡ true → item_fits p s x ≡ true → item_fits p s y ≡ true → are_rising (map (item_offset p.graph s) (x ∷ y ∷ ys)) ≡ true → ⊥
+pub one_scalar : (p : Program) (s : Shape) (x y : Item) (ys : List Item) → is_scalar p.graph s ≡ true → item_fits p s x ≡ true → item_fits p s y ≡ true → are_rising (map (item_offset p.graph s) (x ∷ y ∷ ys)) ≡ true → ⊥
 one_scalar p s x y ys scalar e f rising =
     let a : item_offset p.graph s x ≡ Some 0 = ap (λ path. option_map (λ (part : Part). part.1) (path_part p.graph path (s, 0))) (scalar_item p s x scalar e).0 in
     let b : item_offset p.graph s y ≡ Some 0 = ap (λ path. option_map (λ (part : Part). part.1) (path_part p.graph path (s, 0))) (scalar_item p s y scalar f).0 in

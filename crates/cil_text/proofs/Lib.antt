@@ -22,6 +22,12 @@ pub mod ProgramThere
 pub mod LinesClean
 pub mod Cut
 pub mod OneText
+mod Enough
+mod EnoughWhole
+mod BodiesAlike
+mod GlobalsAlike
+mod NamesAlike
+mod WellFormedAlike
 pub mod Alike
 pub mod TypedAlike
 pub mod TextAlike

@@ -88,7 +88,7 @@ at_alike p q same (suc k) a =
     ∙ ap (λ (f : ℕ → Option Layout). option_and_then (aggregate_in q.graph.abi p.graph.nodes f) (slice_get p.graph.aggs a)) (λ i b. whole_of (at_alike p q same k b i))
     ∙ aggregate_alike p q q.graph.abi (λ b. whole_of (agg_at k q.graph b)) (slice_get p.graph.aggs a) (slice_get q.graph.aggs a) (same.aggregates a)
 
-agg_alike : (p q : Program) → Equal p q → (a : ℕ) → agg_layout p.graph a ≡ agg_layout q.graph a
+pub agg_alike : (p q : Program) → Equal p q → (a : ℕ) → agg_layout p.graph a ≡ agg_layout q.graph a
 unfolding agg_layout
 agg_alike p q same a = at_alike p q same (2 ^ 32) a
 

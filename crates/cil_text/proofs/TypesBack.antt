@@ -119,7 +119,7 @@ unfolding word_of
 bound_words None rest = refl
 bound_words (Some n) rest = refl
 
-kind_nonempty : (k : IntKind) (inner : List Token) → nonempty (kind_words k ++ inner) ≡ true
+pub kind_nonempty : (k : IntKind) (inner : List Token) → nonempty (kind_words k ++ inner) ≡ true
 kind_nonempty k inner = elim k as (λ v. nonempty (kind_words v ++ inner) ≡ true) [ kind.Bool ↦ refl | kind.Char ↦ refl | kind.SChar ↦ refl | kind.UChar ↦ refl | kind.Short ↦ refl | kind.UShort ↦ refl | kind.Int ↦ refl | kind.UInt ↦ refl | kind.Long ↦ refl | kind.ULong ↦ refl | kind.LLong ↦ refl | kind.ULLong ↦ refl ]
 
 -- the aggregate has a tag that is a name, and is the first with it

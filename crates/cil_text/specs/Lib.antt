@@ -7,3 +7,4 @@ pub mod ReadImages
 pub mod ReadAggregates
 pub mod ReadGlobals
 pub mod ReadText
+pub mod Occurs

@@ -1,7 +1,11 @@
-ghost use Rattle.std.specs.Prelude.{◌≡◌, ℕ, ◌≤◌, List, Some, map};
+ghost use Rattle.std.specs.Prelude.{◌≡◌, ℕ, ◌*◌, ◌≤◌, List, Some, length, map};
+ghost use Rattle.type_graph.specs.Arena.{IsArena};
+ghost use Rattle.cil_tree.specs.declared.globals.CilUnit.{CilUnit};
 ghost use Rattle.cil_tree.specs.Tree.{Program};
+ghost use Rattle.cil_tree.specs.View.{program_of};
 ghost use Rattle.cil_tree.specs.Text.{Text};
 ghost use Rattle.cil_tree.specs.Programs.{IsProgram, IsTextOf, seen_aggregate, SameProgram};
+ghost use Rattle.cil_text.specs.Occurs.{Occurs};
 ghost use Rattle.cil_text.specs.ReadText.{read_text};
 
 /// A law, which does nothing when it is called: no bytes are the text of two programs (own), so a text names one
@@ -15,8 +19,14 @@ pub fn equal_programs_have_one_text()
     ensures { (p q : Program) → SameProgram p q → Text p ≡ Text q }
 {}
 
-/// A law, which does nothing when it is called: the executable reading, with enough fuel, gives the aggregates
-/// and the globals of each well-formed program from its text (own).
+/// A law, which does nothing when it is called: the executable reading, with as much fuel as twice the bytes of the
+/// text, gives the aggregates and the globals of each well-formed program from its text (own).
 pub fn text_is_read()
-    ensures { (p : Program) → IsProgram p → (m : ℕ) × ((n : ℕ) → m ≤ n → read_text n (Text p) ≡ Some (map (seen_aggregate p) p.graph.aggs, p.globals)) }
+    ensures { (p : Program) (n : ℕ) → IsProgram p → 2 * length (Text p) ≤ n → read_text n (Text p) ≡ Some (map (seen_aggregate p) p.graph.aggs, p.globals) }
+{}
+
+/// A law, which does nothing when it is called: what equals a well-formed program and has no other types and no
+/// qualified members is well-formed, whatever numbers its types and names have (own).
+pub fn equal_programs_are_well_formed()
+    ensures { (p q : Program) (u : CilUnit) → IsProgram p → SameProgram p q → Occurs p q → IsArena q.graph → program_of q.names u ≡ q → IsProgram q }
 {}
