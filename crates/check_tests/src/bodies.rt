@@ -23,8 +23,8 @@ enum Var {
     ToFunction,
 }
 
-/// The globals besides `main`: `int one ( int )`, `void none ( void )`, `int many ( int , ... )`, `int old ( )` and
-/// `int n`; and a number that is none.
+/// The globals besides `main`: `int one ( int )`, `void none ( void )`, `int many ( int , ... )`, `int old ( )`, `int n`
+/// and `struct t open ( void )`, where `struct t` is incomplete; and a number that is none.
 #[derive(Clone, Copy, Debug)]
 enum Name {
     One,
@@ -32,6 +32,7 @@ enum Name {
     Many,
     Old,
     Object,
+    Open,
     Missing,
 }
 
@@ -267,6 +268,7 @@ fn calls() -> &'static [(Option<Var>, Called, &'static [Var], bool)] {
         (None, Called::Named(Name::Many), &[], false),
         (None, Called::Named(Name::Old), &[Var::Long, Var::Int], true),
         (None, Called::Named(Name::Old), &[Var::Char], false),
+        (None, Called::Named(Name::Open), &[], false),
         (None, Called::Named(Name::Object), &[], false),
         (None, Called::Named(Name::Missing), &[], false),
         (
@@ -343,6 +345,7 @@ struct Types {
     nothing: TypeId,
     many: TypeId,
     old: TypeId,
+    open: TypeId,
     main: TypeId,
 }
 
@@ -355,6 +358,17 @@ fn add_struct(g: &mut TypeGraph, pool: &mut NamePool, int: TypeId) -> Result<Typ
         return Err(Memory);
     }
     g.add_node(Node::Agg(a))
+}
+
+/// Adds a function type with an incomplete result, `struct t ( void )`.
+fn add_open(g: &mut TypeGraph, pool: &mut NamePool) -> Result<TypeId, Memory> {
+    let tag = pool.intern(b"t")?;
+    let a = g.add_agg(AggKind::Struct, Some(tag))?;
+    if a.0 >= g.agg_count() {
+        return Err(Memory);
+    }
+    let t = g.add_node(Node::Agg(a))?;
+    function(g, t, None, Form::Prototype)
 }
 
 /// Adds the types.
@@ -378,6 +392,7 @@ fn add_types(g: &mut TypeGraph, pool: &mut NamePool) -> Result<Types, Memory> {
         nothing: function(g, void, None, Form::Prototype)?,
         many: function(g, int, Some(int), Form::Variadic)?,
         old: function(g, int, None, Form::Unprototyped)?,
+        open: add_open(g, pool)?,
         main: function(g, int, None, Form::Prototype)?,
     })
 }
@@ -420,7 +435,8 @@ fn global(name: Name) -> EntityId {
         Name::Many => 2,
         Name::Old => 3,
         Name::Object => 4,
-        Name::Missing => 6,
+        Name::Open => 6,
+        Name::Missing => 7,
     })
 }
 
@@ -649,6 +665,7 @@ fn all_globals(
         types.main,
         GlobalDef::Body(body),
     )?;
+    add_global(pool, &mut globals, b"open", types.open, GlobalDef::Declared)?;
     Ok(globals)
 }
 

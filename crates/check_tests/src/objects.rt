@@ -39,6 +39,8 @@ enum Def {
     /// A body that returns 0, or nothing, with so many parameters and a further local.
     Gives(usize, Of),
     GivesNothing,
+    /// A body that returns 0, whose parameter has another name than its local.
+    GivesRenamed,
 }
 
 /// Definitions of a global, and whether it may have them.
@@ -65,6 +67,7 @@ fn definitions() -> &'static [(Of, Def, bool)] {
         (Of::OneParameter, Def::Gives(1, Of::Int), true),
         (Of::OneParameter, Def::Gives(1, Of::Char), false),
         (Of::OneParameter, Def::Gives(0, Of::Int), false),
+        (Of::OneParameter, Def::GivesRenamed, false),
         (Of::Variadic, Def::Gives(1, Of::Int), false),
         (Of::Unprototyped, Def::Gives(0, Of::Int), true),
         (Of::Unprototyped, Def::Gives(1, Of::Int), false),
@@ -302,6 +305,11 @@ fn definition(g: &mut TypeGraph, pool: &mut NamePool, def: Def) -> Result<Global
         }
         Def::GivesNothing => {
             let body = body(g, pool, 0, Of::Int, None)?;
+            Ok(GlobalDef::Body(body))
+        }
+        Def::GivesRenamed => {
+            let mut body = body(g, pool, 0, Of::Int, Some(Exp::Const(IntKind::Int, 0)))?;
+            body.params.push(pool.intern(b"q")?)?;
             Ok(GlobalDef::Body(body))
         }
     }
