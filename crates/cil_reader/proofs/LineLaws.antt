@@ -12,7 +12,7 @@ use Rattle.cil_reader.specs.Scan.{one_closed, read_words, blanks_of, seen_depth,
 
 -- words
 
-last_cut : (xs : List ℕ) (b : ℕ) → without_last (xs ++ b ∷ []) ≡ xs
+pub last_cut : (xs : List ℕ) (b : ℕ) → without_last (xs ++ b ∷ []) ≡ xs
 last_cut [] b = refl
 last_cut (x ∷ []) b = refl
 last_cut (x ∷ y ∷ ys) b = ap (λ zs. x ∷ zs) (last_cut (y ∷ ys) b)

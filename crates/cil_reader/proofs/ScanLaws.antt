@@ -157,7 +157,7 @@ indented_so text braces e = ap (λ v. cond v (read_words braces (words_from [] (
 pub indented_otherwise : (text : List ℕ) (braces : ℕ) → blanks_of text ≢ 2 * seen_depth braces (without_blanks text) → read_line braces text ≡ None
 indented_otherwise text braces e = ap (λ v. cond v (read_words braces (words_from [] (without_blanks text))) None) (other_byte (blanks_of text) (2 * seen_depth braces (without_blanks text)) e)
 
-line_step : (line : List ℕ) (b : ℕ) (bytes : List ℕ) → lines_from line (b ∷ bytes) ≡ cond (nat_eq b 10) ((line ++ b ∷ []) ∷ lines_from [] bytes) (lines_from (line ++ b ∷ []) bytes)
+pub line_step : (line : List ℕ) (b : ℕ) (bytes : List ℕ) → lines_from line (b ∷ bytes) ≡ cond (nat_eq b 10) ((line ++ b ∷ []) ∷ lines_from [] bytes) (lines_from (line ++ b ∷ []) bytes)
 line_step [] b bytes = refl
 line_step (c ∷ line) b bytes = refl
 

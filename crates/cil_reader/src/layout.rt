@@ -103,7 +103,7 @@ fn both(a: bool, b: bool) -> bool
 
 /// What stands behind the blanks in front.
 #[tactic(auto, using(crate::proofs::ScanLaws::behind_blanks, crate::proofs::ScanLaws::open_range))]
-fn behind_blanks(text: &[u8]) -> &[u8]
+pub(crate) fn behind_blanks(text: &[u8]) -> &[u8]
     ensures { result.now ≡ without_blanks text.now }
 {
     let count = blanks(text);

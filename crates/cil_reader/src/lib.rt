@@ -1,14 +1,39 @@
-//! Reading CIL texts. So far it finds the place that is named for bytes that are no CIL text.
+//! The reader of CIL texts: from bytes to the program whose text they are.
 //!
-//! Its public contract says that the place is the one of the definition: the first byte of the first line that is
-//! not laid out as a text has its lines.
+//! Its public contract says that what is read is a well-formed program and the bytes are its text; that bytes are
+//! refused only where they are the text of no well-formed program, so no text is refused while memory suffices; and
+//! that the place that is named for them is the one of the definition: the first byte of the first line that is not
+//! laid out as a text has its lines, or the end.
 //!
-//! The layout is the product's own; words and punctuators are those of C11 6.4.2 and 6.4.6.
+//! The text is the product's own; its parts follow C11 6.4 to 6.9.
 #![tactic(auto)]
 
+mod aggregates;
+mod arguments;
+mod bases;
+mod bodies;
+mod declarators;
+mod fitting;
+mod globals;
+mod heads;
+mod images;
+mod instructions;
 mod layout;
+mod line_kinds;
+mod lines;
+mod members;
+mod names;
+mod nesting;
+mod numbering;
+mod numbers;
+mod operands;
+mod parts;
+mod program;
+mod reader;
 mod signs;
-#[cfg(test)]
-mod tests;
+mod stop;
+mod typed;
+mod words;
 
 pub use layout::bad_place;
+pub use program::{ReadStop, read};

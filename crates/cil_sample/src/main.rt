@@ -37,4 +37,6 @@ fn main(rt: HostRuntime) -> io::Result<()> {
 }
 
 #[cfg(test)]
+mod read_tests;
+#[cfg(test)]
 mod tests;

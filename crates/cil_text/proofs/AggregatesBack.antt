@@ -24,7 +24,8 @@ use Rattle.cil_tree.specs.Programs.{SeenMember, SeenAggregate, seen_member, seen
 use Rattle.cil_text.specs.Words.{Word, LeftBrace, RightBrace, Comma, Semicolon, Assign, TagWord, Name, word_of, onto}
 use Rattle.cil_text.specs.ReadExps.{is_base}
 use Rattle.cil_text.specs.ReadStmts.{read_number}
-use Rattle.cil_text.specs.ReadAggregates.{Lines, enumerator_at, read_enumerator, member_at, read_member, is_close, read_members, opened_tag, lone_tag, enum_with, aggregate_first, read_enums, Tag, tag_first, read_tags, complete_with, incomplete, is_opened, read_structs, tag_of, tag_text_of, all_tags, with_enums, structs_from, read_aggregates}
+use Rattle.cil_text.specs.Allowed.{allowed}
+use Rattle.cil_text.specs.ReadAggregates.{Lines, enumerator_at, read_enumerator, member_at, read_member, is_close, read_members, opened_tag, lone_tag, enum_with, aggregate_first, read_enums, Tag, tag_first, read_tags, complete_with, incomplete, is_opened, read_structs, tag_of, tag_text_of, all_tags, with_enums, structs_from, aggregates_allowed, first_allowed, read_placed}
 use Rattle.cil_text.proofs.WordsBack.{onto_append, both, denied, name_word}
 use Rattle.cil_text.proofs.TypesBack.{keyword_word, base_spelled, before, behind, IsShape, declared_words}
 use Rattle.cil_text.proofs.DeclsBack.{size, named_back}
@@ -60,6 +61,7 @@ enumerator_back p m is = (
   ap (λ (w : Word). read_enumerator (w ∷ Assign ∷ onto (number kind.Int m.value ++ codes "," ∷ []) [])) (name_word (member_name p m) is.0)
       ∙ ap (λ (ws : List Word). option_and_then (enumerator_at (member_name p m)) (read_number ws)) (onto_append (number kind.Int m.value) (codes "," ∷ []) [])
       ∙ ap (option_and_then (enumerator_at (member_name p m))) (number_back kind.Int m.value (Comma ∷ []) is.1 refl)
+      ∙ ap (λ b. cond b (Some (record { name = member_name p m; type = IntType kind.Int; value = m.value })) None) is.1
       ∙ ap (λ (s : Shape). Some (record { name = member_name p m; type = s; value = m.value })) (sym is.2),
   ap (λ (w : Word). is_close (w ∷ Assign ∷ onto (number kind.Int m.value ++ codes "," ∷ []) [])) (name_word (member_name p m) is.0),
 )
@@ -191,6 +193,9 @@ tags_end : (more : Lines) → lone_first more ≡ None → read_tags more ≡ ([
 tags_end [] e = refl
 tags_end (line ∷ lines) e = rw (e, read_tags) refl
 
+abbrev read_lone : Option Tag → List Word → Lines → List Tag × Lines
+read_lone o line lines = elim o [ None ↦ ([], line ∷ lines) | Some x ↦ tag_first x (read_tags lines) ]
+
 pub tags_back : (p : Program) (xs : List Aggregate) (more : Lines) → EachAggregate (IsStruct p) xs → lone_first more ≡ None → read_tags (lines_onto (concat_each (tag_lines p) xs) more) ≡ (map (tag_pair p) xs, more)
 tags_back p [] more is apart = tags_end more apart
 tags_back p (x ∷ xs) more is apart =
@@ -198,6 +203,7 @@ tags_back p (x ∷ xs) more is apart =
     lines_append (tag_lines p x) (concat_each (tag_lines p) xs) more
     ∙ ap (λ (b : Bool). lines_onto (cond b [] (closed (tagged p x) ∷ [])) (lines_onto (concat_each (tag_lines p) xs) more)) is.0.1
     ∙ ap (λ (ws : List Word). ws ∷ lines_onto (concat_each (tag_lines p) xs) more) (lone_words p x is.0.0))
+    ∙ ap (λ (b : Bool). read_lone (cond b None (Some (tag_pair p x))) (TagWord x.kind ∷ Name (tag_text p x) ∷ Semicolon ∷ []) (lines_onto (concat_each (tag_lines p) xs) more)) is.0.1
     ∙ ap (tag_first (tag_pair p x)) (tags_back p xs more is.1 apart)
 
 -- structs and unions
@@ -345,9 +351,10 @@ enough p (x ∷ xs) = omega (arith, enough p xs)
 abbrev pub aggregate_lines : Program → Lines → Lines
 aggregate_lines p more = lines_onto (concat_each (enum_lines p) p.graph.aggs) (lines_onto (concat_each (tag_lines p) p.graph.aggs) (lines_onto (concat_each (struct_lines p) p.graph.aggs) more))
 
-pub aggregates_back : (p : Program) (n : ℕ) (es ss : List Aggregate) (more : Lines) → p.graph.aggs ≡ es ++ ss → EachAggregate (IsEnum p) es → EachAggregate (IsStruct p) ss → aggregates_size p es + aggregates_size p ss ≤ n →
-    are_different (tags p) ≡ true → opened_first more ≡ None → lone_first more ≡ None → read_aggregates n (aggregate_lines p more) ≡ Some (map (seen_aggregate p) p.graph.aggs, more)
-aggregates_back p n es ss more both_are are_enums are_structs low different opened lone =
+parts_back : (p : Program) (n : ℕ) (es ss : List Aggregate) (more : Lines) → p.graph.aggs ≡ es ++ ss → EachAggregate (IsEnum p) es → EachAggregate (IsStruct p) ss → aggregates_size p es + aggregates_size p ss ≤ n →
+    are_different (tags p) ≡ true → opened_first more ≡ None → lone_first more ≡ None →
+    option_and_then (λ (r : List SeenAggregate × Lines). structs_from n r.0 (read_tags r.1)) (read_enums n (aggregate_lines p more)) ≡ Some (map (seen_aggregate p) p.graph.aggs, more)
+parts_back p n es ss more both_are are_enums are_structs low different opened lone =
     let enums = concat_each (enum_lines p) es in
     let tags_ = concat_each (tag_lines p) ss in
     let structs = concat_each (struct_lines p) ss in
@@ -358,7 +365,7 @@ aggregates_back p n es ss more both_are are_enums are_structs low different open
     let all : map (tag_text p) es ++ map (tag_text p) ss ≡ tags p = sym (map_joined (tag_text p) es ss) ∙ ap (map (tag_text p)) (sym both_are) in
     let told : all_tags (map (seen_aggregate p) es) (map (tag_pair p) ss) ≡ tags p =
     ap (λ ts. ts ++ map tag_text_of (map (tag_pair p) ss)) (tags_seen p es) ∙ ap (λ ts. map (tag_text p) es ++ ts) (tags_paired p ss) ∙ all in
-    ap (read_aggregates n) (
+    ap (λ ls. option_and_then (λ (r : List SeenAggregate × Lines). structs_from n r.0 (read_tags r.1)) (read_enums n ls)) (
     ap (λ ls. lines_onto ls (lines_onto (concat_each (tag_lines p) p.graph.aggs) (lines_onto (concat_each (struct_lines p) p.graph.aggs) more))) a
     ∙ lines_append enums [] (lines_onto (concat_each (tag_lines p) p.graph.aggs) (lines_onto (concat_each (struct_lines p) p.graph.aggs) more))
     ∙ ap (λ ls. lines_onto enums (lines_onto ls (lines_onto (concat_each (struct_lines p) p.graph.aggs) more))) b
@@ -368,3 +375,10 @@ aggregates_back p n es ss more both_are are_enums are_structs low different open
     ∙ ap (λ ts. option_map (with_enums (map (seen_aggregate p) es)) (read_structs (read_member ts n) (map (tag_pair p) ss) (lines_onto structs more))) told
     ∙ ap (option_map (with_enums (map (seen_aggregate p) es))) (structs_back p n ss more (omega arith) are_structs (last_different (map (tag_text p) es) (map (tag_text p) ss) (ap are_different all ∙ different)) opened)
     ∙ ap (λ xs. Some (xs, more)) (sym (map_joined (seen_aggregate p) es ss) ∙ ap (map (seen_aggregate p)) (sym both_are))
+
+pub aggregates_back : (p : Program) (n : ℕ) (es ss : List Aggregate) (more : Lines) → p.graph.aggs ≡ es ++ ss → EachAggregate (IsEnum p) es → EachAggregate (IsStruct p) ss → aggregates_size p es + aggregates_size p ss ≤ n →
+    are_different (tags p) ≡ true → aggregates_allowed (map (seen_aggregate p) p.graph.aggs) ≡ true → opened_first more ≡ None → lone_first more ≡ None →
+    read_placed n (aggregate_lines p more) ≡ Some (map (seen_aggregate p) p.graph.aggs, more)
+aggregates_back p n es ss more both_are are_enums are_structs low different well opened lone =
+    ap (option_and_then (allowed first_allowed)) (parts_back p n es ss more both_are are_enums are_structs low different opened lone)
+    ∙ ap (λ b. cond b (Some (map (seen_aggregate p) p.graph.aggs, more)) None) well

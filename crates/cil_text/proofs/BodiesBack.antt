@@ -6,9 +6,7 @@ use Rattle.std.specs.Option.{option_map, option_and_then}
 use Rattle.std.specs.Str.{bytes_eq}
 use Rattle.std.proofs.lemmas.Slice.Eq.{bytes_eq-Decides}
 use Rattle.cil_base.specs.declared.kinds.IntKind.{IntKind}
-use Rattle.cil_base.specs.declared.kinds.IntKind.TheVariants as kind
-use Rattle.type_graph.specs.declared.aggregates.Aggregate.{Aggregate}
-use Rattle.type_graph.specs.Shapes.{Shape, Shapes, VoidType, IntType, PtrType, ArrayType, FuncType, AggType, NoTypes, MoreTypes}
+use Rattle.type_graph.specs.Shapes.{Shape, Shapes, FuncType, NoTypes, MoreTypes}
 use Rattle.cil_tree.specs.Tree.{Exp, Instr, Set, Call, Zero, Host, Global, Var, At, Offsets, Here, Field, Index, Lval, Place, Callee, Direct, Through, Stmt, Do, If, Switch, Loop, Block, Label, Case, Default, Goto, Break, Return, Stmts, Done, Seq, Local, Body, Definition, Function, GlobalDecl, Program}
 use Rattle.cil_tree.specs.Typing.{Scope, scope_of}
 use Rattle.cil_tree.specs.WellFormedTypes.{prototype_fits}
@@ -25,78 +23,22 @@ use Rattle.cil_text.specs.Known.{known_of, env_of}
 use Rattle.cil_text.specs.ReadStmts.{is_label, label_text, read_heads, read_nested}
 use Rattle.cil_text.specs.ReadAggregates.{Lines, is_close}
 use Rattle.cil_text.specs.ReadGlobals as reading
-use Rattle.cil_text.specs.ReadGlobals.{Declaration, is_open_brace, ends_open, plain_names, header_names, begins_with, behind_first, moved, line_first, split_block, local_first, read_locals, params_of, param_locals, body_with, read_stmts, read_body, Bodies, body_first, read_bodies}
+use Rattle.cil_text.specs.ReadGlobals.{Declaration, is_open_brace, ends_open, plain_names, header_names, begins_with, behind_first, moved, line_first, split_block, local_first, read_locals, params_of, param_locals, are_apart, body_with, read_stmts, read_body, Bodies, body_first, read_bodies}
 use Rattle.cil_text.proofs.WordsBack.{onto_append, both, denied, name_word}
-use Rattle.cil_text.proofs.TypesBack.{nonempty, append_nonempty, separated_some, declared_nonempty, kind_spelled, tag_spelled, base_spelled, grouped, before, bound_spelled, end_spelled, behind, called_spelled, more_spelled, IsBound, IsShape, AreShapes, declared_words}
+use Rattle.cil_text.proofs.TypesBack.{nonempty, append_nonempty, separated_some, declared_nonempty, base_spelled, before, behind, IsShape, declared_words}
 use Rattle.cil_text.proofs.DeclsBack.{size, named_back}
 use Rattle.cil_text.proofs.ExpsBack.{exp_spelled, place_spelled, type_base}
 use Rattle.cil_text.proofs.StmtsBack.{lines_onto, lines_append, closed_words, stmts_weight, StmtTold, StmtsTold, nested_back, stmts_back}
 use Rattle.cil_text.proofs.InstrsBack.{instr_spelled, instr_words, InstrTold, instr_is_no_label}
 use Rattle.cil_text.proofs.AggregatesBack.{declared_line, base_closes_nothing, other_way, neither}
-use Rattle.cil_text.proofs.ObjectsBack.{shape_of, declaration_of, EachGlobal, IsDeclared, not_opened, opened, name_of}
+use Rattle.cil_text.proofs.TypesSkipped.{base_skipped, before_skipped, behind_skipped, names_skip}
+use Rattle.cil_text.proofs.ObjectsBack.{shape_of, declaration_of, EachGlobal, not_opened, opened, name_of, declared_first, object_first}
 
 -- names in a header: types have none
 
-cond_names : (b : Bool) (x y : List Word) (v : List (List ℕ)) → plain_names x ≡ v → plain_names y ≡ v → plain_names (cond b x y) ≡ v
-cond_names true x y v e f = e
-cond_names false x y v e f = f
-
-kind_names : (k : IntKind) (rest : List Word) → plain_names (kind_spelled k rest) ≡ plain_names rest
-kind_names k rest = elim k as (λ v. plain_names (kind_spelled v rest) ≡ plain_names rest) [ kind.Bool ↦ refl | kind.Char ↦ refl | kind.SChar ↦ refl | kind.UChar ↦ refl | kind.Short ↦ refl | kind.UShort ↦ refl | kind.Int ↦ refl | kind.UInt ↦ refl | kind.Long ↦ refl | kind.ULong ↦ refl | kind.LLong ↦ refl | kind.ULLong ↦ refl ]
-
-tag_names : (p : Program) (o : Option Aggregate) (rest : List Word) → plain_names (tag_spelled p o rest) ≡ plain_names rest
-tag_names p None rest = refl
-tag_names p (Some x) rest = refl
-
-base_names : (p : Program) (s : Shape) (rest : List Word) → plain_names (base_spelled p s rest) ≡ plain_names rest
-base_names p VoidType rest = refl
-base_names p (IntType k) rest = kind_names k rest
-base_names p (PtrType q s) rest = base_names p s rest
-base_names p (ArrayType q s bound) rest = base_names p s rest
-base_names p (FuncType ret params proto variadic) rest = base_names p ret rest
-base_names p (AggType a) rest = tag_names p _ rest
-
-before_names : (s : Shape) (rest : List Word) → plain_names (before s rest) ≡ plain_names rest
-before_names VoidType rest = refl
-before_names (IntType k) rest = refl
-before_names (PtrType q s) rest = before_names s (cond (grouped s) (LeftParen ∷ Operator _ ∷ rest) (Operator _ ∷ rest)) ∙ cond_names (grouped s) (LeftParen ∷ Operator _ ∷ rest) (Operator _ ∷ rest) (plain_names rest) refl refl
-before_names (ArrayType q s bound) rest = before_names s rest
-before_names (FuncType ret params proto variadic) rest = before_names ret rest
-before_names (AggType a) rest = refl
-
-bound_names : (bound : Option ℕ) (rest : List Word) → IsBound bound → plain_names (bound_spelled bound rest) ≡ plain_names rest
-bound_names None rest is = refl
-bound_names (Some n) rest is = ap (λ (w : Word). plain_names (w ∷ Rattle.cil_text.specs.Words.RightBracket ∷ rest)) (Rattle.cil_text.proofs.WordsBack.decimal_word n is)
-
-end_names : (variadic : Bool) (rest : List Word) → plain_names (end_spelled variadic rest) ≡ plain_names rest
-end_names true rest = refl
-end_names false rest = refl
-
-mutual
-  behind_names : (p : Program) (s : Shape) (rest : List Word) → IsShape p s → plain_names (behind p s rest) ≡ plain_names rest
-  behind_names p VoidType rest is = refl
-  behind_names p (IntType k) rest is = refl
-  behind_names p (PtrType q s) rest is = cond_names (grouped s) (RightParen ∷ behind p s rest) (behind p s rest) (plain_names rest) (behind_names p s rest is.1) (behind_names p s rest is.1)
-  behind_names p (ArrayType q s bound) rest is = bound_names bound (behind p s rest) is.1 ∙ behind_names p s rest is.2
-  behind_names p (FuncType ret params proto variadic) rest is = called_names p proto variadic params (behind p ret rest) is.1 ∙ behind_names p ret rest is.0
-  behind_names p (AggType a) rest is = refl
-
-  called_names : (p : Program) (proto variadic : Bool) (params : Shapes) (rest : List Word) → AreShapes p params → plain_names (called_spelled p proto variadic params rest) ≡ plain_names rest
-  called_names p false variadic params rest are = refl
-  called_names p true variadic NoTypes rest are = refl
-  called_names p true variadic (MoreTypes s more) rest are =
-      let words = more_spelled p more (end_spelled variadic rest) in
-      base_names p s (before s (behind p s words)) ∙ before_names s (behind p s words) ∙ behind_names p s words are.0 ∙ more_names p more (end_spelled variadic rest) are.1 ∙ end_names variadic rest
-
-  more_names : (p : Program) (more : Shapes) (rest : List Word) → AreShapes p more → plain_names (more_spelled p more rest) ≡ plain_names rest
-  more_names p NoTypes rest are = refl
-  more_names p (MoreTypes s more) rest are =
-      let words = more_spelled p more rest in
-      base_names p s (before s (behind p s words)) ∙ before_names s (behind p s words) ∙ behind_names p s words are.0 ∙ more_names p more rest are.1
-
 -- what is declared has the names of the inner tokens
 declared_names : (p : Program) (s : Shape) (inner : List Token) (rest : List Word) → IsShape p s → plain_names (onto (declared p s inner) rest) ≡ plain_names (onto inner (behind p s rest))
-declared_names p s inner rest is = ap plain_names (declared_words p s inner rest is) ∙ base_names p s (before s (onto inner (behind p s rest))) ∙ before_names s (onto inner (behind p s rest))
+declared_names p s inner rest is = ap plain_names (declared_words p s inner rest is) ∙ base_skipped plain_names names_skip p s (before s (onto inner (behind p s rest))) is ∙ before_skipped plain_names names_skip s (onto inner (behind p s rest))
 
 -- names of parameters
 abbrev pub AreParams : Program → Shapes → List (List ℕ) → Type 0
@@ -107,7 +49,7 @@ AreParams p (MoreTypes s more) (name ∷ names) = IsShape p s × (is_name name �
 
 param_names : (p : Program) (s : Shape) (name : List ℕ) (rest : List Word) → IsShape p s → is_name name ≡ true → plain_names (onto (declared p s (name ∷ [])) rest) ≡ name ∷ plain_names rest
 param_names p s name rest is named =
-    declared_names p s (name ∷ []) rest is ∙ ap (λ (w : Word). plain_names (w ∷ behind p s rest)) (name_word name named) ∙ ap (λ ns. name ∷ ns) (behind_names p s rest is)
+    declared_names p s (name ∷ []) rest is ∙ ap (λ (w : Word). plain_names (w ∷ behind p s rest)) (name_word name named) ∙ ap (λ ns. name ∷ ns) (behind_skipped plain_names names_skip p s rest is)
 
 params_nonempty : (p : Program) (s : Shape) (more : Shapes) (name : List ℕ) (names : List (List ℕ)) → IsShape p s → nonempty (parameter_tokens p (MoreTypes s more) (name ∷ names)) ≡ true
 params_nonempty p s more name names is = by (parameter_tokens p more names)
@@ -172,7 +114,7 @@ header_back p x ret params proto names named is are fits =
     ∙ ap plain_names (onto_append (declared p ret inner) (codes "{" ∷ []) [])
     ∙ declared_names p ret inner (LeftBrace ∷ []) is
     ∙ ap (λ (w : Word). plain_names (w ∷ LeftParen ∷ onto (listed_ ++ codes ")" ∷ []) (behind p ret (LeftBrace ∷ [])))) (name_word x.name named)
-    ∙ ap (λ ns. x.name ∷ ns) (listed_names p proto params names (behind p ret (LeftBrace ∷ [])) are fits ∙ ap (λ ns. names ++ ns) (behind_names p ret (LeftBrace ∷ []) is) ∙ Rattle.std.proofs.Common.append-nil names)
+    ∙ ap (λ ns. x.name ∷ ns) (listed_names p proto params names (behind p ret (LeftBrace ∷ [])) are fits ∙ ap (λ ns. names ++ ns) (behind_skipped plain_names names_skip p ret (LeftBrace ∷ []) is) ∙ Rattle.std.proofs.Common.append-nil names)
 
 header_opens : (p : Program) (x : GlobalDecl) (ret : Shape) (params : List Token) → ends_open (onto (header p x ret params) []) ≡ true
 unfolding header
@@ -425,17 +367,19 @@ pub record BodyTold (p : Program) (n : ℕ) (x : GlobalDecl) (b : Body) : Type 0
   pub joined : param_locals params b.params ++ text.behind b.params b.locals ≡ b.locals
   pub stmts : StmtsTold (scope_of p b) b.stmts
   pub labels : map (label_name (scope_of p b)) (labels_of b.stmts) ≡ b.labels
+  pub apart : are_apart b.locals b.labels ≡ true
   pub few : locals_size (text.behind b.params b.locals) ≤ n
   pub low : stmts_weight b.stmts < n
 
-stmts_read : (p : Program) (n : ℕ) (b : Body) → StmtsTold (scope_of p b) b.stmts → map (label_name (scope_of p b)) (labels_of b.stmts) ≡ b.labels → stmts_weight b.stmts < n →
+stmts_read : (p : Program) (n : ℕ) (b : Body) → StmtsTold (scope_of p b) b.stmts → map (label_name (scope_of p b)) (labels_of b.stmts) ≡ b.labels → are_apart b.locals b.labels ≡ true → stmts_weight b.stmts < n →
     read_stmts (known_of p []) n b.params b.locals (lines_onto (lines_of (scope_of p b) b.stmts) []) ≡ Some b
-stmts_read p n b told labels low =
+stmts_read p n b told labels apart low =
     let c = scope_of p b in
     let lines = lines_onto (lines_of c b.stmts) [] in
     ap (λ ls. option_and_then (body_with b.params b.locals ls) (option_and_then (read_nested n) (read_heads (env_of c) ls n lines))) (stmts_labels c b.stmts [] told ∙ Rattle.std.proofs.Common.append-nil (map (label_name c) (labels_of b.stmts)) ∙ labels)
     ∙ ap (λ o. option_and_then (body_with b.params b.locals b.labels) (option_and_then (read_nested n) o)) (stmts_back c n b.stmts [] [] (omega arith) told refl)
     ∙ ap (option_and_then (body_with b.params b.locals b.labels)) (nested_back n b.stmts [] low refl)
+    ∙ ap (λ v. cond v (Some b) None) apart
 
 body_back : (p : Program) (n : ℕ) (x : GlobalDecl) (b : Body) → BodyTold p n x b → read_body (known_of p []) n (shape_of x.type) b.params (lines_onto (body_lines p b) []) ≡ Some b
 body_back p n x b told =
@@ -446,7 +390,7 @@ body_back p n x b told =
     ∙ ap (λ ls. option_and_then (λ (l : List Local × Lines). read_stmts (known_of p []) n b.params (param_locals told.params b.params ++ l.0) l.1) (read_locals (tags p) n ls)) (lines_append (map (local_line p) others) (lines_of c b.stmts) [])
     ∙ ap (option_and_then (λ (l : List Local × Lines). read_stmts (known_of p []) n b.params (param_locals told.params b.params ++ l.0) l.1)) (locals_back p n others lines told.few told.locals (stmts_unbased c b.stmts told.stmts))
     ∙ ap (λ ls. read_stmts (known_of p []) n b.params ls lines) told.joined
-    ∙ stmts_read p n b told.stmts told.labels told.low
+    ∙ stmts_read p n b told.stmts told.labels told.apart told.low
 
 -- a global has no body, or one that is read back
 pub data FunctionTold (p : Program) (n : ℕ) (x : GlobalDecl) : Type 0 where
@@ -549,9 +493,6 @@ functions_headed p n (x ∷ xs) told = ap headed (lines_append (function_lines p
     by (NoBody f d) later = ap (λ ls. headed (lines_onto ls (lines_onto (functions_of p xs) []))) f ∙ later
     by (OneBody b f named told) later = ap (λ ls. headed (lines_onto ls (lines_onto (functions_of p xs) []))) (function_of p n x b f told) ∙ header_opens p x told.ret (listed told.proto false (parameter_tokens p told.params b.params))
 
-pub headed_declares_nothing : (tags : List (List ℕ)) (n : ℕ) (lines : Lines) → headed lines ≡ true → (Rattle.cil_text.proofs.ObjectsBack.declared_first tags n lines ≡ None) × (Rattle.cil_text.proofs.ObjectsBack.object_first tags n lines ≡ None)
-headed_declares_nothing tags n [] e = (refl, refl)
-headed_declares_nothing tags n (line ∷ lines) e = (
-  ap (λ b. cond b None (reading.declaration_from tags n line)) e,
-  ap (λ b. Rattle.cil_text.proofs.ObjectsBack.object_named (cond b None (read_decl tags n (reading.without_static line)))) e,
-)
+pub headed_declares_nothing : (lines : Lines) → headed lines ≡ true → (declared_first lines ≡ false) × (object_first lines ≡ None)
+headed_declares_nothing [] e = (refl, refl)
+headed_declares_nothing (line ∷ lines) e = (ap (λ b. cond b false (reading.declares_alone line)) e, ap (λ b. cond b None (reading.first_name line)) e)

@@ -1,5 +1,5 @@
 -- Device: the reading of initialised objects gives back their scalars from their tokens.
-use Rattle.std.proofs.Common.{◌≡◌, ℕ, suc, zero, ◌+◌, ◌*◌, ◌^◌, ◌<◌, ◌≤◌, ◌&&◌, not, map, nat_lt, Bool, true, false, cond, List, [], ◌∷◌, ◌++◌, codes, decimal, Option, Some, None, slice_get, refl, sym, ap, ◌∙◌, subst, arith, ltb-true}
+use Rattle.std.proofs.Common.{◌≡◌, ℕ, suc, zero, ◌+◌, ◌-◌, ◌*◌, ◌^◌, ◌<◌, ◌≤◌, ◌&&◌, not, map, nat_lt, Bool, true, false, cond, List, [], ◌∷◌, ◌++◌, codes, decimal, Option, Some, None, slice_get, refl, sym, ap, ◌∙◌, subst, arith, ltb-true, le-leb}
 use Rattle.std.specs.Prelude.{ℤ, pos, negsuc, int_le, int_lt, unsigned_abs}
 use Rattle.std.specs.Option.{option_map, option_and_then}
 use Rattle.std.specs.List.{list_all}
@@ -25,13 +25,13 @@ use Rattle.cil_tree.specs.Lines.{Token}
 use Rattle.cil_tree.specs.Declarators.{digits, separated, in_parentheses, number, declared}
 use Rattle.cil_tree.specs.Text.{shape_layout, name_in, global_name, is_function_type, path_tokens, path_type, address_tokens, constant_tokens, item_tokens, items_tokens, in_braces, image_tokens}
 use Rattle.cil_tree.specs.Globals.{Part, aggregate_of, member_part, element_part, path_part, number_fits, is_object, address_fits, constant_fits, item_fits, item_offset, is_below, are_rising, unions_agree, image_fits}
-use Rattle.cil_tree.proofs.ShapeEquality.{kind_told}
+use Rattle.cil_tree.proofs.ShapeEquality.{kind_told, shape_itself}
 use Rattle.cil_text.specs.Words.{Word, LeftParen, RightParen, LeftBracket, RightBracket, RightBrace, Dot, Comma, Assign, Operator, CharWord, Name, word_of, onto}
 use Rattle.cil_text.specs.ReadTypes.{Named, skip_one}
 use Rattle.cil_text.specs.ReadExps.{find_named, type_of_named, fields, host_named, enclosed}
 use Rattle.cil_text.specs.Known.{known_of}
 use Rattle.cil_text.specs.ReadStmts.{is_minus, read_number}
-use Rattle.cil_text.specs.ReadImages.{Path, step_first, read_path, integer_of, only_global, address_at, read_pointer, read_converted, read_constant, item_at, read_item, item_first, next_item, read_items, only_item, is_brace, read_image}
+use Rattle.cil_text.specs.ReadImages.{Path, step_first, read_path, integer_of, only_global, offset_at, read_pointer, converted_to, read_converted, read_constant, item_at, read_item, item_first, next_item, read_items, only_item, is_brace, read_image}
 use Rattle.cil_text.proofs.WordsBack.{onto_append, both, name_word, digits_word, decimal_word, suffix_kind}
 use Rattle.cil_text.proofs.TypesBack.{nonempty, append_nonempty, separated_some, IsShape, declared_words}
 use Rattle.cil_text.proofs.DeclsBack.{size, abstract_back}
@@ -171,11 +171,12 @@ converted_back : (p : Program) (n : ℕ) (q : Quals) (s : Shape) (value : List T
 unfolding word_of
 converted_back p n q s value x rest low shaped e =
     let env = known_of p [] in
-    ap (λ (ws : List Word). read_converted env n (LeftParen ∷ ws)) (
+    ap (λ (ws : List Word). read_converted env n (PtrType q s) (LeftParen ∷ ws)) (
     onto_append (declared p (PtrType q s) [] ++ codes ")" ∷ []) value rest
     ∙ enclosed_words (declared p (PtrType q s) []) (onto value rest)
     ∙ declared_words p (PtrType q s) [] (RightParen ∷ onto value rest) shaped)
-    ∙ ap (λ o. option_and_then (λ (r : Shape × List Word). read_pointer env r.1) (enclosed (λ (y : Named). y.0) o)) (abstract_back p n (PtrType q s) (RightParen ∷ onto value rest) low shaped refl)
+    ∙ ap (λ o. option_and_then (converted_to env (PtrType q s)) (enclosed (λ (y : Named). y.0) o)) (abstract_back p n (PtrType q s) (RightParen ∷ onto value rest) low shaped refl)
+    ∙ ap (λ b. cond b (read_pointer env (onto value rest)) None) (shape_itself (PtrType q s))
     ∙ e
 
 ulong_back : (p : Program) (v : ℤ) (rest : List Word) → fits kind.ULong v ≡ true → is_minus rest ≡ false → read_pointer (known_of p []) (onto (number kind.ULong v) rest) ≡ Some (Integer kind.ULong v, rest)
@@ -194,8 +195,9 @@ address_back p is n (pos m) rest e =
     let small : m < 2 ^ 64 = omega (arith, ltb-true m (2 ^ 31) b.1) in
     ap (λ (ws : List Word). read_pointer env (LeftParen ∷ LeftParen ∷ CharWord ∷ Operator Mul ∷ RightParen ∷ Operator And ∷ word_of (global_name p n) ∷ Operator Add ∷ ws)) (enclosed_words (number (long_of p.graph.abi) (pos m)) rest)
     ∙ ap (λ (w : Word). read_pointer env (LeftParen ∷ LeftParen ∷ CharWord ∷ Operator Mul ∷ RightParen ∷ Operator And ∷ w ∷ Operator Add ∷ word_of (digits (long_of p.graph.abi) m) ∷ RightParen ∷ rest)) g.0
-    ∙ ap (option_and_then (λ (k : ℕ). enclosed (address_at k) (read_number (word_of (digits (long_of p.graph.abi) m) ∷ RightParen ∷ rest)))) g.1
-    ∙ ap (λ (w : Word). enclosed (address_at n) (read_number (w ∷ RightParen ∷ rest))) (digits_word (long_of p.graph.abi) m small)
+    ∙ ap (option_and_then (λ (k : ℕ). option_and_then (offset_at k) (read_number (word_of (digits (long_of p.graph.abi) m) ∷ RightParen ∷ rest)))) g.1
+    ∙ ap (λ (w : Word). option_and_then (offset_at n) (read_number (w ∷ RightParen ∷ rest))) (digits_word (long_of p.graph.abi) m small)
+    ∙ ap (λ b. cond b (Some (Address (record { 0 = n }) (pos m), rest)) None) (le-leb m (2 ^ 63 - 1) (omega (arith, ltb-true m (2 ^ 31) b.1)))
 address_back p is n (negsuc m) rest e = absurd (cc (both (is_object p n) false e).1)
 
 code_back : (p : Program) → IsFile p → (n : ℕ) (rest : List Word) → is_function_type (global_type p n) ≡ true → read_pointer (known_of p []) (onto (codes "&" ∷ global_name p n ∷ []) rest) ≡ Some (Code (record { 0 = n }), rest)

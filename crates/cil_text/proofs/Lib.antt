@@ -10,6 +10,7 @@ pub mod InstrsBack
 pub mod StmtsBack
 pub mod ImagesBack
 pub mod AggregatesBack
+pub mod TypesSkipped
 pub mod ObjectsBack
 pub mod BodiesBack
 pub mod TextBack
@@ -17,13 +18,16 @@ pub mod NamesThere
 pub mod StmtsThere
 pub mod Positive
 pub mod ShapesThere
+pub mod StandsThere
 pub mod CastsThere
+pub mod TypesThere
+pub mod PartsAdded
 pub mod ProgramThere
 pub mod LinesClean
 pub mod Cut
 pub mod OneText
 mod Enough
-mod EnoughWhole
+pub mod EnoughWhole
 mod BodiesAlike
 mod GlobalsAlike
 mod NamesAlike
@@ -31,4 +35,5 @@ mod WellFormedAlike
 pub mod Alike
 pub mod TypedAlike
 pub mod TextAlike
+pub mod ReadTexts
 mod Rows

@@ -5,6 +5,7 @@ use Rattle.std.specs.Option.{option_map, option_and_then}
 use Rattle.std.specs.Str.{bytes_eq}
 use Rattle.std.proofs.lemmas.Slice.Eq.{bytes_eq-Decides}
 use Rattle.type_graph.specs.Shapes.{Shape, VoidType}
+use Rattle.cil_tree.proofs.ShapeEquality.{shape_itself}
 use Rattle.cil_tree.specs.Tree.{Item, Definition, Declared, Zeros, Image, Function, GlobalDecl, Program}
 use Rattle.cil_tree.specs.Typing.{is_void, is_function}
 use Rattle.cil_tree.specs.Lines.{Token, Line}
@@ -13,12 +14,11 @@ use Rattle.cil_tree.specs.Declarators.{type_tokens}
 use Rattle.cil_tree.specs.Text.{closed, is_function_type, declarator, linkage, storage, image_tokens, declaration_line, object_lines, concat_each}
 use Rattle.cil_tree.specs.Globals.{has_definition, is_defined, image_fits}
 use Rattle.cil_text.specs.Words.{Word, Semicolon, Assign, ExternWord, StaticWord, Name, word_of, onto}
-use Rattle.cil_text.specs.ReadTypes.{Named, read_decl}
+use Rattle.cil_text.specs.ReadTypes.{read_decl}
 use Rattle.cil_text.specs.ReadExps.{Env, is_base}
 use Rattle.cil_text.specs.Known.{known_of}
 use Rattle.cil_text.specs.ReadAggregates.{Lines}
-use Rattle.cil_text.specs.ReadGlobals as reading
-use Rattle.cil_text.specs.ReadGlobals.{Declaration, is_open_brace, ends_open, declared_with, only_function, declaration_from, declaration_first, read_declarations, without_static, object_line, is_called, image_end, defined_by, default_of, Definitions, definition_first, read_objects}
+use Rattle.cil_text.specs.ReadGlobals.{Declaration, is_open_brace, ends_open, name_in_front, first_name, is_call_in_front, names_function, is_called, declares_alone, declares, declared_with, only_function, declaration_from, declaration_first, read_declarations, without_static, own_name, image_end, defined_by, object_defined, own_definition, default_of, Definitions, definition_first, read_objects}
 use Rattle.cil_text.proofs.WordsBack.{onto_append, both, denied, name_word}
 use Rattle.cil_text.proofs.TypesBack.{base_spelled, before, behind, IsShape, declared_words}
 use Rattle.cil_text.proofs.DeclsBack.{size, named_back}
@@ -26,6 +26,7 @@ use Rattle.cil_text.proofs.ExpsBack.{type_base}
 use Rattle.cil_text.proofs.StmtsBack.{lines_onto, lines_append, closed_words}
 use Rattle.cil_text.proofs.ImagesBack.{IsFile, items_weight, image_back}
 use Rattle.cil_text.proofs.AggregatesBack.{other_way, neither}
+use Rattle.cil_text.proofs.TypesSkipped.{named_from, named_assign, named_call}
 
 -- a global as it is declared
 abbrev pub shape_of : Option Shape → Shape
@@ -105,10 +106,33 @@ storage_words p x is =
     by false true ws = refl
     by false false ws = refl
 
-declaration_back : (p : Program) (n : ℕ) (x : GlobalDecl) → size (shape_of x.type) + 2 ≤ n → IsDeclared p x → reading.declaration_line (tags p) n (onto (declaration_line p x) []) ≡ Some (declaration_of x)
+base_alone : (ws : List Word) → is_base ws ≡ true → declares_alone ws ≡ names_function ws
+base_alone [] e = absurd (cc e)
+base_alone (ExternWord ∷ ws) e = absurd (cc e)
+base_alone (StaticWord ∷ ws) e = absurd (cc e)
+base_alone (w ∷ ws) e = refl
+
+-- a declarator without storage class declares alone if it is a function's
+alone_function : (p : Program) (x : GlobalDecl) (rest : List Word) → IsDeclared p x → is_call_in_front (Name x.name ∷ rest) ≡ false → declares_alone (declarator_spelled p x rest) ≡ is_function (shape_of x.type)
+alone_function p x rest is e =
+    base_alone (declarator_spelled p x rest) (declarator_base p x rest is)
+    ∙ ap is_call_in_front (named_from p (shape_of x.type) x.name rest is.2)
+    ∙ named_call p (shape_of x.type) x.name rest e
+
+declares_itself : (p : Program) (x : GlobalDecl) → IsDeclared p x → declares (onto (declaration_line p x) []) ≡ true
+declares_itself p x is =
+    ap (λ b. cond b false (declares_alone (onto (declaration_line p x) []))) (not_opened (storage x ++ declarator p x))
+    ∙ ap declares_alone (storage_words p x is)
+    ∙ by x.internal (is_function (shape_of x.type)) refl
+  where
+    by : (a b : Bool) → is_function (shape_of x.type) ≡ b → declares_alone (storage_word a b (declarator_spelled p x (Semicolon ∷ []))) ≡ true
+    by true b f = ap not (named_assign p (shape_of x.type) x.name (Semicolon ∷ []) is.2)
+    by false false f = refl
+    by false true f = alone_function p x (Semicolon ∷ []) is refl ∙ f
+
+declaration_back : (p : Program) (n : ℕ) (x : GlobalDecl) → size (shape_of x.type) + 2 ≤ n → IsDeclared p x → declaration_from (tags p) n (onto (declaration_line p x) []) ≡ Some (declaration_of x)
 declaration_back p n x low is =
-    ap (λ b. cond b None (declaration_from (tags p) n (onto (declaration_line p x) []))) (not_opened (storage x ++ declarator p x))
-    ∙ ap (declaration_from (tags p) n) (storage_words p x is)
+    ap (declaration_from (tags p) n) (storage_words p x is)
     ∙ by x.internal (is_function (shape_of x.type)) refl refl
   where
     read : read_decl (tags p) n (declarator_spelled p x (Semicolon ∷ [])) ≡ Some ((shape_of x.type, Some x.name), Semicolon ∷ [])
@@ -123,12 +147,12 @@ declaration_back p n x low is =
         ∙ ap (λ (b : Bool). cond b (Some (record (declaration_of x) { internal = false })) None) f
         ∙ ap (λ (i : Bool). Some (record (declaration_of x) { internal = i })) (sym e)
 
--- the first line declares nothing
-abbrev pub declared_first : List (List ℕ) → ℕ → Lines → Option Declaration
-declared_first tags n [] = None
-declared_first tags n (line ∷ lines) = reading.declaration_line tags n line
+-- the first line declares
+abbrev pub declared_first : Lines → Bool
+declared_first [] = false
+declared_first (line ∷ lines) = declares line
 
-declarations_end : (tags : List (List ℕ)) (n : ℕ) (more : Lines) → declared_first tags n more ≡ None → read_declarations tags n more ≡ ([], more)
+declarations_end : (tags : List (List ℕ)) (n : ℕ) (more : Lines) → declared_first more ≡ false → read_declarations tags n more ≡ Some ([], more)
 declarations_end tags n [] e = refl
 declarations_end tags n (line ∷ lines) e = rw (e, read_declarations) refl
 
@@ -136,12 +160,15 @@ abbrev pub globals_size : List GlobalDecl → ℕ
 globals_size [] = 0
 globals_size (x ∷ xs) = 2 + size (shape_of x.type) + globals_size xs
 
-pub declarations_back : (p : Program) (n : ℕ) (xs : List GlobalDecl) (more : Lines) → globals_size xs ≤ n → EachGlobal (IsDeclared p) xs → declared_first (tags p) n more ≡ None →
-    read_declarations (tags p) n (lines_onto (map (declaration_line p) xs) more) ≡ (map declaration_of xs, more)
+pub declarations_back : (p : Program) (n : ℕ) (xs : List GlobalDecl) (more : Lines) → globals_size xs ≤ n → EachGlobal (IsDeclared p) xs → declared_first more ≡ false →
+    read_declarations (tags p) n (lines_onto (map (declaration_line p) xs) more) ≡ Some (map declaration_of xs, more)
 declarations_back p n [] more low is e = declarations_end (tags p) n more e
 declarations_back p n (x ∷ xs) more low is e =
-    ap (λ (o : Option Declaration). elim o as (λ _. List Declaration × Lines) [ None ↦ ([], onto (declaration_line p x) [] ∷ lines_onto (map (declaration_line p) xs) more) | Some d ↦ declaration_first d (read_declarations (tags p) n (lines_onto (map (declaration_line p) xs) more)) ]) (declaration_back p n x (omega arith) is.0)
-    ∙ ap (declaration_first (declaration_of x)) (declarations_back p n xs more (omega arith) is.1 e)
+    let line = onto (declaration_line p x) [] in
+    let rest = lines_onto (map (declaration_line p) xs) more in
+    ap (λ b. cond b (option_and_then (λ (d : Declaration). option_map (declaration_first d) (read_declarations (tags p) n rest)) (declaration_from (tags p) n line)) (Some ([], line ∷ rest))) (declares_itself p x is.0)
+    ∙ ap (option_and_then (λ (d : Declaration). option_map (declaration_first d) (read_declarations (tags p) n rest))) (declaration_back p n x (omega arith) is.0)
+    ∙ ap (option_map (declaration_first (declaration_of x))) (declarations_back p n xs more (omega arith) is.1 e)
 
 -- objects
 
@@ -153,68 +180,52 @@ object_of definition = definition
 -- a global has no line among objects, and is the default; or one, which gives its definition
 pub data ObjectTold (p : Program) (n : ℕ) (x : GlobalDecl) : Type 0 where
   NoLine : object_lines p x x.definition ≡ [] → default_of (declaration_of x) ≡ object_of x.definition → ObjectTold p n x
-  OneLine : (line : Line) (rest : List Word) → object_lines p x x.definition ≡ line ∷ [] → object_line (tags p) n (onto line []) ≡ Some ((shape_of x.type, Some x.name), rest) →
-      defined_by (known_of p []) n (shape_of x.type) rest ≡ Some (object_of x.definition) → reading.declaration_line (tags p) n (onto line []) ≡ None → ObjectTold p n x
+  OneLine : (line : Line) → object_lines p x x.definition ≡ line ∷ [] → own_name (onto line []) ≡ Some x.name →
+      own_definition (known_of p []) n (declaration_of x) (onto line []) ≡ Some (object_of x.definition) → declares (onto line []) ≡ false → ObjectTold p n x
 
 abbrev pub name_of : GlobalDecl → List ℕ
 name_of x = x.name
 
-abbrev pub object_named : Option (Named × List Word) → Option (List ℕ)
-object_named None = None
-object_named (Some r) = r.0.1
-
 -- the name in the first line, if it defines an object
-abbrev pub object_first : List (List ℕ) → ℕ → Lines → Option (List ℕ)
-object_first tags n [] = None
-object_first tags n (line ∷ lines) = object_named (object_line tags n line)
+abbrev pub object_first : Lines → Option (List ℕ)
+object_first [] = None
+object_first (line ∷ lines) = own_name line
 
 abbrev pub objects_of : Program → List GlobalDecl → List Line
 objects_of p xs = concat_each (λ (x : GlobalDecl). object_lines p x x.definition) xs
 
-not_next_object : (p : Program) (n : ℕ) (name : List ℕ) (xs : List GlobalDecl) (more : Lines) → EachGlobal (ObjectTold p n) xs → is_among (map name_of xs) name ≡ false → object_first (tags p) n more ≡ None →
-    is_called (object_first (tags p) n (lines_onto (objects_of p xs) more)) name ≡ false
+not_next_object : (p : Program) (n : ℕ) (name : List ℕ) (xs : List GlobalDecl) (more : Lines) → EachGlobal (ObjectTold p n) xs → is_among (map name_of xs) name ≡ false → object_first more ≡ None →
+    is_called (object_first (lines_onto (objects_of p xs) more)) name ≡ false
 not_next_object p n name [] more told apart e = ap (λ o. is_called o name) e
 not_next_object p n name (x ∷ xs) more told apart e =
     let h = neither (bytes_eq name x.name) (list_any (bytes_eq name) (map name_of xs)) apart in
-    ap (λ ls. is_called (object_first (tags p) n ls) name) (lines_append (object_lines p x x.definition) (objects_of p xs) more)
+    ap (λ ls. is_called (object_first ls) name) (lines_append (object_lines p x x.definition) (objects_of p xs) more)
     ∙ by told.0 h.0 (not_next_object p n name xs more told.1 h.1 e)
   where
-    by : ObjectTold p n x → bytes_eq name x.name ≡ false → is_called (object_first (tags p) n (lines_onto (objects_of p xs) more)) name ≡ false →
-        is_called (object_first (tags p) n (lines_onto (object_lines p x x.definition) (lines_onto (objects_of p xs) more))) name ≡ false
-    by (NoLine f d) q later = ap (λ ls. is_called (object_first (tags p) n (lines_onto ls (lines_onto (objects_of p xs) more))) name) f ∙ later
-    by (OneLine line rest f g d other) q later =
-        ap (λ ls. is_called (object_first (tags p) n (lines_onto ls (lines_onto (objects_of p xs) more))) name) f
-        ∙ ap (λ o. is_called (object_named o) name) g
+    by : ObjectTold p n x → bytes_eq name x.name ≡ false → is_called (object_first (lines_onto (objects_of p xs) more)) name ≡ false →
+        is_called (object_first (lines_onto (object_lines p x x.definition) (lines_onto (objects_of p xs) more))) name ≡ false
+    by (NoLine f d) q later = ap (λ ls. is_called (object_first (lines_onto ls (lines_onto (objects_of p xs) more))) name) f ∙ later
+    by (OneLine line f g d other) q later =
+        ap (λ ls. is_called (object_first (lines_onto ls (lines_onto (objects_of p xs) more))) name) f
+        ∙ ap (λ o. is_called o name) g
         ∙ other_way name x.name q
 
-skipped_object : (env : Env) (n : ℕ) (d : Declaration) (ds : List Declaration) (lines : Lines) → is_called (object_first env.tags n lines) d.name ≡ false → read_objects env n (d ∷ ds) lines ≡ option_map (definition_first (default_of d)) (read_objects env n ds lines)
+skipped_object : (env : Env) (n : ℕ) (d : Declaration) (ds : List Declaration) (lines : Lines) → is_called (object_first lines) d.name ≡ false → read_objects env n (d ∷ ds) lines ≡ option_map (definition_first (default_of d)) (read_objects env n ds lines)
 skipped_object env n d ds [] e = refl
-skipped_object env n d ds (line ∷ lines) e = by (object_line env.tags n line) e
-  where
-    by : (o : Option (Named × List Word)) → is_called (object_named o) d.name ≡ false →
-        elim o as (λ _. Option (Definitions × Lines)) [
-          | None ↦ option_map (definition_first (default_of d)) (read_objects env n ds (line ∷ lines))
-          | Some r ↦ cond (is_called r.0.1 d.name) (option_and_then (λ (x : Definition). option_map (definition_first x) (read_objects env n ds lines)) (defined_by env n r.0.0 r.1)) (option_map (definition_first (default_of d)) (read_objects env n ds (line ∷ lines)))
-        ]
-        ≡ option_map (definition_first (default_of d)) (read_objects env n ds (line ∷ lines))
-    by None q = refl
-    by (Some r) q = ap (λ b. cond b (option_and_then (λ (x : Definition). option_map (definition_first x) (read_objects env n ds lines)) (defined_by env n r.0.0 r.1)) (option_map (definition_first (default_of d)) (read_objects env n ds (line ∷ lines)))) q
+skipped_object env n d ds (line ∷ lines) e = ap (λ b. cond b (option_and_then (λ (x : Definition). option_map (definition_first x) (read_objects env n ds lines)) (own_definition env n d line)) (option_map (definition_first (default_of d)) (read_objects env n ds (line ∷ lines)))) e
 
-taken_object : (env : Env) (n : ℕ) (d : Declaration) (ds : List Declaration) (line : List Word) (lines : Lines) (s : Shape) (rest : List Word) (x : Definition) →
-    object_line env.tags n line ≡ Some ((s, Some d.name), rest) → defined_by env n s rest ≡ Some x → read_objects env n (d ∷ ds) (line ∷ lines) ≡ option_map (definition_first x) (read_objects env n ds lines)
-taken_object env n d ds line lines s rest x e f =
-    ap (λ (o : Option (Named × List Word)). elim o as (λ _. Option (Definitions × Lines)) [
-      | None ↦ option_map (definition_first (default_of d)) (read_objects env n ds (line ∷ lines))
-      | Some r ↦ cond (is_called r.0.1 d.name) (option_and_then (λ (y : Definition). option_map (definition_first y) (read_objects env n ds lines)) (defined_by env n r.0.0 r.1)) (option_map (definition_first (default_of d)) (read_objects env n ds (line ∷ lines)))
-    ]) e
-    ∙ ap (λ b. cond b (option_and_then (λ (y : Definition). option_map (definition_first y) (read_objects env n ds lines)) (defined_by env n s rest)) (option_map (definition_first (default_of d)) (read_objects env n ds (line ∷ lines)))) ((bytes_eq-Decides d.name d.name).1 refl)
+taken_object : (env : Env) (n : ℕ) (d : Declaration) (ds : List Declaration) (line : List Word) (lines : Lines) (x : Definition) →
+    own_name line ≡ Some d.name → own_definition env n d line ≡ Some x → read_objects env n (d ∷ ds) (line ∷ lines) ≡ option_map (definition_first x) (read_objects env n ds lines)
+taken_object env n d ds line lines x e f =
+    ap (λ b. cond b (option_and_then (λ (y : Definition). option_map (definition_first y) (read_objects env n ds lines)) (own_definition env n d line)) (option_map (definition_first (default_of d)) (read_objects env n ds (line ∷ lines))))
+    (ap (λ o. is_called o d.name) e ∙ (bytes_eq-Decides d.name d.name).1 refl)
     ∙ ap (option_and_then (λ (y : Definition). option_map (definition_first y) (read_objects env n ds lines))) f
 
 abbrev pub objects_told : List GlobalDecl → Definitions
 objects_told [] = []
 objects_told (x ∷ xs) = object_of x.definition ∷ objects_told xs
 
-pub objects_back : (p : Program) (n : ℕ) (xs : List GlobalDecl) (more : Lines) → EachGlobal (ObjectTold p n) xs → are_different (map name_of xs) ≡ true → object_first (tags p) n more ≡ None →
+pub objects_back : (p : Program) (n : ℕ) (xs : List GlobalDecl) (more : Lines) → EachGlobal (ObjectTold p n) xs → are_different (map name_of xs) ≡ true → object_first more ≡ None →
     read_objects (known_of p []) n (map declaration_of xs) (lines_onto (objects_of p xs) more) ≡ Some (objects_told xs, more)
 objects_back p n [] more told apart e = refl
 objects_back p n (x ∷ xs) more told apart e =
@@ -223,25 +234,38 @@ objects_back p n (x ∷ xs) more told apart e =
     ∙ by told.0 (not_next_object p n x.name xs more told.1 (denied (is_among (map name_of xs) x.name) h.0) e)
     ∙ ap (option_map (definition_first (object_of x.definition))) (objects_back p n xs more told.1 h.1 e)
   where
-    by : ObjectTold p n x → is_called (object_first (tags p) n (lines_onto (objects_of p xs) more)) x.name ≡ false →
+    by : ObjectTold p n x → is_called (object_first (lines_onto (objects_of p xs) more)) x.name ≡ false →
         read_objects (known_of p []) n (declaration_of x ∷ map declaration_of xs) (lines_onto (object_lines p x x.definition) (lines_onto (objects_of p xs) more))
         ≡ option_map (definition_first (object_of x.definition)) (read_objects (known_of p []) n (map declaration_of xs) (lines_onto (objects_of p xs) more))
     by (NoLine f d) q =
         ap (λ ls. read_objects (known_of p []) n (declaration_of x ∷ map declaration_of xs) (lines_onto ls (lines_onto (objects_of p xs) more))) f
         ∙ skipped_object (known_of p []) n (declaration_of x) (map declaration_of xs) (lines_onto (objects_of p xs) more) q
         ∙ ap (λ (y : Definition). option_map (definition_first y) (read_objects (known_of p []) n (map declaration_of xs) (lines_onto (objects_of p xs) more))) d
-    by (OneLine line rest f g d other) q =
+    by (OneLine line f g d other) q =
         ap (λ ls. read_objects (known_of p []) n (declaration_of x ∷ map declaration_of xs) (lines_onto ls (lines_onto (objects_of p xs) more))) f
-        ∙ taken_object (known_of p []) n (declaration_of x) (map declaration_of xs) (onto line []) (lines_onto (objects_of p xs) more) (shape_of x.type) rest (object_of x.definition) g d
+        ∙ taken_object (known_of p []) n (declaration_of x) (map declaration_of xs) (onto line []) (lines_onto (objects_of p xs) more) (object_of x.definition) g d
 
--- no line of an object declares
-zero_is_no_declaration : (p : Program) (n : ℕ) (x : GlobalDecl) → size (shape_of x.type) + 2 ≤ n → IsDeclared p x → is_function (shape_of x.type) ≡ false → reading.declaration_line (tags p) n (onto (closed (declarator p x)) []) ≡ None
-zero_is_no_declaration p n x low is object =
-    ap (λ b. cond b None (declaration_from (tags p) n (onto (closed (declarator p x)) []))) (not_opened (declarator p x))
-    ∙ ap (declaration_from (tags p) n) (closed_words (declarator p x) ∙ declarator_words p x (Semicolon ∷ []) is)
-    ∙ no_storage (tags p) n (declarator_spelled p x (Semicolon ∷ [])) (declarator_base p x (Semicolon ∷ []) is)
-    ∙ ap (λ o. option_and_then only_function (option_and_then (declared_with false) o)) (named_back p n (shape_of x.type) x.name (Semicolon ∷ []) low is.2 refl)
-    ∙ ap (λ (b : Bool). cond b (Some (record (declaration_of x) { internal = false })) None) object
+-- a line of an object: it names the object and declares nothing alone
+
+zero_declares_nothing : (p : Program) (x : GlobalDecl) → IsDeclared p x → is_function (shape_of x.type) ≡ false → declares (onto (closed (declarator p x)) []) ≡ false
+zero_declares_nothing p x is object =
+    ap (λ b. cond b false (declares_alone (onto (closed (declarator p x)) []))) (not_opened (declarator p x))
+    ∙ ap declares_alone (closed_words (declarator p x) ∙ declarator_words p x (Semicolon ∷ []) is)
+    ∙ alone_function p x (Semicolon ∷ []) is refl
+    ∙ object
+
+zero_named : (p : Program) (x : GlobalDecl) → IsDeclared p x → own_name (onto (closed (declarator p x)) []) ≡ Some x.name
+zero_named p x is =
+    ap (λ b. cond b None (first_name (onto (closed (declarator p x)) []))) (not_opened (declarator p x))
+    ∙ ap first_name (closed_words (declarator p x) ∙ declarator_words p x (Semicolon ∷ []) is)
+    ∙ ap name_in_front (named_from p (shape_of x.type) x.name (Semicolon ∷ []) is.2)
+
+-- an object's line is read where its declarator is
+own_told : (p : Program) (n : ℕ) (x : GlobalDecl) (line rest : List Word) → read_decl (tags p) n (without_static line) ≡ Some ((shape_of x.type, Some x.name), rest) →
+    own_definition (known_of p []) n (declaration_of x) line ≡ defined_by (known_of p []) n (shape_of x.type) rest
+own_told p n x line rest e =
+    ap (option_and_then (object_defined (known_of p []) n (declaration_of x))) e
+    ∙ ap (λ b. cond b (defined_by (known_of p []) n (shape_of x.type) rest) None) (shape_itself (shape_of x.type))
 
 -- the words of an image's line
 abbrev linkage_word : Bool → List Word → List Word
@@ -271,35 +295,46 @@ linkage_cut : (a : Bool) (ws : List Word) → is_base ws ≡ true → without_st
 linkage_cut true ws e = refl
 linkage_cut false ws e = no_static ws e
 
-zero_told : (p : Program) (n : ℕ) (x : GlobalDecl) → size (shape_of x.type) + 2 ≤ n → IsDeclared p x → object_line (tags p) n (onto (closed (declarator p x)) []) ≡ Some ((shape_of x.type, Some x.name), Semicolon ∷ [])
-zero_told p n x low is =
-    ap (λ b. cond b None (read_decl (tags p) n (without_static (onto (closed (declarator p x)) [])))) (not_opened (declarator p x))
-    ∙ ap (λ (ws : List Word). read_decl (tags p) n (without_static ws)) (closed_words (declarator p x) ∙ declarator_words p x (Semicolon ∷ []) is)
-    ∙ ap (read_decl (tags p) n) (no_static (declarator_spelled p x (Semicolon ∷ [])) (declarator_base p x (Semicolon ∷ []) is))
-    ∙ named_back p n (shape_of x.type) x.name (Semicolon ∷ []) low is.2 refl
+zero_told : (p : Program) (n : ℕ) (x : GlobalDecl) → size (shape_of x.type) + 2 ≤ n → IsDeclared p x → own_definition (known_of p []) n (declaration_of x) (onto (closed (declarator p x)) []) ≡ Some Zeros
+zero_told p n x low is = own_told p n x (onto (closed (declarator p x)) []) (Semicolon ∷ []) (
+  ap (λ (ws : List Word). read_decl (tags p) n (without_static ws)) (closed_words (declarator p x) ∙ declarator_words p x (Semicolon ∷ []) is)
+  ∙ ap (read_decl (tags p) n) (no_static (declarator_spelled p x (Semicolon ∷ [])) (declarator_base p x (Semicolon ∷ []) is))
+  ∙ named_back p n (shape_of x.type) x.name (Semicolon ∷ []) low is.2 refl)
 
 image_told : (p : Program) (n : ℕ) (x : GlobalDecl) (items : List Item) → size (shape_of x.type) + 2 ≤ n → IsDeclared p x →
-    object_line (tags p) n (onto (image_line p x items) []) ≡ Some ((shape_of x.type, Some x.name), Assign ∷ onto (image_tokens p (Some (shape_of x.type)) items) (Semicolon ∷ []))
+    own_definition (known_of p []) n (declaration_of x) (onto (image_line p x items) []) ≡ defined_by (known_of p []) n (shape_of x.type) (Assign ∷ onto (image_tokens p (Some (shape_of x.type)) items) (Semicolon ∷ []))
 unfolding image_line
 image_told p n x items low is =
     let image = onto (image_tokens p (Some (shape_of x.type)) items) (Semicolon ∷ []) in
-    ap (λ b. cond b None (read_decl (tags p) n (without_static (onto (image_line p x items) [])))) (not_opened (linkage x ++ (declarator p x ++ codes "=" ∷ image_tokens p x.type items)))
-    ∙ ap (λ (ws : List Word). read_decl (tags p) n (without_static ws)) (image_words p x items is)
+    own_told p n x (onto (image_line p x items) []) (Assign ∷ image) (
+    ap (λ (ws : List Word). read_decl (tags p) n (without_static ws)) (image_words p x items is)
     ∙ ap (read_decl (tags p) n) (linkage_cut x.internal (declarator_spelled p x (Assign ∷ image)) (declarator_base p x (Assign ∷ image) is))
-    ∙ named_back p n (shape_of x.type) x.name (Assign ∷ image) low is.2 refl
+    ∙ named_back p n (shape_of x.type) x.name (Assign ∷ image) low is.2 refl)
 
-image_is_no_declaration : (p : Program) (n : ℕ) (x : GlobalDecl) (items : List Item) → size (shape_of x.type) + 2 ≤ n → IsDeclared p x → reading.declaration_line (tags p) n (onto (image_line p x items) []) ≡ None
+linkage_named : (a : Bool) (ws : List Word) → first_name (linkage_word a ws) ≡ first_name ws
+linkage_named true ws = refl
+linkage_named false ws = refl
+
+image_named : (p : Program) (x : GlobalDecl) (items : List Item) → IsDeclared p x → own_name (onto (image_line p x items) []) ≡ Some x.name
 unfolding image_line
-image_is_no_declaration p n x items low is =
+image_named p x items is =
     let image = onto (image_tokens p (Some (shape_of x.type)) items) (Semicolon ∷ []) in
-    let read = named_back p n (shape_of x.type) x.name (Assign ∷ image) low is.2 refl in
-    ap (λ b. cond b None (declaration_from (tags p) n (onto (image_line p x items) []))) (not_opened (linkage x ++ (declarator p x ++ codes "=" ∷ image_tokens p x.type items)))
-    ∙ ap (declaration_from (tags p) n) (image_words p x items is)
-    ∙ by x.internal (declarator_spelled p x (Assign ∷ image)) (shape_of x.type) x.name image (declarator_base p x (Assign ∷ image) is) read
+    ap (λ b. cond b None (first_name (onto (image_line p x items) []))) (not_opened (linkage x ++ (declarator p x ++ codes "=" ∷ image_tokens p x.type items)))
+    ∙ ap first_name (image_words p x items is)
+    ∙ linkage_named x.internal (declarator_spelled p x (Assign ∷ image))
+    ∙ ap name_in_front (named_from p (shape_of x.type) x.name (Assign ∷ image) is.2)
+
+image_declares_nothing : (p : Program) (x : GlobalDecl) (items : List Item) → IsDeclared p x → is_function (shape_of x.type) ≡ false → declares (onto (image_line p x items) []) ≡ false
+unfolding image_line
+image_declares_nothing p x items is object =
+    let image = onto (image_tokens p (Some (shape_of x.type)) items) (Semicolon ∷ []) in
+    ap (λ b. cond b false (declares_alone (onto (image_line p x items) []))) (not_opened (linkage x ++ (declarator p x ++ codes "=" ∷ image_tokens p x.type items)))
+    ∙ ap declares_alone (image_words p x items is)
+    ∙ by x.internal image
   where
-    by : (a : Bool) (ws : List Word) (s : Shape) (name : List ℕ) (image : List Word) → is_base ws ≡ true → read_decl (tags p) n ws ≡ Some ((s, Some name), Assign ∷ image) → declaration_from (tags p) n (linkage_word a ws) ≡ None
-    by true ws s name image b r = ap (option_and_then (declared_with true)) r
-    by false ws s name image b r = no_storage (tags p) n ws b ∙ ap (λ o. option_and_then only_function (option_and_then (declared_with false) o)) r
+    by : (a : Bool) (image : List Word) → declares_alone (linkage_word a (declarator_spelled p x (Assign ∷ image))) ≡ false
+    by true image = ap not (named_assign p (shape_of x.type) x.name (Assign ∷ image) is.2)
+    by false image = alone_function p x (Assign ∷ image) is refl ∙ object
 
 -- what the rules say of a global's definition
 abbrev pub HasImage : Program → ℕ → Shape → Definition → Type 0
@@ -330,20 +365,21 @@ object_told p file n x low is Zeros e has defined image =
         NoLine (ap (object_lines p x) e ∙ ap (λ (b : Bool). cond b [] (closed (declarator p x) ∷ [])) h)
         (ap (λ b. cond b Declared (cond x.internal Zeros Declared)) object ∙ ap (λ b. cond b Zeros Declared) h ∙ ap object_of (sym e))
     by false h object =
-        OneLine (closed (declarator p x)) (Semicolon ∷ []) (ap (object_lines p x) e ∙ ap (λ (b : Bool). cond b [] (closed (declarator p x) ∷ [])) h) (zero_told p n x low is) (ap (λ d. Some (object_of d)) (sym e)) (zero_is_no_declaration p n x low is object)
+        OneLine (closed (declarator p x)) (ap (object_lines p x) e ∙ ap (λ (b : Bool). cond b [] (closed (declarator p x) ∷ [])) h) (zero_named p x is) (zero_told p n x low is ∙ ap (λ d. Some (object_of d)) (sym e)) (zero_declares_nothing p x is object)
 object_told p file n x low is (Image items) e has defined image =
-    OneLine (image_line p x items) (Assign ∷ onto (image_tokens p (Some (shape_of x.type)) items) (Semicolon ∷ [])) (ap (object_lines p x) e) (image_told p n x items low is)
-    (ap (option_and_then image_end) (image_back p file n (shape_of x.type) items (Semicolon ∷ []) image.1 is.2 image.0 refl) ∙ ap (λ d. Some (object_of d)) (sym e))
-    (image_is_no_declaration p n x items low is)
+    let object : is_function (shape_of x.type) ≡ false = denied (is_function (shape_of x.type)) (both (not (is_void (shape_of x.type))) (not (is_function (shape_of x.type))) has).1 in
+    OneLine (image_line p x items) (ap (object_lines p x) e) (image_named p x items is)
+    (image_told p n x items low is ∙ ap (option_and_then image_end) (image_back p file n (shape_of x.type) items (Semicolon ∷ []) image.1 is.2 image.0 refl) ∙ ap (λ d. Some (object_of d)) (sym e))
+    (image_declares_nothing p x items is object)
 object_told p file n x low is (Function body) e has defined image =
     NoLine (ap (object_lines p x) e) (ap (λ b. cond b Declared (cond x.internal Zeros Declared)) has ∙ ap object_of (sym e))
 
 -- behind the declarations no line declares
-pub objects_declare_nothing : (p : Program) (n : ℕ) (xs : List GlobalDecl) (more : Lines) → EachGlobal (ObjectTold p n) xs → declared_first (tags p) n more ≡ None → declared_first (tags p) n (lines_onto (objects_of p xs) more) ≡ None
+pub objects_declare_nothing : (p : Program) (n : ℕ) (xs : List GlobalDecl) (more : Lines) → EachGlobal (ObjectTold p n) xs → declared_first more ≡ false → declared_first (lines_onto (objects_of p xs) more) ≡ false
 objects_declare_nothing p n [] more told e = e
 objects_declare_nothing p n (x ∷ xs) more told e =
-    ap (declared_first (tags p) n) (lines_append (object_lines p x x.definition) (objects_of p xs) more) ∙ by told.0 (objects_declare_nothing p n xs more told.1 e)
+    ap declared_first (lines_append (object_lines p x x.definition) (objects_of p xs) more) ∙ by told.0 (objects_declare_nothing p n xs more told.1 e)
   where
-    by : ObjectTold p n x → declared_first (tags p) n (lines_onto (objects_of p xs) more) ≡ None → declared_first (tags p) n (lines_onto (object_lines p x x.definition) (lines_onto (objects_of p xs) more)) ≡ None
-    by (NoLine f d) later = ap (λ ls. declared_first (tags p) n (lines_onto ls (lines_onto (objects_of p xs) more))) f ∙ later
-    by (OneLine line rest f g d other) later = ap (λ ls. declared_first (tags p) n (lines_onto ls (lines_onto (objects_of p xs) more))) f ∙ other
+    by : ObjectTold p n x → declared_first (lines_onto (objects_of p xs) more) ≡ false → declared_first (lines_onto (object_lines p x x.definition) (lines_onto (objects_of p xs) more)) ≡ false
+    by (NoLine f d) later = ap (λ ls. declared_first (lines_onto ls (lines_onto (objects_of p xs) more))) f ∙ later
+    by (OneLine line f g d other) later = ap (λ ls. declared_first (lines_onto ls (lines_onto (objects_of p xs) more))) f ∙ other

@@ -71,10 +71,10 @@ program_clean p is =
 pub text_back : (p : Program) (n : ℕ) → IsProgram p → program_weight p ≤ n → read_text n (Text p) ≡ Some (map (seen_aggregate p) p.graph.aggs, p.globals)
 text_back p n is low = ap (read_lines n) (lines_cut 0 (program_lines p) (program_clean p is)) ∙ program_back p n is low
 
-same_abi : (a b : Abi) → a ≡ b
+pub same_abi : (a b : Abi) → a ≡ b
 same_abi Lp64 Lp64 = refl
 
-same_seen : {s t : Seen} → Some s ≡ Some t → s ≡ t
+pub same_seen : {s t : Seen} → Some s ≡ Some t → s ≡ t
 same_seen e = cc
 
 pub same_text : (bytes : List ℕ) (p q : Program) → IsTextOf bytes p → IsTextOf bytes q → SameProgram p q

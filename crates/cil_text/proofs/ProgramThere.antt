@@ -42,6 +42,7 @@ use Rattle.cil_text.proofs.TextBack.{IsTold, lines_back}
 use Rattle.cil_text.proofs.NamesThere.{all_get, plain_is_name, AreLocals, scope_told, file_scope_told, body_locals, global_there, global_is, named_global}
 use Rattle.cil_text.proofs.StmtsThere.{HasMemset, StmtsCast, type_is, given, label_there, stmts_there}
 use Rattle.cil_text.proofs.ShapesThere.{shape_there}
+use Rattle.cil_text.proofs.StandsThere.{all_true, allowed_there, filled_there}
 use Rattle.cil_text.proofs.CastsThere.{LocalsCast, DefinitionCast, GlobalCast, casts_there}
 
 -- aggregates
@@ -321,6 +322,7 @@ body_there p is n x b (FuncType ret params proto variadic) type shaped fit cast 
       stmts = stmts_there c (scope_told p is.names b.locals names.0 b.labels) (has_memset p is.names) (label_there c names.1 names.2) None tt ret b.stmts cast.0
           parts.0 (ap (list_all (λ l. nat_lt l (length b.labels))) numbers ∙ numbers_small 0 (length b.labels) b.labels (omega arith)) gotos.0 cases.0 breaks.1;
       labels = ap (map (label_name c)) numbers ∙ labels_named [] b.labels;
+      apart = all_true (are_different (map local_name_of b.locals)) (are_different b.labels) names.0.differ names.2;
       few = omega (arith, behind_size b.params b.locals);
       low = omega arith;
     }
@@ -400,6 +402,8 @@ told_there p n is low =
       are_structs = parts.4;
       aggregates_low = omega (arith, sizes_joined p parts.0 parts.1, ap (aggregates_size p) parts.2);
       tags_differ = is.names.tags;
+      allowed = allowed_there p is;
+      filled = filled_there p is;
       declared = declared_each p p.globals rules;
       globals_low = omega (arith, sizes_small p p.globals);
       objects = objects_each p (file_there p is) n p.globals (omega arith) rules;

@@ -6,7 +6,7 @@ use Rattle.cil_base.specs.declared.operators.BinOp.TheVariants as op
 use Rattle.type_graph.specs.Shapes.{IntType, PtrType, ArrayType, FuncType, NoTypes, MoreTypes}
 use Rattle.cil_tree.specs.Tree.{Const, Bin, Return, Done, Seq, Zeros, Function}
 use Rattle.cil_tree.specs.Typing.{unqualified}
-use Rattle.cil_text.specs.Words.{Semicolon, word_of, onto}
+use Rattle.cil_text.specs.Words.{Semicolon, word_of}
 use Rattle.cil_text.specs.ReadTypes.{read_decl}
 use Rattle.cil_text.specs.ReadText.{line_words, read_text}
 

@@ -16,8 +16,10 @@ use Rattle.cil_tree.specs.Programs.{seen_member, SeenAggregate, seen_aggregate}
 use Rattle.cil_text.specs.Words.{Word, LeftParen, LeftBrace, Semicolon, Operator, TagWord, Name, word_of, onto}
 use Rattle.cil_text.specs.ReadExps.{Env}
 use Rattle.cil_text.specs.Known.{known_member, known_members, known_global, known_of}
-use Rattle.cil_text.specs.ReadAggregates.{Lines, opened_tag, lone_tag, tag_of}
-use Rattle.cil_text.specs.ReadGlobals.{read_declarations, read_objects, read_bodies, seen_field, seen_fields, declared_local, env_from, definition_with, assembled, seen_end, read_defined, read_lines, Definitions}
+use Rattle.std.specs.List.{list_all}
+use Rattle.cil_text.specs.Allowed.{allowed, is_filled}
+use Rattle.cil_text.specs.ReadAggregates.{Lines, opened_tag, lone_tag, tag_of, aggregates_allowed, first_filled}
+use Rattle.cil_text.specs.ReadGlobals.{read_declarations, read_objects, read_bodies, seen_field, seen_fields, declared_local, env_from, definition_with, assembled, seen_end, declared_name, read_defined, read_lines, Definitions}
 use Rattle.cil_text.proofs.WordsBack.{name_word}
 use Rattle.cil_text.proofs.TypesBack.{kind_spelled, tag_spelled, base_spelled, grouped, before, behind, IsShape}
 use Rattle.cil_text.proofs.DeclsBack.{cond_both}
@@ -128,6 +130,10 @@ assembled_back p (x ∷ xs) is =
     ∙ ap (λ (d : Definition). record x { definition = d } ∷ assembled (map declaration_of xs) (objects_told xs) (bodies_told xs)) (whole_definition x.definition)
     ∙ ap (λ ys. x ∷ ys) (assembled_back p xs is.1)
 
+names_declared : (xs : List GlobalDecl) → map declared_name (map declaration_of xs) ≡ map name_of xs
+names_declared [] = refl
+names_declared (x ∷ xs) = ap (λ ns. x.name ∷ ns) (names_declared xs)
+
 -- a program whose text is read back
 pub record IsTold (p : Program) (n : ℕ) : Type 0 where
   pub enums : List Aggregate
@@ -137,6 +143,8 @@ pub record IsTold (p : Program) (n : ℕ) : Type 0 where
   pub are_structs : EachAggregate (IsStruct p) structs
   pub aggregates_low : aggregates_size p enums + aggregates_size p structs ≤ n
   pub tags_differ : are_different (tags p) ≡ true
+  pub allowed : aggregates_allowed (map (seen_aggregate p) p.graph.aggs) ≡ true
+  pub filled : list_all is_filled (map (seen_aggregate p) p.graph.aggs) ≡ true
   pub declared : EachGlobal (IsDeclared p) p.globals
   pub globals_low : globals_size p.globals ≤ n
   pub objects : EachGlobal (ObjectTold p n) p.globals
@@ -164,11 +172,13 @@ lines_back p n is =
     let apart = globals_apart p xs is.declared in
     let functions = lines_onto (functions_of p xs) [] in
     let objects = lines_onto (objects_of p xs) functions in
-    let nothing = headed_declares_nothing (tags p) n functions (functions_headed p n xs is.functions) in
+    let nothing = headed_declares_nothing functions (functions_headed p n xs is.functions) in
     ap (read_lines n) (lines_are p)
-    ∙ ap (option_and_then (λ (r : List SeenAggregate × Lines). read_defined n r.0 (read_declarations (map tag_of r.0) n r.1))) (aggregates_back p n is.enums is.structs (global_lines p xs) is.both_are is.are_enums is.are_structs is.aggregates_low is.tags_differ apart.0 apart.1)
-    ∙ ap (λ ts. read_defined n seen (read_declarations ts n (global_lines p xs))) (tags_seen p p.graph.aggs)
-    ∙ ap (read_defined n seen) (declarations_back p n xs objects is.globals_low is.declared (objects_declare_nothing p n xs functions is.objects nothing.0))
+    ∙ ap (λ o. option_and_then (λ (r : List SeenAggregate × Lines). option_and_then (read_defined n r.0) (read_declarations (map tag_of r.0) n r.1)) (option_and_then (allowed first_filled) o)) (aggregates_back p n is.enums is.structs (global_lines p xs) is.both_are is.are_enums is.are_structs is.aggregates_low is.tags_differ is.allowed apart.0 apart.1)
+    ∙ ap (λ b. option_and_then (λ (r : List SeenAggregate × Lines). option_and_then (read_defined n r.0) (read_declarations (map tag_of r.0) n r.1)) (cond b (Some (seen, global_lines p xs)) None)) is.filled
+    ∙ ap (λ ts. option_and_then (read_defined n seen) (read_declarations ts n (global_lines p xs))) (tags_seen p p.graph.aggs)
+    ∙ ap (option_and_then (read_defined n seen)) (declarations_back p n xs objects is.globals_low is.declared (objects_declare_nothing p n xs functions is.objects nothing.0))
+    ∙ ap (λ b. cond b (option_and_then (λ (o : Definitions × Lines). option_and_then (seen_end seen (map declaration_of xs) o.0) (read_bodies (env_from seen (map declaration_of xs)) n (map declaration_of xs) o.1)) (read_objects (env_from seen (map declaration_of xs)) n (map declaration_of xs) objects)) None) (ap are_different (names_declared xs) ∙ is.names_differ)
     ∙ ap (λ (env : Env). option_and_then (λ (o : Definitions × Lines). option_and_then (seen_end seen (map declaration_of xs) o.0) (read_bodies env n (map declaration_of xs) o.1)) (read_objects env n (map declaration_of xs) objects)) (env_seen p is.declared)
     ∙ ap (option_and_then (λ (o : Definitions × Lines). option_and_then (seen_end seen (map declaration_of xs) o.0) (read_bodies (known_of p []) n (map declaration_of xs) o.1))) (objects_back p n xs functions is.objects is.names_differ nothing.1)
     ∙ ap (option_and_then (seen_end seen (map declaration_of xs) (objects_told xs))) (bodies_back p n xs is.functions is.names_differ)

@@ -40,7 +40,7 @@ place_low [] i x e = absurd (cc e)
 place_low (y ∷ xs) zero x e = omega arith
 place_low (y ∷ xs) (suc i) x e = omega (arith, place_low xs i x e)
 
-either : (m n : ℕ) → (m ≤ n) ⊎ (n < m)
+pub either : (m n : ℕ) → (m ≤ n) ⊎ (n < m)
 either zero n = inl (omega arith)
 either (suc m) zero = inr (omega arith)
 either (suc m) (suc n) = by (either m n)

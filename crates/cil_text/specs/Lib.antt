@@ -3,8 +3,10 @@ pub mod ReadTypes
 pub mod ReadExps
 pub mod Known
 pub mod ReadStmts
+pub mod Allowed
 pub mod ReadImages
 pub mod ReadAggregates
 pub mod ReadGlobals
 pub mod ReadText
 pub mod Occurs
+pub mod TypesOf

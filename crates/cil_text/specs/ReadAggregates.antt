@@ -1,12 +1,17 @@
 -- Device: the executable reading of a text's aggregates (C11 6.7.2.1 to 6.7.2.3) from lines of words: enums with their enumerators, the tags of structs and unions, and the members of those that are complete.
-use Rattle.std.specs.Prelude.{ℕ, suc, zero, Bool, true, false, if◌then◌else◌, List, [], ◌∷◌, ◌++◌, Option, Some, None, map, pos}
+use Rattle.std.specs.Prelude.{ℕ, suc, zero, ◌&&◌, Bool, true, false, if◌then◌else◌, List, [], ◌∷◌, ◌++◌, Option, Some, None, map, pos}
+use Rattle.std.specs.List.{list_all}
 use Rattle.std.specs.Option.{option_map, option_and_then}
 use Rattle.std.specs.Str.{bytes_eq}
 use Rattle.cil_base.specs.declared.kinds.IntKind.TheVariants.{Int as int}
+use Rattle.cil_base.specs.Arithmetic.{fits}
 use Rattle.type_graph.specs.declared.aggregates.AggKind.{AggKind}
 use Rattle.type_graph.specs.declared.aggregates.AggKind.TheVariants.{Enum}
 use Rattle.type_graph.specs.Shapes.{IntType}
+use Rattle.cil_tree.specs.Typing.{is_enum}
+use Rattle.cil_tree.specs.Names.{are_different}
 use Rattle.cil_tree.specs.Programs.{SeenMember, SeenAggregate}
+use Rattle.cil_text.specs.Allowed.{allowed, stand_well, is_filled}
 use Rattle.cil_text.specs.Words.{Word, LeftBrace, RightBrace, Comma, Semicolon, Assign, TagWord, Name}
 use Rattle.cil_text.specs.ReadTypes.{Named, read_decl}
 use Rattle.cil_text.specs.ReadStmts.{Numbered, read_number}
@@ -18,9 +23,9 @@ Lines = List (List Word)
 abbrev pub LinesReading : Type 0 → Type 0
 LinesReading A = Option (A × Lines)
 
--- `NAME = number ,`
+-- `NAME = number ,`; the value is one of int (C11 6.7.2.2p2)
 abbrev pub enumerator_at : List ℕ → Numbered × List Word → Option SeenMember
-enumerator_at name (x, Comma ∷ []) = Some (record { name = name; type = IntType int; value = x.1 })
+enumerator_at name (x, Comma ∷ []) = if fits int x.1 then Some (record { name = name; type = IntType int; value = x.1 }) else None
 enumerator_at name _ = None
 
 abbrev pub read_enumerator : List Word → Option SeenMember
@@ -54,7 +59,7 @@ opened_tag _ = None
 
 -- the tag in `struct T ;` and `union T ;`
 abbrev pub lone_tag : List Word → Option (AggKind × List ℕ)
-lone_tag (TagWord kind ∷ Name tag ∷ Semicolon ∷ ws) = Some (kind, tag)
+lone_tag (TagWord kind ∷ Name tag ∷ Semicolon ∷ ws) = if is_enum kind then None else Some (kind, tag)
 lone_tag _ = None
 
 abbrev pub enum_with : List ℕ → List SeenMember → SeenAggregate
@@ -117,6 +122,20 @@ with_enums enums r = (enums ++ r.0, r.1)
 abbrev pub structs_from : ℕ → List SeenAggregate → List Tag × Lines → LinesReading (List SeenAggregate)
 structs_from n enums t = option_map (with_enums enums) (read_structs (read_member (all_tags enums t.0) n) t.0 t.1)
 
+-- tags differ (C11 6.2.3), and each aggregate's members may be where it stands
+abbrev pub aggregates_allowed : List SeenAggregate → Bool
+aggregates_allowed xs = are_different (map tag_of xs) && stand_well [] xs
+
+abbrev pub first_allowed : List SeenAggregate × Lines → Bool
+first_allowed r = aggregates_allowed r.0
+
+-- aggregates that may stand as they do, and the lines behind them
+abbrev pub read_placed : ℕ → Lines → LinesReading (List SeenAggregate)
+read_placed n lines = option_and_then (allowed first_allowed) (option_and_then (λ (r : List SeenAggregate × Lines). structs_from n r.0 (read_tags r.1)) (read_enums n lines))
+
+abbrev pub first_filled : List SeenAggregate × Lines → Bool
+first_filled r = list_all is_filled r.0
+
 -- all aggregates, and the lines behind them
 abbrev pub read_aggregates : ℕ → Lines → LinesReading (List SeenAggregate)
-read_aggregates n lines = option_and_then (λ (r : List SeenAggregate × Lines). structs_from n r.0 (read_tags r.1)) (read_enums n lines)
+read_aggregates n lines = option_and_then (allowed first_filled) (read_placed n lines)

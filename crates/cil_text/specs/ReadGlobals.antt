@@ -1,13 +1,14 @@
 -- Device: the executable reading of a text's globals (C11 6.7, 6.9) from lines of words: declarations, objects that are defined, and functions with bodies; and of a whole text.
-use Rattle.std.specs.Prelude.{ℕ, suc, zero, ◌&&◌, Bool, true, false, if◌then◌else◌, List, [], ◌∷◌, ◌++◌, Option, Some, None, map}
+use Rattle.std.specs.Prelude.{ℕ, suc, zero, ◌&&◌, not, Bool, true, false, if◌then◌else◌, List, [], ◌∷◌, ◌++◌, Option, Some, None, map}
 use Rattle.std.specs.Option.{option_map, option_and_then}
 use Rattle.std.specs.Str.{bytes_eq}
 use Rattle.type_graph.specs.Shapes.{Shape, Shapes, FuncType, NoTypes, MoreTypes}
 use Rattle.cil_tree.specs.Tree.{Stmts, Item, Local, Body, Definition, Declared, Zeros, Image, Function, GlobalDecl}
-use Rattle.cil_tree.specs.Typing.{is_function, is_enum}
+use Rattle.cil_tree.specs.Typing.{same_shape, is_function, is_enum}
+use Rattle.cil_tree.specs.Names.{are_different, local_name_of}
 use Rattle.cil_tree.specs.Programs.{SeenMember, SeenAggregate}
-use Rattle.cil_text.specs.Words.{Word, LeftBrace, Semicolon, Assign, TagWord, ExternWord, StaticWord, Name}
-use Rattle.cil_text.specs.ReadTypes.{Reading, Named, read_decl}
+use Rattle.cil_text.specs.Words.{Word, LeftParen, LeftBrace, Semicolon, Assign, TagWord, ExternWord, StaticWord, Name}
+use Rattle.cil_text.specs.ReadTypes.{Named, read_decl}
 use Rattle.cil_text.specs.ReadExps.{Env, is_base}
 use Rattle.cil_text.specs.ReadStmts.{Head, is_label, label_text, read_heads, read_nested}
 use Rattle.cil_text.specs.ReadImages.{read_image}
@@ -29,7 +30,51 @@ ends_open [] = false
 ends_open (w ∷ []) = is_open_brace w
 ends_open (w ∷ v ∷ ws) = ends_open (v ∷ ws)
 
+-- names
+
+-- the words from the first name on that stands behind no `struct`, `union` or `enum`
+abbrev pub from_name : List Word → List Word
+from_name [] = []
+from_name (TagWord kind ∷ []) = []
+from_name (TagWord kind ∷ w ∷ ws) = from_name ws
+from_name (Name name ∷ ws) = Name name ∷ ws
+from_name (w ∷ ws) = from_name ws
+
+abbrev pub name_in_front : List Word → Option (List ℕ)
+name_in_front (Name name ∷ ws) = Some name
+name_in_front _ = None
+
+-- what the line declares
+abbrev pub first_name : List Word → Option (List ℕ)
+first_name ws = name_in_front (from_name ws)
+
+abbrev pub is_call_in_front : List Word → Bool
+is_call_in_front (Name name ∷ LeftParen ∷ ws) = true
+is_call_in_front _ = false
+
+-- the first name is that of a function, whose parameters stand right behind it (C11 6.7.6.3)
+abbrev pub names_function : List Word → Bool
+names_function ws = is_call_in_front (from_name ws)
+
+abbrev pub is_called : Option (List ℕ) → List ℕ → Bool
+is_called None name = false
+is_called (Some x) name = bytes_eq x name
+
+abbrev pub has_assign : List Word → Bool
+has_assign [] = false
+has_assign (Assign ∷ ws) = true
+has_assign (w ∷ ws) = has_assign ws
+
 -- declarations
+
+-- a line that declares alone: an object that is external, what is internal and has no `=`, or a function
+abbrev pub declares_alone : List Word → Bool
+declares_alone (ExternWord ∷ ws) = true
+declares_alone (StaticWord ∷ ws) = not (has_assign ws)
+declares_alone ws = names_function ws
+
+abbrev pub declares : List Word → Bool
+declares ws = if ends_open ws then false else declares_alone ws
 
 abbrev pub declared_with : Bool → Named × List Word → Option Declaration
 declared_with internal ((s, Some name), Semicolon ∷ []) = Some (record { name = name; type = s; internal = internal })
@@ -44,15 +89,15 @@ declaration_from tags n (ExternWord ∷ ws) = option_and_then (declared_with fal
 declaration_from tags n (StaticWord ∷ ws) = option_and_then (declared_with true) (read_decl tags n ws)
 declaration_from tags n ws = option_and_then only_function (option_and_then (declared_with false) (read_decl tags n ws))
 
-abbrev pub declaration_line : List (List ℕ) → ℕ → List Word → Option Declaration
-declaration_line tags n ws = if ends_open ws then None else declaration_from tags n ws
-
 abbrev pub declaration_first : Declaration → List Declaration × Lines → List Declaration × Lines
 declaration_first d r = (d ∷ r.0, r.1)
 
-abbrev pub read_declarations : List (List ℕ) → ℕ → Lines → List Declaration × Lines
-read_declarations tags n [] = ([], [])
-read_declarations tags n (line ∷ lines) = elim (declaration_line tags n line) [ None ↦ ([], line ∷ lines) | Some d ↦ declaration_first d (read_declarations tags n lines) ]
+abbrev pub read_declarations : List (List ℕ) → ℕ → Lines → LinesReading (List Declaration)
+read_declarations tags n [] = Some ([], [])
+read_declarations tags n (line ∷ lines) =
+    if declares line
+    then option_and_then (λ (d : Declaration). option_map (declaration_first d) (read_declarations tags n lines)) (declaration_from tags n line)
+    else Some ([], line ∷ lines)
 
 -- objects that are defined
 
@@ -60,13 +105,9 @@ abbrev pub without_static : List Word → List Word
 without_static (StaticWord ∷ ws) = ws
 without_static ws = ws
 
--- the declarator of a line that defines an object, and what stands behind it
-abbrev pub object_line : List (List ℕ) → ℕ → List Word → Reading Named
-object_line tags n ws = if ends_open ws then None else read_decl tags n (without_static ws)
-
-abbrev pub is_called : Option (List ℕ) → List ℕ → Bool
-is_called None name = false
-is_called (Some x) name = bytes_eq x name
+-- what the line defines, if it opens no body
+abbrev pub own_name : List Word → Option (List ℕ)
+own_name ws = if ends_open ws then None else first_name ws
 
 abbrev pub image_end : List Item × List Word → Option Definition
 image_end (items, Semicolon ∷ []) = Some (Image items)
@@ -76,6 +117,13 @@ abbrev pub defined_by : Env → ℕ → Shape → List Word → Option Definitio
 defined_by env n s (Semicolon ∷ []) = Some Zeros
 defined_by env n s (Assign ∷ ws) = option_and_then image_end (read_image env n (Some s) ws)
 defined_by env n s _ = None
+
+-- an object by its own line, whose declarator gives the type that is declared (C11 6.7p4)
+abbrev pub object_defined : Env → ℕ → Declaration → Named × List Word → Option Definition
+object_defined env n d r = if same_shape r.0.0 d.type then defined_by env n d.type r.1 else None
+
+abbrev pub own_definition : Env → ℕ → Declaration → List Word → Option Definition
+own_definition env n d line = option_and_then (object_defined env n d) (read_decl env.tags n (without_static line))
 
 -- what a global is that no later line defines
 abbrev pub default_of : Declaration → Definition
@@ -91,13 +139,10 @@ definition_first x r = (x ∷ r.0, r.1)
 abbrev pub read_objects : Env → ℕ → List Declaration → Lines → LinesReading Definitions
 read_objects env n [] lines = Some ([], lines)
 read_objects env n (d ∷ ds) [] = option_map (definition_first (default_of d)) (read_objects env n ds [])
-read_objects env n (d ∷ ds) (line ∷ lines) = elim (object_line env.tags n line) [
-  | None ↦ option_map (definition_first (default_of d)) (read_objects env n ds (line ∷ lines))
-  | Some r ↦
-      if is_called r.0.1 d.name
-      then option_and_then (λ (x : Definition). option_map (definition_first x) (read_objects env n ds lines)) (defined_by env n r.0.0 r.1)
-      else option_map (definition_first (default_of d)) (read_objects env n ds (line ∷ lines))
-]
+read_objects env n (d ∷ ds) (line ∷ lines) =
+    if is_called (own_name line) d.name
+    then option_and_then (λ (x : Definition). option_map (definition_first x) (read_objects env n ds lines)) (own_definition env n d line)
+    else option_map (definition_first (default_of d)) (read_objects env n ds (line ∷ lines))
 
 -- functions with bodies
 
@@ -169,8 +214,12 @@ abbrev pub labels_in : Lines → List (List ℕ)
 labels_in [] = []
 labels_in (line ∷ lines) = if is_label line then label_text line ∷ labels_in lines else labels_in lines
 
+-- the names of locals differ, and those of labels (C11 6.2.1p4, 6.8.1p3)
+abbrev pub are_apart : List Local → List (List ℕ) → Bool
+are_apart locals labels = are_different (map local_name_of locals) && are_different labels
+
 abbrev pub body_with : List (List ℕ) → List Local → List (List ℕ) → Stmts × List Head → Option Body
-body_with params locals labels (ss, []) = Some (record { params = params; locals = locals; labels = labels; stmts = ss })
+body_with params locals labels (ss, []) = if are_apart locals labels then Some (record { params = params; locals = locals; labels = labels; stmts = ss }) else None
 body_with params locals labels _ = None
 
 abbrev pub read_stmts : Env → ℕ → List (List ℕ) → List Local → Lines → Option Body
@@ -225,10 +274,16 @@ abbrev pub seen_end : List SeenAggregate → List Declaration → Definitions �
 seen_end xs ds definitions (bodies, []) = Some (xs, assembled ds definitions bodies)
 seen_end xs ds definitions _ = None
 
+abbrev pub declared_name : Declaration → List ℕ
+declared_name d = d.name
+
+-- behind declarations, whose names differ (C11 6.2.1p4)
 abbrev pub read_defined : ℕ → List SeenAggregate → List Declaration × Lines → Option Seen
 read_defined n xs r =
-    option_and_then (λ (o : Definitions × Lines). option_and_then (seen_end xs r.0 o.0) (read_bodies (env_from xs r.0) n r.0 o.1)) (read_objects (env_from xs r.0) n r.0 r.1)
+    if are_different (map declared_name r.0)
+    then option_and_then (λ (o : Definitions × Lines). option_and_then (seen_end xs r.0 o.0) (read_bodies (env_from xs r.0) n r.0 o.1)) (read_objects (env_from xs r.0) n r.0 r.1)
+    else None
 
 -- the lines of a text; n bounds the depth of what is read
 abbrev pub read_lines : ℕ → Lines → Option Seen
-read_lines n lines = option_and_then (λ (r : List SeenAggregate × Lines). read_defined n r.0 (read_declarations (map tag_of r.0) n r.1)) (read_aggregates n lines)
+read_lines n lines = option_and_then (λ (r : List SeenAggregate × Lines). option_and_then (read_defined n r.0) (read_declarations (map tag_of r.0) n r.1)) (read_aggregates n lines)

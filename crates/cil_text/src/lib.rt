@@ -2,7 +2,8 @@
 //! and globals from its text.
 //!
 //! Its public laws say that no bytes are the text of two programs, that equal programs have one text, that what equals
-//! a well-formed program is well-formed, and that the reading gives each program back from its text.
+//! a well-formed program is well-formed, that the reading gives each program back from its text, and that what is read
+//! from a program's text is a program with that text, where it has no types but those that occur in it.
 //!
 //! The text is the product's own; its parts follow C11 6.4 to 6.9.
 #![tactic(auto)]
@@ -10,5 +11,6 @@
 mod laws;
 
 pub use laws::{
-    equal_programs_are_well_formed, equal_programs_have_one_text, one_text, text_is_read,
+    equal_programs_are_well_formed, equal_programs_have_one_text, needed_types_occur, one_text,
+    text_is_read, what_is_read_has_the_text,
 };

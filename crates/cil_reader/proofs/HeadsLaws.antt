@@ -1,0 +1,280 @@
+-- Device: steps of the readings of a function's lines.
+use Rattle.std.proofs.Common.{◌≡◌, ℕ, zero, suc, Bool, true, false, cond, List, [], ◌∷◌, ◌++◌, length, drop, map, get_or, append_assoc, append-nil, ◌+◌, ◌<◌, ◌≤◌, Vec, Option, Some, None, refl, sym, ap, ◌∙◌, arith, ℤ, pos, negsuc, ◌-ℤ◌, neg_ℤ}
+use Rattle.std.specs.Option.{option_map, option_and_then}
+use Rattle.std.specs.Global.{Global}
+use Rattle.cil_base.specs.declared.kinds.IntKind.{IntKind}
+use Rattle.cil_base.specs.declared.operators.BinOp.TheVariants.{Sub}
+use Rattle.cil_base.specs.declared.numbers.LabelId.{LabelId}
+use Rattle.type_graph.specs.declared.nodes.Node.{Node}
+use Rattle.type_graph.specs.Arena.{Graph}
+use Rattle.type_graph.specs.Growth.{Grows}
+use Rattle.type_graph.proofs.GrowthLaws.{grows_twice}
+use Rattle.cil_base.specs.declared.numbers.TypeId.{TypeId}
+use Rattle.cil_tree.specs.declared.expressions.Exp.{Exp as SeenExp}
+use Rattle.cil_tree.specs.declared.statements.Instr.{Instr as SeenInstr}
+use Rattle.cil_tree.specs.declared.statements.Stmt.TheVariants as stmt
+use Rattle.cil_tree.specs.Tree.{Exp, Instr, Stmt, Do, Label, Return}
+use Rattle.cil_tree.specs.Tree as plain
+use Rattle.cil_tree.specs.View.{exp_of, instr_of, stmt_of}
+use Rattle.cil_text.specs.Words.{Word, LeftParen, RightParen, LeftBrace, RightBrace, ElseWord, Colon, Semicolon, Operator, Number, IfWord, SwitchWord, WhileWord, CaseWord, DefaultWord, GotoWord, BreakWord, ReturnWord}
+use Rattle.cil_text.specs.ReadTypes.{Reading, skip_one, find, closed}
+use Rattle.cil_text.specs.ReadExps.{Env, enclosed, read_exp}
+use Rattle.cil_text.specs.ReadStmts.{Numbered, is_minus, negated, read_number, Head, Whole, Tested, Turned, opened_by, read_tested, is_end_of_line, returned, read_return, case_of, is_label, label_text, read_simple, read_instr, read_head, read_heads, head_first}
+use Rattle.cil_reader.specs.declared.heads.Head.{Head as SeenHead}
+use Rattle.cil_reader.specs.declared.heads.Head.TheVariants as seen
+use Rattle.cil_reader.specs.Parts.{ExpKnown}
+use Rattle.cil_reader.specs.Instructions.{InstrKnown, is_end}
+use Rattle.cil_reader.specs.declared.words.Word.{Word as Seen}
+use Rattle.cil_reader.specs.Said.{all_said, all_lines}
+use Rattle.cil_reader.specs.Heads.{below_zero, head_of, heads_of, heads_behind, HeadKnown, HeadsKnown, opens, opening, ends_opening, ends_case, labelled, brace_of, is_block, block_line, is_jump, jump_line}
+use Rattle.cil_reader.proofs.InstructionLaws.{ended, unended}
+
+-- numbers
+
+pub minus_is : (n : ℕ) → neg_ℤ (pos n) ≡ negated n
+minus_is zero = refl
+minus_is (suc n) = refl
+
+pub least_is : (n : ℕ) → negsuc 0 -ℤ pos n ≡ negsuc n
+least_is zero = refl
+least_is (suc n) = let e : 0 + n ≡ n = omega arith in ap (λ (k : ℕ). negsuc (suc k)) e
+
+pub negative_is : (kind : IntKind) (n : ℕ) (ws : List Word) → read_number (Operator Sub ∷ Number kind n ∷ ws) ≡ Some (below_zero kind n ws)
+negative_is kind n ws = by (is_minus ws)
+  where
+    by : (v : Bool) → cond {A = Reading Numbered} v (Some ((kind, negsuc n), skip_one (skip_one ws))) (Some ((kind, negated n), ws)) ≡ Some (cond {A = Numbered × List Word} v ((kind, negsuc n), skip_one (skip_one ws)) ((kind, negated n), ws))
+    by true = refl
+    by false = refl
+
+-- lines that open blocks
+
+opens_by : (e : Exp) (ws : List Word) → option_and_then opens (closed e ws) ≡ cond (ends_opening ws) (Some e) None
+opens_by e (RightParen ∷ LeftBrace ∷ []) = refl
+opens_by e (RightParen ∷ LeftBrace ∷ w ∷ ws) = refl
+opens_by e (RightParen ∷ _) = refl
+opens_by e _ = refl
+
+opened_by_read : (o : Reading Exp) (e : Exp) (ws : List Word) → o ≡ Some (e, ws) → option_and_then opens (enclosed (λ (x : Exp). x) o) ≡ cond (ends_opening ws) (Some e) None
+opened_by_read o e ws h = ap (λ p. option_and_then opens (enclosed (λ (x : Exp). x) p)) h ∙ opens_by e ws
+
+pub opened_gives : (o : Reading Exp) (e : Exp) (ws : List Word) → o ≡ Some (e, ws) → ends_opening ws ≡ true → option_and_then opens (enclosed (λ (x : Exp). x) o) ≡ Some e
+opened_gives o e ws h end = opened_by_read o e ws h ∙ ap (λ v. cond v (Some e) None) end
+
+pub opened_open : (o : Reading Exp) (e : Exp) (ws : List Word) → o ≡ Some (e, ws) → ends_opening ws ≡ false → option_and_then opens (enclosed (λ (x : Exp). x) o) ≡ None
+opened_open o e ws h end = opened_by_read o e ws h ∙ ap (λ v. cond v (Some e) None) end
+
+pub opened_fails : (o : Reading Exp) → o ≡ None → option_and_then opens (enclosed (λ (x : Exp). x) o) ≡ None
+opened_fails o h = ap (λ p. option_and_then opens (enclosed (λ (x : Exp). x) p)) h
+
+same_line : (f : Exp → Head) (e : Exp) (ws : List Word) → opened_by f (e, ws) ≡ option_map f (opens (e, ws))
+same_line f e (LeftBrace ∷ []) = refl
+same_line f e (LeftBrace ∷ w ∷ ws) = refl
+same_line f e _ = refl
+
+tested_by : (env : Env) (n : ℕ) (f : Exp → Head) (ws : List Word) → read_tested env n f ws ≡ option_map f (opening env n ws)
+tested_by env n f (LeftParen ∷ ws) = by (enclosed (λ (x : Exp). x) (read_exp env n ws))
+  where
+    by : (o : Reading Exp) → option_and_then (opened_by f) o ≡ option_map f (option_and_then opens o)
+    by None = refl
+    by (Some r) = same_line f r.0 r.1
+tested_by env n f _ = refl
+
+pub tested_gives : (env : Env) (n : ℕ) (f : Exp → Head) (ws : List Word) (e : Exp) → opening env n ws ≡ Some e → read_tested env n f ws ≡ Some (f e)
+tested_gives env n f ws e h = tested_by env n f ws ∙ ap (option_map f) h
+
+pub tested_fails : (env : Env) (n : ℕ) (f : Exp → Head) (ws : List Word) → opening env n ws ≡ None → read_tested env n f ws ≡ None
+tested_fails env n f ws h = tested_by env n f ws ∙ ap (option_map f) h
+
+-- `return`
+
+return_by : (env : Env) (n : ℕ) (ws : List Word) → is_end_of_line ws ≡ false → read_return env n ws ≡ option_map Whole (option_and_then returned (read_exp env n ws))
+return_by env n ws e = ap (λ v. cond v (Some (Whole (Return None))) (option_map Whole (option_and_then returned (read_exp env n ws)))) e
+
+pub return_nothing : (env : Env) (n : ℕ) (ws : List Word) → is_end_of_line ws ≡ true → read_return env n ws ≡ Some (Whole (Return None))
+return_nothing env n ws e = ap (λ v. cond v (Some (Whole (Return None))) (option_map Whole (option_and_then returned (read_exp env n ws)))) e
+
+pub return_gives : (env : Env) (n : ℕ) (ws vs : List Word) (e : Exp) → is_end_of_line ws ≡ false → read_exp env n ws ≡ Some (e, vs) → is_end vs ≡ true → read_return env n ws ≡ Some (Whole (Return (Some e)))
+return_gives env n ws vs e more h end = return_by env n ws more ∙ ap (λ o. option_map Whole (option_and_then returned o)) h ∙ ap (option_map Whole) (ended (Return (Some e)) vs end)
+
+pub return_open : (env : Env) (n : ℕ) (ws vs : List Word) (e : Exp) → is_end_of_line ws ≡ false → read_exp env n ws ≡ Some (e, vs) → is_end vs ≡ false → read_return env n ws ≡ None
+return_open env n ws vs e more h end = return_by env n ws more ∙ ap (λ o. option_map Whole (option_and_then returned o)) h ∙ ap (option_map Whole) (unended (Return (Some e)) vs end)
+
+pub return_fails : (env : Env) (n : ℕ) (ws : List Word) → is_end_of_line ws ≡ false → read_exp env n ws ≡ None → read_return env n ws ≡ None
+return_fails env n ws more h = return_by env n ws more ∙ ap (λ o. option_map Whole (option_and_then returned o)) h
+
+-- `case`
+
+case_by : (x : Numbered) (ws : List Word) → case_of (x, ws) ≡ cond (ends_case ws) (Some (Whole (plain.Case x.0 x.1))) None
+case_by x (Colon ∷ Semicolon ∷ []) = refl
+case_by x (Colon ∷ Semicolon ∷ w ∷ ws) = refl
+case_by x (Colon ∷ _) = refl
+case_by x _ = refl
+
+pub case_gives : (o : Reading Numbered) (kind : IntKind) (v : ℤ) (ws : List Word) → Some ((kind, v), ws) ≡ o → ends_case ws ≡ true → Some (Whole (plain.Case kind v)) ≡ option_and_then case_of o
+case_gives o kind v ws h end = sym (ap (option_and_then case_of) (sym h) ∙ case_by (kind, v) ws ∙ ap (λ b. cond b (Some (Whole (plain.Case kind v))) None) end)
+
+pub case_open : (o : Reading Numbered) (x : Numbered) (ws : List Word) → Some (x, ws) ≡ o → ends_case ws ≡ false → None ≡ option_and_then case_of o
+case_open o x ws h end = sym (ap (option_and_then case_of) (sym h) ∙ case_by x ws ∙ ap (λ b. cond b (Some (Whole (plain.Case x.0 x.1))) None) end)
+
+pub case_fails : (o : Reading Numbered) → None ≡ o → None ≡ option_and_then case_of o
+case_fails o h = sym (ap (option_and_then case_of) (sym h))
+
+-- labels and instructions
+
+pub simple_label : (env : Env) (labels : List (List ℕ)) (n : ℕ) (ws : List Word) → is_label ws ≡ true → read_simple env labels n ws ≡ labelled labels Label (label_text ws)
+simple_label env labels n ws e = ap (λ v. cond v (labelled labels Label (label_text ws)) (option_map (λ (i : Instr). Whole (Do i)) (read_instr env n ws))) e
+
+pub simple_instr : (env : Env) (labels : List (List ℕ)) (n : ℕ) (ws : List Word) → is_label ws ≡ false → read_simple env labels n ws ≡ option_map (λ (i : Instr). Whole (Do i)) (read_instr env n ws)
+simple_instr env labels n ws e = ap (λ v. cond v (labelled labels Label (label_text ws)) (option_map (λ (i : Instr). Whole (Do i)) (read_instr env n ws))) e
+
+-- lines that begin with `}`
+
+brace_is : (env : Env) (labels : List (List ℕ)) (n : ℕ) (ws : List Word) → read_head env labels n (RightBrace ∷ ws) ≡ Some (brace_of ws)
+brace_is env labels n (ElseWord ∷ ws) = refl
+brace_is env labels n _ = refl
+
+pub brace_gives : (env : Env) (labels : List (List ℕ)) (n : ℕ) (ws : List Word) (h : Head) → h ≡ brace_of ws → read_head env labels n (RightBrace ∷ ws) ≡ Some h
+brace_gives env labels n ws h e = brace_is env labels n ws ∙ ap Some (sym e)
+
+pub head_block : (env : Env) (labels : List (List ℕ)) (n : ℕ) (ws : List Word) → is_block ws ≡ true → read_head env labels n ws ≡ block_line env n ws
+head_block env labels n (IfWord ∷ ws) e = refl
+head_block env labels n (SwitchWord ∷ ws) e = refl
+head_block env labels n (WhileWord ∷ ws) e = refl
+head_block env labels n (LeftBrace ∷ ws) e = refl
+head_block env labels n (RightBrace ∷ ws) e = brace_is env labels n ws
+head_block env labels n (CaseWord ∷ ws) e = absurd (cc e)
+head_block env labels n (DefaultWord ∷ ws) e = absurd (cc e)
+head_block env labels n (GotoWord ∷ ws) e = absurd (cc e)
+head_block env labels n (BreakWord ∷ ws) e = absurd (cc e)
+head_block env labels n (ReturnWord ∷ ws) e = absurd (cc e)
+head_block env labels n _ e = absurd (cc e)
+
+pub head_jump : (env : Env) (labels : List (List ℕ)) (n : ℕ) (ws : List Word) → is_jump ws ≡ true → read_head env labels n ws ≡ jump_line env labels n ws
+head_jump env labels n (IfWord ∷ ws) e = absurd (cc e)
+head_jump env labels n (SwitchWord ∷ ws) e = absurd (cc e)
+head_jump env labels n (WhileWord ∷ ws) e = absurd (cc e)
+head_jump env labels n (LeftBrace ∷ ws) e = absurd (cc e)
+head_jump env labels n (RightBrace ∷ ws) e = absurd (cc e)
+head_jump env labels n (CaseWord ∷ ws) e = refl
+head_jump env labels n (DefaultWord ∷ ws) e = refl
+head_jump env labels n (GotoWord ∷ ws) e = refl
+head_jump env labels n (BreakWord ∷ ws) e = refl
+head_jump env labels n (ReturnWord ∷ ws) e = refl
+head_jump env labels n _ e = absurd (cc e)
+
+pub head_simple : (env : Env) (labels : List (List ℕ)) (n : ℕ) (ws : List Word) → is_block ws ≡ false → is_jump ws ≡ false → read_head env labels n ws ≡ read_simple env labels n ws
+head_simple env labels n (IfWord ∷ ws) d e = absurd (cc d)
+head_simple env labels n (SwitchWord ∷ ws) d e = absurd (cc d)
+head_simple env labels n (WhileWord ∷ ws) d e = absurd (cc d)
+head_simple env labels n (LeftBrace ∷ ws) d e = absurd (cc d)
+head_simple env labels n (RightBrace ∷ ws) d e = absurd (cc d)
+head_simple env labels n (CaseWord ∷ ws) d e = absurd (cc e)
+head_simple env labels n (DefaultWord ∷ ws) d e = absurd (cc e)
+head_simple env labels n (GotoWord ∷ ws) d e = absurd (cc e)
+head_simple env labels n (BreakWord ∷ ws) d e = absurd (cc e)
+head_simple env labels n (ReturnWord ∷ ws) d e = absurd (cc e)
+head_simple env labels n _ d e = refl
+
+-- what is known of lines
+
+pub known_tested : (g : Graph) (env : Env) (x : SeenExp) (t : Option TypeId) → ExpKnown g env x t → HeadKnown g (seen.Tested x)
+known_tested g env x t k = record { steady = λ h r. ap Tested (k.steady h r) }
+
+pub known_turned : (g : Graph) (env : Env) (x : SeenExp) (t : Option TypeId) → ExpKnown g env x t → HeadKnown g (seen.Turned x)
+known_turned g env x t k = record { steady = λ h r. ap Turned (k.steady h r) }
+
+pub known_return : (g : Graph) (env : Env) (x : SeenExp) (t : Option TypeId) → ExpKnown g env x t → HeadKnown g (seen.Whole (stmt.Return (Some x)))
+known_return g env x t k = record { steady = λ h r. ap (λ e. Whole (Return (Some e))) (k.steady h r) }
+
+pub known_instr : (g : Graph) (i : SeenInstr) → InstrKnown g i → HeadKnown g (seen.Whole (stmt.Instr i))
+known_instr g i k = record { steady = λ h r. ap (λ j. Whole (Do j)) (k.steady h r) }
+
+pub known_nothing : (g : Graph) → HeadKnown g (seen.Whole (stmt.Return None))
+known_nothing g = record { steady = λ h r. refl }
+
+pub known_default : (g : Graph) → HeadKnown g (seen.Whole stmt.Default)
+known_default g = record { steady = λ h r. refl }
+
+pub known_break : (g : Graph) → HeadKnown g (seen.Whole stmt.Break)
+known_break g = record { steady = λ h r. refl }
+
+pub known_looped : (g : Graph) → HeadKnown g seen.Looped
+known_looped g = record { steady = λ h r. refl }
+
+pub known_opened : (g : Graph) → HeadKnown g seen.Opened
+known_opened g = record { steady = λ h r. refl }
+
+pub known_otherwise : (g : Graph) → HeadKnown g seen.Otherwise
+known_otherwise g = record { steady = λ h r. refl }
+
+pub known_closed : (g : Graph) → HeadKnown g seen.Closed
+known_closed g = record { steady = λ h r. refl }
+
+-- what is the same line in each graph
+pub flat_known : (g : Graph) (x : SeenHead) (o : Option Head) → ((nodes : List Node) → option_map (head_of nodes) (Some x) ≡ o) → HeadKnown g x
+flat_known g x o is = record { steady = λ h r. let e : Some (head_of h.nodes x) ≡ Some (head_of g.nodes x) = is h.nodes ∙ sym (is g.nodes) in cc }
+
+-- the lines of a body
+
+pub mapped_more : (nodes : List Node) (hs : List SeenHead) (h : SeenHead) → heads_of nodes (hs ++ h ∷ []) ≡ heads_of nodes hs ++ head_of nodes h ∷ []
+mapped_more nodes [] h = refl
+mapped_more nodes (x ∷ hs) h = ap (λ ys. head_of nodes x ∷ ys) (mapped_more nodes hs h)
+
+pub no_heads : (g : Graph) → HeadsKnown g []
+no_heads g = record { steady = λ h r. refl }
+
+pub heads_more : (g h : Graph) (hs : List SeenHead) (x : SeenHead) → HeadsKnown g hs → Grows g h → HeadKnown h x → HeadsKnown h (hs ++ x ∷ [])
+heads_more g h hs x k r e = record {
+  steady = λ i q.
+      mapped_more i.nodes hs x
+      ∙ ap (λ ys. ys ++ head_of i.nodes x ∷ []) (k.steady i (grows_twice g h i r q) ∙ sym (k.steady h r))
+      ∙ ap (λ y. heads_of h.nodes hs ++ y ∷ []) (e.steady i q)
+      ∙ sym (mapped_more h.nodes hs x);
+}
+
+behind_first : (hs : List Head) (x : Head) (o : Option (List Head)) → option_map (heads_behind hs) (option_map (head_first x) o) ≡ option_map (heads_behind (hs ++ x ∷ [])) o
+behind_first hs x None = refl
+behind_first hs x (Some more) = ap Some (sym (append_assoc hs (x ∷ []) more))
+
+line_at : (env : Env) (labels : List (List ℕ)) (n : ℕ) (lines : List (Vec Seen Global)) (i : ℕ) (d : Vec Seen Global) → i < length lines →
+    read_heads env labels n (all_lines (drop i lines)) ≡ option_and_then (λ (h : Head). option_map (head_first h) (read_heads env labels n (all_lines (drop (suc i) lines)))) (read_head env labels n (all_said (get_or lines i d).items))
+line_at env labels n [] i d h = absurd (omega arith)
+line_at env labels n (line ∷ lines) zero d h = refl
+line_at env labels n (line ∷ lines) (suc i) d h = line_at env labels n lines i d (omega arith)
+
+one_more : (k : ℕ) → suc k ≡ k + 1
+one_more k = omega arith
+
+heads_next : (g h : Graph) (env : Env) (labels : List (List ℕ)) (n : ℕ) (lines : List (Vec Seen Global)) (hs : List SeenHead) (x : SeenHead) (i : ℕ) (d : Vec Seen Global) → i < length lines → HeadsKnown g hs → Grows g h →
+    read_head env labels n (all_said (get_or lines i d).items) ≡ Some (head_of h.nodes x) →
+    option_map (heads_behind (heads_of h.nodes (hs ++ x ∷ []))) (read_heads env labels n (all_lines (drop (i + 1) lines))) ≡ option_map (heads_behind (heads_of g.nodes hs)) (read_heads env labels n (all_lines (drop i lines)))
+heads_next g h env labels n lines hs x i d less k r e =
+    let rest = read_heads env labels n (all_lines (drop (suc i) lines)) in
+    ap (λ j. option_map (heads_behind (heads_of h.nodes (hs ++ x ∷ []))) (read_heads env labels n (all_lines (drop j lines)))) (sym (one_more i))
+    ∙ ap (λ ys. option_map (heads_behind ys) rest) (mapped_more h.nodes hs x ∙ ap (λ ys. ys ++ head_of h.nodes x ∷ []) (k.steady h r))
+    ∙ sym (behind_first (heads_of g.nodes hs) (head_of h.nodes x) rest)
+    ∙ sym (ap (option_map (heads_behind (heads_of g.nodes hs))) (line_at env labels n lines i d less ∙ ap (option_and_then (λ (y : Head). option_map (head_first y) rest)) e))
+
+pub heads_step : (g h : Graph) (env : Env) (labels : List (List ℕ)) (n : ℕ) (lines : List (Vec Seen Global)) (hs ys : List SeenHead) (x : SeenHead) (i : ℕ) (d : Vec Seen Global) (whole : Option (List Head)) → i < length lines → HeadsKnown g hs → Grows g h →
+    ys ≡ hs ++ x ∷ [] → read_head env labels n (all_said (get_or lines i d).items) ≡ Some (head_of h.nodes x) →
+    option_map (heads_behind (heads_of g.nodes hs)) (read_heads env labels n (all_lines (drop i lines))) ≡ whole →
+    option_map (heads_behind (heads_of h.nodes ys)) (read_heads env labels n (all_lines (drop (i + 1) lines))) ≡ whole
+heads_step g h env labels n lines hs ys x i d whole less k r is e inv =
+    ap (λ zs. option_map (heads_behind (heads_of h.nodes zs)) (read_heads env labels n (all_lines (drop (i + 1) lines)))) is
+    ∙ heads_next g h env labels n lines hs x i d less k r e ∙ inv
+
+pub heads_fail : (env : Env) (labels : List (List ℕ)) (n : ℕ) (lines : List (Vec Seen Global)) (hs : List Head) (whole : Option (List Head)) (i : ℕ) (d : Vec Seen Global) → i < length lines →
+    read_head env labels n (all_said (get_or lines i d).items) ≡ None → option_map (heads_behind hs) (read_heads env labels n (all_lines (drop i lines))) ≡ whole → whole ≡ None
+heads_fail env labels n lines hs whole i d less e inv =
+    sym inv ∙ ap (option_map (heads_behind hs)) (line_at env labels n lines i d less ∙ ap (option_and_then (λ (y : Head). option_map (head_first y) (read_heads env labels n (all_lines (drop (suc i) lines))))) e)
+
+past : {A : Type 0} (xs : List A) (i : ℕ) → length xs ≤ i → drop i xs ≡ []
+past [] zero h = refl
+past [] (suc i) h = refl
+past (x ∷ xs) zero h = absurd (omega arith)
+past (x ∷ xs) (suc i) h = past xs i (omega arith)
+
+pub heads_end : (env : Env) (labels : List (List ℕ)) (n : ℕ) (lines : List (Vec Seen Global)) (hs : List Head) (whole : Option (List Head)) (i : ℕ) → length lines ≤ i →
+    option_map (heads_behind hs) (read_heads env labels n (all_lines (drop i lines))) ≡ whole → whole ≡ Some hs
+heads_end env labels n lines hs whole i h inv =
+    sym inv ∙ ap (λ ls. option_map (heads_behind hs) (read_heads env labels n (all_lines ls))) (past lines i h) ∙ ap Some (append-nil hs)

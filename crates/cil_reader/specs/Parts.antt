@@ -1,0 +1,121 @@
+-- Device: parts of expressions as the code has them: each is seen as one tree in the graph and in each graph that this one grows to.
+use Rattle.std.specs.Prelude.{◌≡◌, ℕ, Bool, true, false, if◌then◌else◌, List, [], ◌∷◌, Option, Some, None, length}
+use Rattle.std.specs.Option.{option_map, option_and_then}
+use Rattle.cil_base.specs.declared.kinds.IntKind.{IntKind}
+use Rattle.cil_base.specs.declared.numbers.TypeId.{TypeId}
+use Rattle.cil_base.specs.declared.operators.BinOp.{BinOp}
+use Rattle.cil_base.specs.declared.operators.UnOp.{UnOp}
+use Rattle.type_graph.specs.declared.nodes.Node.{Node}
+use Rattle.type_graph.specs.Arena.{Graph}
+use Rattle.type_graph.specs.Growth.{Grows}
+use Rattle.type_graph.specs.Shapes.{Shape}
+use Rattle.cil_tree.specs.declared.expressions.Exp.{Exp as SeenExp}
+use Rattle.cil_tree.specs.declared.expressions.Host.{Host as SeenHost}
+use Rattle.cil_tree.specs.declared.expressions.Lval.{Lval as SeenLval}
+use Rattle.cil_tree.specs.Tree.{Local, Exp, Const, Value, Un, Bin, Cast, AddrOf, StartOf, Host, Global, Var, At, Offsets, Here, Field, Index, Lval, Place}
+use Rattle.cil_tree.specs.Typing.{element_of}
+use Rattle.cil_tree.specs.View.{exp_of, host_of, lval_of, type_at}
+use Rattle.cil_text.specs.Words.{Word, RightParen, RightBracket, LeftBracket, Dot, Name}
+use Rattle.cil_text.specs.ReadTypes.{Reading, read_decl}
+use Rattle.cil_text.specs.ReadExps.{Env, pointee, moved_pointee, type_at_host, type_at_place, find_named, fields, type_of_named, in_brackets, exp_from, read_exp, Form, Negated, Complemented, Denied, Addressed, Pointed, Converted, Combined}
+use Rattle.cil_reader.specs.declared.parts.Form.{Form as SeenForm}
+use Rattle.cil_reader.specs.declared.parts.Form.TheVariants as form
+use Rattle.cil_reader.specs.Settings.{type_in, TypeBelow}
+
+-- an expression with what it points to
+pub record ExpKnown (g : Graph) (env : Env) (e : SeenExp) (to : Option TypeId) : Type 0 where
+  pub steady : (h : Graph) → Grows g h → exp_of h.nodes e ≡ exp_of g.nodes e
+  pub typed : type_in g.nodes to ≡ pointee env (exp_of g.nodes e)
+  pub below : TypeBelow (length g.nodes) to
+
+-- what a place begins with, and its type
+pub record HostKnown (g : Graph) (env : Env) (x : SeenHost) (t : Option TypeId) : Type 0 where
+  pub steady : (h : Graph) → Grows g h → host_of h.nodes x ≡ host_of g.nodes x
+  pub typed : type_in g.nodes t ≡ type_at_host env (host_of g.nodes x)
+  pub below : TypeBelow (length g.nodes) t
+
+-- a place with its type
+pub record PlaceKnown (g : Graph) (env : Env) (l : SeenLval) (t : Option TypeId) : Type 0 where
+  pub steady : (h : Graph) → Grows g h → lval_of h.nodes l ≡ lval_of g.nodes l
+  pub typed : type_in g.nodes t ≡ type_at_place env (lval_of g.nodes l)
+  pub below : TypeBelow (length g.nodes) t
+
+-- the tree of a part that was made of others
+pub record IsUn (op : UnOp) (x e : SeenExp) : Type 0 where
+  pub at : (nodes : List Node) → exp_of nodes e ≡ Un op (exp_of nodes x)
+
+pub record IsBin (op : BinOp) (x y e : SeenExp) : Type 0 where
+  pub at : (nodes : List Node) → exp_of nodes e ≡ Bin op (exp_of nodes x) (exp_of nodes y)
+
+pub record IsCast (t : TypeId) (x e : SeenExp) : Type 0 where
+  pub at : (nodes : List Node) → exp_of nodes e ≡ Cast (type_at nodes t) (exp_of nodes x)
+
+pub record IsValue (l : SeenLval) (e : SeenExp) : Type 0 where
+  pub at : (nodes : List Node) → exp_of nodes e ≡ Value (lval_of nodes l)
+
+pub record IsStart (l : SeenLval) (e : SeenExp) : Type 0 where
+  pub at : (nodes : List Node) → exp_of nodes e ≡ StartOf (lval_of nodes l)
+
+pub record IsAddress (l : SeenLval) (e : SeenExp) : Type 0 where
+  pub at : (nodes : List Node) → exp_of nodes e ≡ AddrOf (lval_of nodes l)
+
+pub record IsAt (e : SeenExp) (x : SeenHost) : Type 0 where
+  pub at : (nodes : List Node) → host_of nodes x ≡ At (exp_of nodes e)
+
+-- what a sum or a difference points to
+pub record IsMoved (op : BinOp) (s t u : Option TypeId) : Type 0 where
+  pub at : (nodes : List Node) → type_in nodes u ≡ moved_pointee op (type_in nodes s) (type_in nodes t)
+  pub below : (n : ℕ) → TypeBelow n s → TypeBelow n t → TypeBelow n u
+
+-- offsets behind others
+abbrev pub joined : Offsets → Offsets → Offsets
+joined Here more = more
+joined (Field n os) more = Field n (joined os more)
+joined (Index e os) more = Index e (joined os more)
+
+abbrev pub part_of : Lval → Offsets → Lval
+part_of (Place host os) more = Place host (joined os more)
+
+pub record IsField (l : SeenLval) (n : ℕ) (m : SeenLval) : Type 0 where
+  pub at : (nodes : List Node) → lval_of nodes m ≡ part_of (lval_of nodes l) (Field n Here)
+
+pub record IsElement (l : SeenLval) (e : SeenExp) (m : SeenLval) : Type 0 where
+  pub at : (nodes : List Node) → lval_of nodes m ≡ part_of (lval_of nodes l) (Index (exp_of nodes e) Here)
+
+-- readings by the code's steps
+
+abbrev pub form_said : SeenForm → Form
+form_said form.Negated = Negated
+form_said form.Complemented = Complemented
+form_said form.Denied = Denied
+form_said form.Addressed = Addressed
+form_said form.Pointed = Pointed
+form_said form.Converted = Converted
+form_said form.Combined = Combined
+
+-- an expression within which others are read with so many steps
+abbrev pub exp_within : Env → ℕ → List Word → Reading Exp
+exp_within env n ws = exp_from env (read_exp env n) (read_decl env.tags n) n ws
+
+-- what stands behind `]`
+abbrev pub bracketed : List Word → Option (List Word)
+bracketed (RightBracket ∷ ws) = Some ws
+bracketed _ = None
+
+abbrev pub part_behind : Lval → Offsets × List Word → Lval × List Word
+part_behind l r = (part_of l r.0, r.1)
+
+-- one step further from a place of that type, and the type of the part
+abbrev pub Part : Type 0
+Part = Lval × Option Shape
+
+abbrev pub to_field : Lval → List Local → List Word → ℕ → Part × List Word
+to_field l ms ws n = ((part_of l (Field n Here), type_of_named ms n), ws)
+
+abbrev pub to_element : Lval → Option Shape → Exp × List Word → Part × List Word
+to_element l s r = ((part_of l (Index r.0 Here), option_and_then element_of s), r.1)
+
+abbrev pub one_step : Env → (List Word → Reading Exp) → Lval → Option Shape → List Word → Reading Part
+one_step env exp l s (Dot ∷ Name name ∷ ws) = option_map (to_field l (fields env s) ws) (find_named name (fields env s))
+one_step env exp l s (LeftBracket ∷ ws) = option_map (to_element l s) (option_and_then (λ (r : Exp × List Word). in_brackets r.0 r.1) (exp ws))
+one_step env exp l s _ = None

@@ -1,0 +1,471 @@
+ghost use Rattle.std.specs.Prelude.{◌≡◌, ◌<◌, ◌≤◌, ◌*◌, ◌+◌, ◌^◌, Some, List, [], ◌∷◌, ◌++◌, length, map, IfOk, IfSome};
+ghost use Rattle.std.specs.Option.{option_map};
+ghost use Rattle.cil_text.specs.ReadTypes.{called, declared_as, heads, is_star, is_suffix, read_name, tails, popped, read_suffix, read_called, read_params, read_decl};
+ghost use Rattle.cil_text.specs.TypesOf.{AddsParts};
+ghost use Rattle.type_graph.specs.Shapes.{Shape, shape, shapes_of, PtrType};
+ghost use Rattle.type_graph.specs.Arena.{Graph, EachType};
+ghost use Rattle.type_graph.specs.Growth.{Grows, KeepsAggregates};
+ghost use Rattle.cil_tree.specs.Typing.{unqualified};
+ghost use Rattle.cil_reader.specs.Said.{all_said};
+ghost use Rattle.cil_reader.specs.Gives.{Gives};
+ghost use Rattle.cil_reader.specs.Added.{listed, layer_types};
+ghost use Rattle.cil_reader.specs.Layers.{closing, void_alone, param_behind, mark_of, head_of, marks_of, layer_of, LayerBelow, wrapped, wrapped_from, named_of, more_behind, read_parameter, built_from, behind_parameter, listed_behind};
+
+use crate::bases::read_base_type;
+use crate::numbering::Numbering;
+use crate::stop::Stop;
+use crate::words::Word;
+use cil_base::{BinOp, Memory, TypeId};
+use std::alloc::Global;
+use type_graph::{Node, QualType, Quals, TypeGraph, TypeList};
+
+/// What stands before a declarator's name: a pointer's `*`, or a parenthesis.
+#[derive(Clone, Copy, Debug, PartialEq, Eq)]
+pub(crate) enum Mark {
+    Points,
+    Group,
+}
+
+/// What stands behind a declarator's name (C11 6.7.6.2, 6.7.6.3).
+#[derive(Drop)]
+pub(crate) enum Suffix {
+    /// The bound of an array.
+    Elements(Option<u64>),
+    /// The types of a function's parameters, whether they are a prototype, and whether more arguments may follow.
+    Called(Vec<TypeId>, bool, bool),
+}
+
+/// A declarator whose name was read: the type before it, and the marks before the name, the nearest to it last.
+#[derive(Drop)]
+struct Open {
+    base: TypeId,
+    marks: Vec<Mark>,
+}
+
+/// A type, and the name of what has it.
+#[derive(Clone, Copy)]
+pub(crate) struct Named<'a> {
+    pub ty: TypeId,
+    pub name: Option<&'a [u8]>,
+}
+
+/// What stands behind a parameter.
+#[derive(Clone, Copy, Debug, PartialEq, Eq)]
+pub(crate) enum Follows {
+    End,
+    Variadic,
+    Another,
+}
+
+/// Whether a pointer's `*` comes first.
+fn is_star(words: &[Word]) -> bool
+    ensures { result ≡ is_star (all_said words.now) }
+{
+    match words {
+        [Word::Operator(BinOp::Mul), ..] => true,
+        _ => false,
+    }
+}
+
+/// Whether an array's bound or a function's parameters come first.
+fn is_suffix(words: &[Word]) -> bool
+    ensures { result ≡ is_suffix (all_said words.now) }
+{
+    match words {
+        [Word::LeftBracket, ..] => true,
+        [Word::LeftParen, ..] => true,
+        _ => false,
+    }
+}
+
+/// The mark in front, if one stands there.
+fn head(words: &[Word]) -> Option<Mark>
+    ensures read { option_map mark_of result ≡ head_of (all_said words.now) }
+    ensures some { IfSome result (λ _. 0 < length words.now) }
+{
+    match words {
+        [Word::Operator(BinOp::Mul), ..] => Some(Mark::Points),
+        [Word::LeftParen, rest @ ..] if is_star(rest) => Some(Mark::Group),
+        _ => None,
+    }
+}
+
+/// The marks in front, the nearest to the name last, and what stands behind them.
+#[tactic(auto, using(crate::proofs::LayersLaws::head_on, crate::proofs::LayersLaws::head_end, crate::proofs::LayersLaws::rest_of, crate::proofs::LayersLaws::rest_within))]
+fn heads<'w, 'a>(
+    alloc: Global,
+    words: &'w [Word<'a>],
+) -> Result<(Vec<Mark>, &'w [Word<'a>]), Memory>
+    ensures { IfOk result (λ r. (marks_of r.0.items, all_said r.1.now) ≡ heads [] (all_said words.now)) }
+{
+    let mut marks = Vec::new(alloc);
+    let mut at = 0;
+    while let Some(mark) = head(&words[at..]) {
+        marks.push(mark)?;
+        at += 1;
+    }
+    Ok((marks, &words[at..]))
+}
+
+/// The name in front, if one stands there.
+fn read_name<'w, 'a>(words: &'w [Word<'a>]) -> (Option<&'a [u8]>, &'w [Word<'a>])
+    ensures { (option_map (λ t. t.now) result.0, all_said result.1.now) ≡ read_name (all_said words.now) }
+{
+    match words {
+        [Word::Name(text), rest @ ..] => (Some(*text), rest),
+        _ => (None, words),
+    }
+}
+
+/// What stands behind a `)` in front.
+pub(crate) fn closing<'w, 'a>(words: &'w [Word<'a>]) -> Option<&'w [Word<'a>]>
+    ensures { option_map (λ r. all_said r.now) result ≡ closing (all_said words.now) }
+{
+    match words {
+        [Word::RightParen, rest @ ..] => Some(rest),
+        _ => None,
+    }
+}
+
+/// What stands behind `void )` in front.
+fn void_alone<'w, 'a>(words: &'w [Word<'a>]) -> Option<&'w [Word<'a>]>
+    ensures { option_map (λ r. all_said r.now) result ≡ void_alone (all_said words.now) }
+{
+    match words {
+        [Word::VoidWord, Word::RightParen, rest @ ..] => Some(rest),
+        _ => None,
+    }
+}
+
+/// What stands behind a parameter.
+fn behind_parameter<'w, 'a>(words: &'w [Word<'a>]) -> Option<(Follows, &'w [Word<'a>])>
+    ensures { option_map (λ r. (r.0, all_said r.1.now)) result ≡ behind_parameter (all_said words.now) }
+{
+    match words {
+        [Word::RightParen, rest @ ..] => Some((Follows::End, rest)),
+        [Word::Comma, Word::Ellipsis, Word::RightParen, rest @ ..] => {
+            Some((Follows::Variadic, rest))
+        }
+        [Word::Comma, Word::Ellipsis, ..] => None,
+        [Word::Comma, rest @ ..] => Some((Follows::Another, rest)),
+        _ => None,
+    }
+}
+
+const PLAIN: Quals = Quals {
+    constant: false,
+    restricted: false,
+};
+
+/// A type without qualifiers.
+fn plain(of: TypeId) -> QualType
+    ensures { result ≡ record { quals = unqualified; of = of } }
+{
+    QualType { quals: PLAIN, of }
+}
+
+/// A pointer to a type (C11 6.7.6.1).
+fn add_pointer(graph: &mut TypeGraph, to: TypeId) -> Result<TypeId, Memory>
+    requires { to.0 < length graph.old.nodes }
+    ensures shape { IfOk result (λ t. shape graph.new.nodes t.0 ≡ PtrType unqualified (shape graph.old.nodes to.0)) }
+    ensures there { IfOk result (λ t. t.0 < length graph.new.nodes) }
+    ensures grows { Grows graph.old graph.new }
+    ensures keeps { KeepsAggregates graph.old graph.new }
+    ensures adds { (f : Graph) (ss : List Shape) → AddsParts f graph.old (shape graph.old.nodes to.0 ∷ ss) → IfOk result (λ t. AddsParts f graph.new (shape graph.new.nodes t.0 ∷ ss)) }
+{
+    graph.add_node(Node::Ptr(plain(to)))
+}
+
+/// An array of a type, or a function that returns it (C11 6.7.6.2, 6.7.6.3).
+fn add_wrapped(graph: &mut TypeGraph, suffix: Suffix, inner: TypeId) -> Result<TypeId, Memory>
+    requires inner { inner.0 < length graph.old.nodes }
+    requires suffix { LayerBelow (length graph.old.nodes) suffix }
+    ensures shape { IfOk result (λ t. shape graph.new.nodes t.0 ≡ wrapped (layer_of graph.old.nodes suffix) (shape graph.old.nodes inner.0)) }
+    ensures there { IfOk result (λ t. t.0 < length graph.new.nodes) }
+    ensures grows { Grows graph.old graph.new }
+    ensures keeps { KeepsAggregates graph.old graph.new }
+    ensures adds { (f : Graph) (ss : List Shape) → AddsParts f graph.old (shape graph.old.nodes inner.0 ∷ (layer_types (layer_of graph.old.nodes suffix) ++ ss)) → IfOk result (λ t. AddsParts f graph.new (shape graph.new.nodes t.0 ∷ ss)) }
+{
+    match suffix {
+        Suffix::Elements(bound) => graph.add_node(Node::Array(plain(inner), bound)),
+        Suffix::Called(params, proto, variadic) => graph.add_node(Node::Func {
+            proto,
+            variadic,
+            ret: inner,
+            params: TypeList::new(params),
+        }),
+    }
+}
+
+/// A declaration without storage class, or a type's name (C11 6.7.6, 6.7.7). What stands within it is read with one
+/// step less.
+#[cycle(declaration)]
+#[tactic(auto, using(crate::proofs::LayersLaws::decl_step, crate::proofs::LayersLaws::decl_fails, crate::proofs::LayersLaws::decl_none))]
+pub(crate) fn read_decl<'w, 'a>(
+    tags: &Numbering,
+    graph: &mut TypeGraph,
+    left: u32,
+    words: &'w [Word<'a>],
+) -> Result<(Named<'a>, &'w [Word<'a>]), Stop>
+    requires tags { length tags.now ≤ length graph.old.aggs }
+    ensures gives { Gives (λ r. (named_of graph.new.nodes r.0, all_said r.1.now)) result (read_decl tags.now left (all_said words.now)) }
+    ensures there { IfOk result (λ r. r.0.ty.0 < length graph.new.nodes) }
+    ensures grows { Grows graph.old graph.new }
+    ensures keeps { KeepsAggregates graph.old graph.new }
+    ensures adds { IfOk result (λ r. AddsParts graph.old graph.new (shape graph.new.nodes r.0.ty.0 ∷ [])) }
+{
+    if left == 0 {
+        return Err(Stop::NotCil);
+    }
+    let (base, rest) = read_base_type(tags, graph, words)?;
+    declared_as(tags, graph, left - 1, base, rest)
+}
+
+/// A declarator around a type.
+#[cycle(declaration)]
+#[tactic(auto, using(crate::proofs::LayersLaws::named_gives, crate::proofs::LayersLaws::named_fails, type_graph::proofs::GrowthLaws::grows_twice, type_graph::proofs::ShapeLaws::kept))]
+fn declared_as<'w, 'a>(
+    tags: &Numbering,
+    graph: &mut TypeGraph,
+    left: u32,
+    base: TypeId,
+    words: &'w [Word<'a>],
+) -> Result<(Named<'a>, &'w [Word<'a>]), Stop>
+    requires tags { length tags.now ≤ length graph.old.aggs }
+    requires base { base.0 < length graph.old.nodes }
+    ensures gives { Gives (λ r. (named_of graph.new.nodes r.0, all_said r.1.now)) result (declared_as (read_parameter tags.now left) left (shape graph.old.nodes base.0, all_said words.now)) }
+    ensures there { IfOk result (λ r. r.0.ty.0 < length graph.new.nodes) }
+    ensures grows { Grows graph.old graph.new }
+    ensures keeps { KeepsAggregates graph.old graph.new }
+    ensures adds { (f : Graph) (ss : List Shape) → AddsParts f graph.old (shape graph.old.nodes base.0 ∷ ss) → IfOk result (λ r. AddsParts f graph.new (shape graph.new.nodes r.0.ty.0 ∷ ss)) }
+{
+    let (marks, rest) = heads(graph.alloc(), words)?;
+    let (name, rest) = read_name(rest);
+    let front = Open { base, marks };
+    let (ty, rest) = tails(tags, graph, left, left, front, rest)?;
+    Ok((Named { ty, name }, rest))
+}
+
+/// What stands behind a declarator's name.
+#[cycle(declaration)]
+#[tactic(auto, using(crate::proofs::LayersLaws::tails_none, crate::proofs::LayersLaws::tails_suffix, crate::proofs::LayersLaws::tails_popped, crate::proofs::LayersLaws::suffix_fails, type_graph::proofs::GrowthLaws::grows_twice, type_graph::proofs::ShapeLaws::kept))]
+fn tails<'w, 'a>(
+    tags: &Numbering,
+    graph: &mut TypeGraph,
+    left: u32,
+    steps: u32,
+    front: Open,
+    words: &'w [Word<'a>],
+) -> Result<(TypeId, &'w [Word<'a>]), Stop>
+    requires tags { length tags.now ≤ length graph.old.aggs }
+    requires base { front.base.0 < length graph.old.nodes }
+    ensures gives { Gives (λ r. (shape graph.new.nodes r.0.0, all_said r.1.now)) result (option_map (built_from (shape graph.old.nodes front.base.0)) (tails (read_parameter tags.now left) steps (marks_of front.marks.items) (all_said words.now))) }
+    ensures there { IfOk result (λ r. r.0.0 < length graph.new.nodes) }
+    ensures grows { Grows graph.old graph.new }
+    ensures keeps { KeepsAggregates graph.old graph.new }
+    ensures adds { (f : Graph) (ss : List Shape) → AddsParts f graph.old (shape graph.old.nodes front.base.0 ∷ ss) → IfOk result (λ r. AddsParts f graph.new (shape graph.new.nodes r.0.0 ∷ ss)) }
+{
+    if steps == 0 {
+        return Err(Stop::NotCil);
+    }
+    if !is_suffix(words) {
+        return popped(tags, graph, left, steps - 1, front, words);
+    }
+    let (suffix, rest) = read_suffix(tags, graph, left, steps - 1, words)?;
+    behind_suffix(tags, graph, left, steps - 1, front, suffix, rest)
+}
+
+/// The type that a suffix makes of what stands behind it.
+#[cycle(declaration)]
+#[tactic(auto, using(crate::proofs::LayersLaws::wrapped_gives, crate::proofs::LayersLaws::wrapped_fails, crate::proofs::LayersLaws::layer_kept, crate::proofs::LayersLaws::layer_below, type_graph::proofs::GrowthLaws::grows_twice, type_graph::proofs::ShapeLaws::kept, crate::proofs::AddedLaws::layer_later))]
+fn behind_suffix<'w, 'a>(
+    tags: &Numbering,
+    graph: &mut TypeGraph,
+    left: u32,
+    steps: u32,
+    front: Open,
+    suffix: Suffix,
+    words: &'w [Word<'a>],
+) -> Result<(TypeId, &'w [Word<'a>]), Stop>
+    requires tags { length tags.now ≤ length graph.old.aggs }
+    requires base { front.base.0 < length graph.old.nodes }
+    requires suffix { LayerBelow (length graph.old.nodes) suffix }
+    ensures gives { Gives (λ r. (shape graph.new.nodes r.0.0, all_said r.1.now)) result (option_map (wrapped_from (layer_of graph.old.nodes suffix) (shape graph.old.nodes front.base.0)) (tails (read_parameter tags.now left) steps (marks_of front.marks.items) (all_said words.now))) }
+    ensures there { IfOk result (λ r. r.0.0 < length graph.new.nodes) }
+    ensures grows { Grows graph.old graph.new }
+    ensures keeps { KeepsAggregates graph.old graph.new }
+    ensures adds { (f : Graph) (ss : List Shape) → AddsParts f graph.old (shape graph.old.nodes front.base.0 ∷ (layer_types (layer_of graph.old.nodes suffix) ++ ss)) → IfOk result (λ r. AddsParts f graph.new (shape graph.new.nodes r.0.0 ∷ ss)) }
+{
+    let (inner, rest) = tails(tags, graph, left, steps, front, words)?;
+    Ok((add_wrapped(graph, suffix, inner)?, rest))
+}
+
+/// Where no suffix stands, the mark that is nearest to the name counts.
+#[cycle(declaration)]
+#[tactic(auto, using(crate::proofs::LayersLaws::marks_more, crate::proofs::LayersLaws::pointer_gives, crate::proofs::LayersLaws::pointer_fails, type_graph::proofs::GrowthLaws::grows_twice, type_graph::proofs::ShapeLaws::kept))]
+fn popped<'w, 'a>(
+    tags: &Numbering,
+    graph: &mut TypeGraph,
+    left: u32,
+    steps: u32,
+    front: Open,
+    words: &'w [Word<'a>],
+) -> Result<(TypeId, &'w [Word<'a>]), Stop>
+    requires tags { length tags.now ≤ length graph.old.aggs }
+    requires base { front.base.0 < length graph.old.nodes }
+    ensures gives { Gives (λ r. (shape graph.new.nodes r.0.0, all_said r.1.now)) result (option_map (built_from (shape graph.old.nodes front.base.0)) (popped (tails (read_parameter tags.now left) steps) (marks_of front.marks.items) (all_said words.now))) }
+    ensures there { IfOk result (λ r. r.0.0 < length graph.new.nodes) }
+    ensures grows { Grows graph.old graph.new }
+    ensures keeps { KeepsAggregates graph.old graph.new }
+    ensures adds { (f : Graph) (ss : List Shape) → AddsParts f graph.old (shape graph.old.nodes front.base.0 ∷ ss) → IfOk result (λ r. AddsParts f graph.new (shape graph.new.nodes r.0.0 ∷ ss)) }
+{
+    let mut marks = front.marks;
+    let base = front.base;
+    match marks.pop() {
+        None => Ok((base, words)),
+        Some(Mark::Points) => {
+            let front = Open { base, marks };
+            let (to, rest) = tails(tags, graph, left, steps, front, words)?;
+            Ok((add_pointer(graph, to)?, rest))
+        }
+        Some(Mark::Group) => match words {
+            [Word::RightParen, rest @ ..] => {
+                tails(tags, graph, left, steps, Open { base, marks }, rest)
+            }
+            _ => Err(Stop::NotCil),
+        },
+    }
+}
+
+/// The bound of an array, or the parameters of a function.
+#[cycle(declaration)]
+#[tactic(auto, using(cil_text::proofs::PartsAdded::adds_none))]
+fn read_suffix<'w, 'a>(
+    tags: &Numbering,
+    graph: &mut TypeGraph,
+    left: u32,
+    steps: u32,
+    words: &'w [Word<'a>],
+) -> Result<(Suffix, &'w [Word<'a>]), Stop>
+    requires tags { length tags.now ≤ length graph.old.aggs }
+    ensures gives { Gives (λ r. (layer_of graph.new.nodes r.0, all_said r.1.now)) result (read_suffix (read_parameter tags.now left) steps (all_said words.now)) }
+    ensures there { IfOk result (λ r. LayerBelow (length graph.new.nodes) r.0) }
+    ensures grows { Grows graph.old graph.new }
+    ensures keeps { KeepsAggregates graph.old graph.new }
+    ensures adds { IfOk result (λ r. AddsParts graph.old graph.new (layer_types (layer_of graph.new.nodes r.0))) }
+{
+    match words {
+        [Word::LeftBracket, Word::RightBracket, rest @ ..] => Ok((Suffix::Elements(None), rest)),
+        [
+            Word::LeftBracket,
+            Word::Number(_, n),
+            Word::RightBracket,
+            rest @ ..,
+        ] => Ok((Suffix::Elements(Some(*n)), rest)),
+        [Word::LeftParen, rest @ ..] => read_called(tags, graph, left, steps, rest),
+        _ => Err(Stop::NotCil),
+    }
+}
+
+/// Behind the `(` of a function's parameters: `)`, `void )`, or parameters.
+#[cycle(declaration)]
+#[tactic(auto, using(crate::proofs::LayersLaws::called_closing, crate::proofs::LayersLaws::called_void, crate::proofs::LayersLaws::called_next, cil_text::proofs::PartsAdded::adds_none))]
+fn read_called<'w, 'a>(
+    tags: &Numbering,
+    graph: &mut TypeGraph,
+    left: u32,
+    steps: u32,
+    words: &'w [Word<'a>],
+) -> Result<(Suffix, &'w [Word<'a>]), Stop>
+    requires tags { length tags.now ≤ length graph.old.aggs }
+    ensures gives { Gives (λ r. (layer_of graph.new.nodes r.0, all_said r.1.now)) result (read_called (read_parameter tags.now left) steps (all_said words.now)) }
+    ensures there { IfOk result (λ r. LayerBelow (length graph.new.nodes) r.0) }
+    ensures grows { Grows graph.old graph.new }
+    ensures keeps { KeepsAggregates graph.old graph.new }
+    ensures adds { IfOk result (λ r. AddsParts graph.old graph.new (layer_types (layer_of graph.new.nodes r.0))) }
+{
+    let types = Vec::new(graph.alloc());
+    if let Some(rest) = closing(words) {
+        return Ok((Suffix::Called(types, false, false), rest));
+    }
+    if let Some(rest) = void_alone(words) {
+        return Ok((Suffix::Called(types, true, false), rest));
+    }
+    read_params(tags, graph, left, steps, types, words)
+}
+
+/// Parameters behind those that were read.
+#[cycle(declaration)]
+#[tactic(auto, using(crate::proofs::LayersLaws::params_none, crate::proofs::LayersLaws::params_fails, crate::proofs::LayersLaws::params_next, type_graph::proofs::GrowthLaws::grows_twice))]
+fn read_params<'w, 'a>(
+    tags: &Numbering,
+    graph: &mut TypeGraph,
+    left: u32,
+    steps: u32,
+    types: Vec<TypeId>,
+    words: &'w [Word<'a>],
+) -> Result<(Suffix, &'w [Word<'a>]), Stop>
+    requires tags { length tags.now ≤ length graph.old.aggs }
+    requires types { EachType (length graph.old.nodes) types.items }
+    ensures gives { Gives (λ r. (layer_of graph.new.nodes r.0, all_said r.1.now)) result (option_map called (option_map (listed_behind (shapes_of (shape graph.old.nodes) types.items)) (read_params (read_parameter tags.now left) steps (all_said words.now)))) }
+    ensures there { IfOk result (λ r. LayerBelow (length graph.new.nodes) r.0) }
+    ensures grows { Grows graph.old graph.new }
+    ensures keeps { KeepsAggregates graph.old graph.new }
+    ensures adds { (f : Graph) → AddsParts f graph.old (listed (shapes_of (shape graph.old.nodes) types.items)) → IfOk result (λ r. AddsParts f graph.new (layer_types (layer_of graph.new.nodes r.0))) }
+{
+    if steps == 0 {
+        return Err(Stop::NotCil);
+    }
+    let (types, rest) = one_param(tags, graph, left, types, words)?;
+    more_params(tags, graph, left, steps - 1, types, rest)
+}
+
+/// One parameter more.
+#[cycle(declaration)]
+#[tactic(auto, using(crate::proofs::LayersLaws::param_gives, crate::proofs::LayersLaws::param_fails, crate::proofs::LayersLaws::each_more, type_graph::proofs::GrowthLaws::grows_twice, crate::proofs::AddedLaws::param_added))]
+fn one_param<'w, 'a>(
+    tags: &Numbering,
+    graph: &mut TypeGraph,
+    left: u32,
+    types: Vec<TypeId>,
+    words: &'w [Word<'a>],
+) -> Result<(Vec<TypeId>, &'w [Word<'a>]), Stop>
+    requires tags { length tags.now ≤ length graph.old.aggs }
+    requires types { EachType (length graph.old.nodes) types.items }
+    ensures gives { Gives (λ r. (shapes_of (shape graph.new.nodes) r.0.items, all_said r.1.now)) result (option_map (param_behind (shapes_of (shape graph.old.nodes) types.items)) (read_parameter tags.now left (all_said words.now))) }
+    ensures there { IfOk result (λ r. EachType (length graph.new.nodes) r.0.items) }
+    ensures grows { Grows graph.old graph.new }
+    ensures keeps { KeepsAggregates graph.old graph.new }
+    ensures adds { (f : Graph) → AddsParts f graph.old (listed (shapes_of (shape graph.old.nodes) types.items)) → IfOk result (λ r. AddsParts f graph.new (listed (shapes_of (shape graph.new.nodes) r.0.items))) }
+{
+    let (param, rest) = read_decl(tags, graph, left, words)?;
+    let mut all = types;
+    all.push(param.ty)?;
+    Ok((all, rest))
+}
+
+/// What follows parameters.
+#[cycle(declaration)]
+fn more_params<'w, 'a>(
+    tags: &Numbering,
+    graph: &mut TypeGraph,
+    left: u32,
+    steps: u32,
+    types: Vec<TypeId>,
+    words: &'w [Word<'a>],
+) -> Result<(Suffix, &'w [Word<'a>]), Stop>
+    requires tags { length tags.now ≤ length graph.old.aggs }
+    requires types { EachType (length graph.old.nodes) types.items }
+    ensures gives { Gives (λ r. (layer_of graph.new.nodes r.0, all_said r.1.now)) result (option_map called (more_behind (shapes_of (shape graph.old.nodes) types.items) (read_params (read_parameter tags.now left) steps) (behind_parameter (all_said words.now)))) }
+    ensures there { IfOk result (λ r. LayerBelow (length graph.new.nodes) r.0) }
+    ensures grows { Grows graph.old graph.new }
+    ensures keeps { KeepsAggregates graph.old graph.new }
+    ensures adds { (f : Graph) → AddsParts f graph.old (listed (shapes_of (shape graph.old.nodes) types.items)) → IfOk result (λ r. AddsParts f graph.new (layer_types (layer_of graph.new.nodes r.0))) }
+{
+    match behind_parameter(words) {
+        None => Err(Stop::NotCil),
+        Some((Follows::End, rest)) => Ok((Suffix::Called(types, true, false), rest)),
+        Some((Follows::Variadic, rest)) => Ok((Suffix::Called(types, true, true), rest)),
+        Some((Follows::Another, rest)) => read_params(tags, graph, left, steps, types, rest),
+    }
+}

@@ -1,0 +1,399 @@
+ghost use Rattle.std.specs.Prelude.{◌≡◌, [], Some, None, IfOk, map, List, Option};
+ghost use Rattle.std.specs.Option.{option_map, option_and_then};
+ghost use Rattle.type_graph.specs.declared.nodes.Node.{Node};
+ghost use Rattle.type_graph.specs.Arena.{Graph};
+ghost use Rattle.type_graph.specs.Growth.{Grows, KeepsAggregates};
+ghost use Rattle.cil_tree.specs.Tree.{Do, Label, Goto};
+ghost use Rattle.cil_tree.specs.View.{exp_of};
+ghost use Rattle.cil_text.specs.ReadExps.{enclosed, read_exp};
+ghost use Rattle.cil_text.specs.ReadStmts.{Head as Line, Whole, Tested, Turned, is_end_of_line, read_tested, read_return, read_simple, read_head, read_heads, read_instr, read_number, case_of, label_text, is_label};
+ghost use Rattle.cil_text.specs.TypesOf.{AddsParts, types_in_exp};
+ghost use Rattle.cil_reader.specs.Added.{types_in_head, types_in_heads};
+ghost use Rattle.cil_reader.specs.Said.{all_said, all_lines};
+ghost use Rattle.cil_reader.specs.Gives.{Gives};
+ghost use Rattle.cil_reader.specs.Settings.{env_in};
+ghost use Rattle.cil_reader.specs.Parts.{ExpKnown};
+ghost use Rattle.cil_reader.specs.Heads.{head_of, heads_of, HeadKnown, HeadsKnown, opens, opening, ends_opening, ends_case, labelled, brace_of, is_block, is_jump, block_line, jump_line};
+
+use crate::instructions::{is_end, read_instr};
+use crate::numbering::Numbering;
+use crate::numbers::read_number;
+use crate::operands::read_exp;
+use crate::parts::Operand;
+use crate::reader::Reader;
+use crate::stop::Stop;
+use crate::words::Word;
+use cil_base::LabelId;
+use cil_tree::{Exp, Stmt};
+
+/// A line of a function's body (C11 6.8): a statement that is whole, or what opens or closes a block.
+#[derive(Drop)]
+pub(crate) enum Head {
+    Whole(Stmt),
+    /// `if ( .. ) {`
+    Tested(Exp),
+    /// `switch ( .. ) {`
+    Turned(Exp),
+    /// `while ( 1 ) {`
+    Looped,
+    /// `{`
+    Opened,
+    /// `} else {`
+    Otherwise,
+    /// `}`
+    Closed,
+}
+
+/// Whether the line of an `if` or `switch` ends here.
+fn ends_opening(words: &[Word]) -> bool
+    ensures { result ≡ ends_opening (all_said words.now) }
+{
+    match words {
+        [Word::RightParen, Word::LeftBrace] => true,
+        _ => false,
+    }
+}
+
+/// Whether the line of a case label ends here.
+fn ends_case(words: &[Word]) -> bool
+    ensures { result ≡ ends_case (all_said words.now) }
+{
+    match words {
+        [Word::Colon, Word::Semicolon] => true,
+        _ => false,
+    }
+}
+
+/// Whether a `return` gives nothing.
+fn is_end_of_line(words: &[Word]) -> bool
+    ensures { result ≡ is_end_of_line (all_said words.now) }
+{
+    match words {
+        [Word::Semicolon, ..] => true,
+        _ => false,
+    }
+}
+
+/// Whether a label stands in front (C11 6.8.1).
+pub(crate) fn is_label(words: &[Word]) -> bool
+    ensures { result ≡ is_label (all_said words.now) }
+{
+    match words {
+        [Word::Name(_), Word::Colon, ..] => true,
+        _ => false,
+    }
+}
+
+/// The name in front, or no text.
+pub(crate) fn label_text<'w, 'a>(words: &'w [Word<'a>]) -> &'a [u8]
+    ensures { result.now ≡ label_text (all_said words.now) }
+{
+    match words {
+        [Word::Name(name), ..] => *name,
+        _ => b"",
+    }
+}
+
+/// Behind the `(` of an `if` or `switch`: its expression, and the end of its line.
+#[tactic(auto, using(crate::proofs::HeadsLaws::opened_gives, crate::proofs::HeadsLaws::opened_open, crate::proofs::HeadsLaws::opened_fails))]
+fn opened(r: &mut Reader, left: u32, words: &[Word]) -> Result<Operand, Stop>
+    ensures gives { Gives (λ x. exp_of r.new.graph.nodes x.exp) result (option_and_then opens (enclosed (λ e. e) (read_exp (env_in r.old) left (all_said words.now)))) }
+    ensures known { IfOk result (λ x. ExpKnown r.new.graph (env_in r.new) x.exp x.to) }
+    ensures grows { Grows r.old.graph r.new.graph }
+    ensures env { env_in r.new ≡ env_in r.old }
+    ensures keeps { KeepsAggregates r.old.graph r.new.graph }
+    ensures adds { IfOk result (λ x. AddsParts r.old.graph r.new.graph (types_in_exp (exp_of r.new.graph.nodes x.exp))) }
+{
+    let (value, rest) = read_exp(r, left, words)?;
+    if !ends_opening(rest) {
+        return Err(Stop::NotCil);
+    }
+    Ok(value)
+}
+
+/// The expression of an `if` or `switch` (C11 6.8.4), and the end of its line.
+fn opening(r: &mut Reader, left: u32, words: &[Word]) -> Result<Operand, Stop>
+    ensures gives { Gives (λ x. exp_of r.new.graph.nodes x.exp) result (opening (env_in r.old) left (all_said words.now)) }
+    ensures known { IfOk result (λ x. ExpKnown r.new.graph (env_in r.new) x.exp x.to) }
+    ensures grows { Grows r.old.graph r.new.graph }
+    ensures env { env_in r.new ≡ env_in r.old }
+    ensures keeps { KeepsAggregates r.old.graph r.new.graph }
+    ensures adds { IfOk result (λ x. AddsParts r.old.graph r.new.graph (types_in_exp (exp_of r.new.graph.nodes x.exp))) }
+{
+    match words {
+        [Word::LeftParen, rest @ ..] => opened(r, left, rest),
+        _ => Err(Stop::NotCil),
+    }
+}
+
+/// Behind `if`.
+#[tactic(auto, using(crate::proofs::HeadsLaws::tested_gives, crate::proofs::HeadsLaws::tested_fails, crate::proofs::HeadsLaws::known_tested))]
+fn read_if(r: &mut Reader, left: u32, words: &[Word]) -> Result<Head, Stop>
+    ensures gives { Gives (λ h. head_of r.new.graph.nodes h) result (read_tested (env_in r.old) left Tested (all_said words.now)) }
+    ensures known { IfOk result (HeadKnown r.new.graph) }
+    ensures grows { Grows r.old.graph r.new.graph }
+    ensures env { env_in r.new ≡ env_in r.old }
+    ensures keeps { KeepsAggregates r.old.graph r.new.graph }
+    ensures adds { IfOk result (λ h. AddsParts r.old.graph r.new.graph (types_in_head (head_of r.new.graph.nodes h))) }
+{
+    let test = opening(r, left, words)?;
+    Ok(Head::Tested(test.exp))
+}
+
+/// Behind `switch`.
+#[tactic(auto, using(crate::proofs::HeadsLaws::tested_gives, crate::proofs::HeadsLaws::tested_fails, crate::proofs::HeadsLaws::known_turned))]
+fn read_switch(r: &mut Reader, left: u32, words: &[Word]) -> Result<Head, Stop>
+    ensures gives { Gives (λ h. head_of r.new.graph.nodes h) result (read_tested (env_in r.old) left Turned (all_said words.now)) }
+    ensures known { IfOk result (HeadKnown r.new.graph) }
+    ensures grows { Grows r.old.graph r.new.graph }
+    ensures env { env_in r.new ≡ env_in r.old }
+    ensures keeps { KeepsAggregates r.old.graph r.new.graph }
+    ensures adds { IfOk result (λ h. AddsParts r.old.graph r.new.graph (types_in_head (head_of r.new.graph.nodes h))) }
+{
+    let value = opening(r, left, words)?;
+    Ok(Head::Turned(value.exp))
+}
+
+/// Behind `return` (C11 6.8.6.4).
+#[tactic(auto, using(crate::proofs::HeadsLaws::return_nothing, crate::proofs::HeadsLaws::return_gives, crate::proofs::HeadsLaws::return_open, crate::proofs::HeadsLaws::return_fails, crate::proofs::HeadsLaws::known_nothing, crate::proofs::HeadsLaws::known_return, cil_text::proofs::PartsAdded::adds_none))]
+fn read_return(r: &mut Reader, left: u32, words: &[Word]) -> Result<Head, Stop>
+    ensures gives { Gives (λ h. head_of r.new.graph.nodes h) result (read_return (env_in r.old) left (all_said words.now)) }
+    ensures known { IfOk result (HeadKnown r.new.graph) }
+    ensures grows { Grows r.old.graph r.new.graph }
+    ensures env { env_in r.new ≡ env_in r.old }
+    ensures keeps { KeepsAggregates r.old.graph r.new.graph }
+    ensures adds { IfOk result (λ h. AddsParts r.old.graph r.new.graph (types_in_head (head_of r.new.graph.nodes h))) }
+{
+    if is_end_of_line(words) {
+        return Ok(Head::Whole(Stmt::Return(None)));
+    }
+    let (value, rest) = read_exp(r, left, words)?;
+    if !is_end(rest) {
+        return Err(Stop::NotCil);
+    }
+    Ok(Head::Whole(Stmt::Return(Some(value.exp))))
+}
+
+/// Behind `case`: its value, and the end of its line.
+#[tactic(auto, using(crate::proofs::HeadsLaws::case_gives, crate::proofs::HeadsLaws::case_open, crate::proofs::HeadsLaws::case_fails))]
+fn read_case(words: &[Word]) -> Option<Head>
+    ensures { (nodes : List Node) → option_map (head_of nodes) result ≡ option_and_then case_of (read_number (all_said words.now)) }
+{
+    let (number, rest) = read_number(words)?;
+    if !ends_case(rest) {
+        return None;
+    }
+    Some(Head::Whole(Stmt::Case(number.kind, number.value)))
+}
+
+/// A label with a name that is among these.
+fn labelled(labels: &Numbering, name: &[u8]) -> Option<Head>
+    ensures { (nodes : List Node) → option_map (head_of nodes) result ≡ labelled labels.now Label name.now }
+{
+    let number = labels.find(name)?;
+    Some(Head::Whole(Stmt::Label(LabelId(number))))
+}
+
+/// A jump to such a label.
+fn jump(labels: &Numbering, name: &[u8]) -> Option<Head>
+    ensures { (nodes : List Node) → option_map (head_of nodes) result ≡ labelled labels.now Goto name.now }
+{
+    let number = labels.find(name)?;
+    Some(Head::Whole(Stmt::Goto(LabelId(number))))
+}
+
+/// What does not depend on a graph, as a part of one.
+#[tactic(auto, using(crate::proofs::HeadsLaws::flat_known, cil_text::proofs::PartsAdded::adds_none))]
+fn told(r: &Reader, found: Option<Head>) -> Result<Head, Stop>
+    ensures gives { (o : Option Line) → ((nodes : List Node) → option_map (head_of nodes) found ≡ o) → Gives (λ h. head_of r.now.graph.nodes h) result o }
+    ensures known { (o : Option Line) → ((nodes : List Node) → option_map (head_of nodes) found ≡ o) → IfOk result (HeadKnown r.now.graph) }
+    ensures adds { IfOk result (λ h. AddsParts r.now.graph r.now.graph (types_in_head (head_of r.now.graph.nodes h))) }
+{
+    match found {
+        Some(head) => Ok(head),
+        None => Err(Stop::NotCil),
+    }
+}
+
+/// A line that is an instruction.
+#[tactic(auto, using(crate::proofs::HeadsLaws::known_instr))]
+fn whole_instr(r: &mut Reader, left: u32, words: &[Word]) -> Result<Head, Stop>
+    ensures gives { Gives (λ h. head_of r.new.graph.nodes h) result (option_map (λ i. Whole (Do i)) (read_instr (env_in r.old) left (all_said words.now))) }
+    ensures known { IfOk result (HeadKnown r.new.graph) }
+    ensures grows { Grows r.old.graph r.new.graph }
+    ensures env { env_in r.new ≡ env_in r.old }
+    ensures keeps { KeepsAggregates r.old.graph r.new.graph }
+    ensures adds { IfOk result (λ h. AddsParts r.old.graph r.new.graph (types_in_head (head_of r.new.graph.nodes h))) }
+{
+    let instr = read_instr(r, left, words)?;
+    Ok(Head::Whole(Stmt::Instr(instr)))
+}
+
+/// Behind `case` (C11 6.8.1): the line of a label.
+fn case_line(r: &Reader, words: &[Word]) -> Result<Head, Stop>
+    ensures gives { Gives (λ h. head_of r.now.graph.nodes h) result (option_and_then case_of (read_number (all_said words.now))) }
+    ensures known { IfOk result (HeadKnown r.now.graph) }
+    ensures adds { IfOk result (λ h. AddsParts r.now.graph r.now.graph (types_in_head (head_of r.now.graph.nodes h))) }
+{
+    told(r, read_case(words))
+}
+
+/// Behind `goto` (C11 6.8.6.1): a jump to one of these labels.
+fn goto_line(r: &Reader, labels: &Numbering, words: &[Word]) -> Result<Head, Stop>
+    ensures gives { Gives (λ h. head_of r.now.graph.nodes h) result (labelled labels.now Goto (label_text (all_said words.now))) }
+    ensures known { IfOk result (HeadKnown r.now.graph) }
+    ensures adds { IfOk result (λ h. AddsParts r.now.graph r.now.graph (types_in_head (head_of r.now.graph.nodes h))) }
+{
+    told(r, jump(labels, label_text(words)))
+}
+
+/// The line of one of these labels, whose name stands in front (C11 6.8.1).
+fn label_line(r: &Reader, labels: &Numbering, words: &[Word]) -> Result<Head, Stop>
+    ensures gives { Gives (λ h. head_of r.now.graph.nodes h) result (labelled labels.now Label (label_text (all_said words.now))) }
+    ensures known { IfOk result (HeadKnown r.now.graph) }
+    ensures adds { IfOk result (λ h. AddsParts r.now.graph r.now.graph (types_in_head (head_of r.now.graph.nodes h))) }
+{
+    told(r, labelled(labels, label_text(words)))
+}
+
+/// A line that is a label or an instruction.
+#[tactic(auto, using(crate::proofs::HeadsLaws::simple_label, crate::proofs::HeadsLaws::simple_instr))]
+fn read_simple(r: &mut Reader, labels: &Numbering, left: u32, words: &[Word]) -> Result<Head, Stop>
+    ensures gives { Gives (λ h. head_of r.new.graph.nodes h) result (read_simple (env_in r.old) labels.now left (all_said words.now)) }
+    ensures known { IfOk result (HeadKnown r.new.graph) }
+    ensures grows { Grows r.old.graph r.new.graph }
+    ensures env { env_in r.new ≡ env_in r.old }
+    ensures keeps { KeepsAggregates r.old.graph r.new.graph }
+    ensures adds { IfOk result (λ h. AddsParts r.old.graph r.new.graph (types_in_head (head_of r.new.graph.nodes h))) }
+{
+    if is_label(words) {
+        return label_line(r, labels, words);
+    }
+    whole_instr(r, left, words)
+}
+
+/// What a line is that begins with `}`, by what stands behind it.
+#[tactic(auto, using(crate::proofs::HeadsLaws::known_otherwise, crate::proofs::HeadsLaws::known_closed))]
+fn behind_brace(words: &[Word]) -> Head
+    ensures is { (nodes : List Node) → head_of nodes result ≡ brace_of (all_said words.now) }
+    ensures known { (g : Graph) → HeadKnown g result }
+{
+    match words {
+        [Word::ElseWord, ..] => Head::Otherwise,
+        _ => Head::Closed,
+    }
+}
+
+/// Whether a line opens a part of a statement, or closes one (C11 6.8.2, 6.8.4, 6.8.5).
+fn is_block(words: &[Word]) -> bool
+    ensures { result ≡ is_block (all_said words.now) }
+{
+    match words {
+        [Word::IfWord, ..] => true,
+        [Word::SwitchWord, ..] => true,
+        [Word::WhileWord, ..] => true,
+        [Word::LeftBrace, ..] => true,
+        [Word::RightBrace, ..] => true,
+        _ => false,
+    }
+}
+
+/// Whether a line has a case label or a jump (C11 6.8.1, 6.8.6).
+fn is_jump(words: &[Word]) -> bool
+    ensures { result ≡ is_jump (all_said words.now) }
+{
+    match words {
+        [Word::CaseWord, ..] => true,
+        [Word::DefaultWord, ..] => true,
+        [Word::GotoWord, ..] => true,
+        [Word::BreakWord, ..] => true,
+        [Word::ReturnWord, ..] => true,
+        _ => false,
+    }
+}
+
+/// A line that opens a part of a statement, or closes one.
+#[tactic(auto, using(crate::proofs::HeadsLaws::known_looped, crate::proofs::HeadsLaws::known_opened, cil_text::proofs::PartsAdded::adds_none))]
+fn block_line(r: &mut Reader, left: u32, words: &[Word]) -> Result<Head, Stop>
+    ensures gives { Gives (λ h. head_of r.new.graph.nodes h) result (block_line (env_in r.old) left (all_said words.now)) }
+    ensures known { IfOk result (HeadKnown r.new.graph) }
+    ensures grows { Grows r.old.graph r.new.graph }
+    ensures env { env_in r.new ≡ env_in r.old }
+    ensures keeps { KeepsAggregates r.old.graph r.new.graph }
+    ensures adds { IfOk result (λ h. AddsParts r.old.graph r.new.graph (types_in_head (head_of r.new.graph.nodes h))) }
+{
+    match words {
+        [Word::IfWord, rest @ ..] => read_if(r, left, rest),
+        [Word::SwitchWord, rest @ ..] => read_switch(r, left, rest),
+        [Word::WhileWord, ..] => Ok(Head::Looped),
+        [Word::LeftBrace, ..] => Ok(Head::Opened),
+        [Word::RightBrace, rest @ ..] => Ok(behind_brace(rest)),
+        _ => Err(Stop::NotCil),
+    }
+}
+
+/// A line with a case label or a jump.
+#[tactic(auto, using(crate::proofs::HeadsLaws::known_default, crate::proofs::HeadsLaws::known_break, cil_text::proofs::PartsAdded::adds_none))]
+fn jump_line(r: &mut Reader, labels: &Numbering, left: u32, words: &[Word]) -> Result<Head, Stop>
+    ensures gives { Gives (λ h. head_of r.new.graph.nodes h) result (jump_line (env_in r.old) labels.now left (all_said words.now)) }
+    ensures known { IfOk result (HeadKnown r.new.graph) }
+    ensures grows { Grows r.old.graph r.new.graph }
+    ensures env { env_in r.new ≡ env_in r.old }
+    ensures keeps { KeepsAggregates r.old.graph r.new.graph }
+    ensures adds { IfOk result (λ h. AddsParts r.old.graph r.new.graph (types_in_head (head_of r.new.graph.nodes h))) }
+{
+    match words {
+        [Word::CaseWord, rest @ ..] => case_line(r, rest),
+        [Word::DefaultWord, ..] => Ok(Head::Whole(Stmt::Default)),
+        [Word::GotoWord, rest @ ..] => goto_line(r, labels, rest),
+        [Word::BreakWord, ..] => Ok(Head::Whole(Stmt::Break)),
+        [Word::ReturnWord, rest @ ..] => read_return(r, left, rest),
+        _ => Err(Stop::NotCil),
+    }
+}
+
+/// A line of a function's body whose labels have these names (C11 6.8).
+pub(crate) fn read_head(
+    r: &mut Reader,
+    labels: &Numbering,
+    left: u32,
+    words: &[Word],
+) -> Result<Head, Stop>
+    ensures gives { Gives (λ h. head_of r.new.graph.nodes h) result (read_head (env_in r.old) labels.now left (all_said words.now)) }
+    ensures known { IfOk result (HeadKnown r.new.graph) }
+    ensures grows { Grows r.old.graph r.new.graph }
+    ensures env { env_in r.new ≡ env_in r.old }
+    ensures keeps { KeepsAggregates r.old.graph r.new.graph }
+    ensures adds { IfOk result (λ h. AddsParts r.old.graph r.new.graph (types_in_head (head_of r.new.graph.nodes h))) }
+{
+    if is_block(words) {
+        return block_line(r, left, words);
+    }
+    if is_jump(words) {
+        return jump_line(r, labels, left, words);
+    }
+    read_simple(r, labels, left, words)
+}
+
+/// The lines of a function's body whose labels have these names.
+#[tactic(auto, using(crate::proofs::HeadsLaws::heads_fail, crate::proofs::HeadsLaws::heads_end, crate::proofs::HeadsLaws::no_heads, type_graph::proofs::GrowthLaws::grows_twice, crate::proofs::GlobalLaws::keeps_twice, cil_text::proofs::PartsAdded::adds_none))]
+pub(crate) fn read_heads(
+    r: &mut Reader,
+    labels: &Numbering,
+    left: u32,
+    lines: &[Vec<Word>],
+) -> Result<Vec<Head>, Stop>
+    ensures gives { Gives (λ hs. heads_of r.new.graph.nodes hs.items) result (read_heads (env_in r.old) labels.now left (all_lines lines.now)) }
+    ensures known { IfOk result (λ hs. HeadsKnown r.new.graph hs.items) }
+    ensures grows { Grows r.old.graph r.new.graph }
+    ensures env { env_in r.new ≡ env_in r.old }
+    ensures keeps { KeepsAggregates r.old.graph r.new.graph }
+    ensures adds { IfOk result (λ hs. AddsParts r.old.graph r.new.graph (types_in_heads (heads_of r.new.graph.nodes hs.items))) }
+{
+    let mut heads = Vec::new(r.alloc());
+    for i in 0..lines.len() {
+        let head = read_head(r, labels, left, &lines[i])?;
+        heads.push(head)?;
+    }
+    Ok(heads)
+}

@@ -1,0 +1,437 @@
+ghost use Rattle.std.specs.Prelude.{◌≡◌, ◌<◌, IfOk, OnOk, IfSome, Some, length, map};
+ghost use Rattle.std.specs.Option.{option_map, option_and_then};
+ghost use Rattle.type_graph.specs.Growth.{Grows, KeepsAggregates};
+ghost use Rattle.type_graph.specs.Shapes.{shape};
+ghost use Rattle.cil_tree.specs.View.{step_of, item_of};
+ghost use Rattle.cil_text.specs.ReadStmts.{read_number};
+ghost use Rattle.cil_text.specs.ReadExps.{host_named};
+ghost use Rattle.cil_text.specs.ReadImages.{integer_of, integer_as, only_global, function_named, offset_at, read_path, read_address, read_pointer, read_converted, read_constant, read_item, read_items, only_item, is_brace, read_image};
+ghost use Rattle.cil_reader.specs.Said.{all_said};
+ghost use Rattle.cil_reader.specs.Gives.{Gives};
+ghost use Rattle.cil_reader.specs.Settings.{env_in, type_in, TypeBelow};
+ghost use Rattle.cil_reader.specs.Images.{path_step, path_behind, assigned, behind_item, items_of, item_more, offset_in, converted_from, constant_of};
+
+use crate::declarators::closing;
+use crate::numbers::read_number;
+use crate::parts::skip_one;
+use crate::reader::{Reader, Scalar};
+use crate::stop::Stop;
+use crate::typed::read_typed;
+use crate::words::Word;
+use cil_base::{BinOp, Constant, EntityId, IntKind, TypeId};
+use cil_tree::{Host, ImageItem, Step};
+
+/// A path to a part of an object, and the type of the place that it leads to.
+#[derive(Drop)]
+struct Path {
+    steps: Vec<Step>,
+    ty: Option<TypeId>,
+}
+
+/// A step of a path, and the type of the place that it leads to.
+#[derive(Clone, Copy)]
+struct Stepped {
+    step: Step,
+    ty: Option<TypeId>,
+}
+
+/// Items that were read, what stands behind them, and whether the list ended there.
+#[derive(Drop)]
+struct Items<'w, 'a> {
+    all: Vec<ImageItem>,
+    rest: &'w [Word<'a>],
+    closed: bool,
+}
+
+/// What stands behind `=`, if it comes first.
+fn assigned<'w, 'a>(words: &'w [Word<'a>]) -> Option<&'w [Word<'a>]>
+    ensures { option_map (λ r. all_said r.now) result ≡ assigned (all_said words.now) }
+{
+    match words {
+        [Word::Assign, rest @ ..] => Some(rest),
+        _ => None,
+    }
+}
+
+/// A step from a place of a type (C11 6.7.9p6).
+fn one_step<'w, 'a>(
+    r: &Reader,
+    ty: Option<TypeId>,
+    words: &'w [Word<'a>],
+) -> Option<(Stepped, &'w [Word<'a>])>
+    requires { TypeBelow (length r.now.graph.nodes) ty }
+    ensures is { option_map (λ x. ((step_of x.0.step, type_in r.now.graph.nodes x.0.ty), all_said x.1.now)) result ≡ path_step (env_in r.now) (type_in r.now.graph.nodes ty) (all_said words.now) }
+    ensures below { IfSome result (λ x. TypeBelow (length r.now.graph.nodes) x.0.ty) }
+{
+    match words {
+        [Word::Dot, Word::Name(name), rest @ ..] => {
+            let found = r.field(ty, name)?;
+            let step = Step::Field(found.0);
+            let ty = Some(found.1);
+            Some((Stepped { step, ty }, rest))
+        }
+        [
+            Word::LeftBracket,
+            Word::Number(_, n),
+            Word::RightBracket,
+            rest @ ..,
+        ] => {
+            let step = Step::Index(*n);
+            let ty = r.element(ty);
+            Some((Stepped { step, ty }, rest))
+        }
+        _ => None,
+    }
+}
+
+/// The steps up to `=` behind those that were read.
+#[tactic(auto, using(crate::proofs::ImageLaws::path_none, crate::proofs::ImageLaws::path_end, crate::proofs::ImageLaws::path_fails, crate::proofs::ImageLaws::path_next))]
+fn path_on<'w, 'a>(
+    r: &Reader,
+    left: u32,
+    path: Path,
+    words: &'w [Word<'a>],
+) -> Result<(Path, &'w [Word<'a>]), Stop>
+    requires { TypeBelow (length r.now.graph.nodes) path.ty }
+    ensures gives { Gives (λ x. ((map step_of x.0.steps.items, type_in r.now.graph.nodes x.0.ty), all_said x.1.now)) result (option_map (path_behind (map step_of path.steps.items)) (read_path (env_in r.now) left (type_in r.now.graph.nodes path.ty) (all_said words.now))) }
+    ensures below { IfOk result (λ x. TypeBelow (length r.now.graph.nodes) x.0.ty) }
+{
+    if left == 0 {
+        return Err(Stop::NotCil);
+    }
+    if let Some(behind) = assigned(words) {
+        return Ok((path, behind));
+    }
+    let Some((stepped, rest)) = one_step(r, path.ty, words) else {
+        return Err(Stop::NotCil);
+    };
+    let mut steps = path.steps;
+    steps.push(stepped.step)?;
+    let ty = stepped.ty;
+    path_on(r, left - 1, Path { steps, ty }, rest)
+}
+
+/// The steps up to `=` from a place of a type.
+#[tactic(auto, using(crate::proofs::ImageLaws::path_start))]
+fn read_path<'w, 'a>(
+    r: &Reader,
+    left: u32,
+    ty: TypeId,
+    words: &'w [Word<'a>],
+) -> Result<(Path, &'w [Word<'a>]), Stop>
+    requires { ty.0 < length r.now.graph.nodes }
+    ensures gives { Gives (λ x. ((map step_of x.0.steps.items, type_in r.now.graph.nodes x.0.ty), all_said x.1.now)) result (read_path (env_in r.now) left (Some (shape r.now.graph.nodes ty.0)) (all_said words.now)) }
+    ensures below { IfOk result (λ x. TypeBelow (length r.now.graph.nodes) x.0.ty) }
+{
+    let steps = Vec::new(r.alloc());
+    let ty = Some(ty);
+    path_on(r, left, Path { steps, ty }, words)
+}
+
+/// A number as a value of a kind, however it is spelled.
+fn integer<'w, 'a>(kind: IntKind, words: &'w [Word<'a>]) -> Option<(Constant, &'w [Word<'a>])>
+    ensures { option_map (λ x. (x.0, all_said x.1.now)) result ≡ option_map (integer_of kind) (read_number (all_said words.now)) }
+{
+    let (number, rest) = read_number(words)?;
+    Some((Constant::Int(kind, number.value), rest))
+}
+
+/// A number of the kind that it is spelled with.
+fn own_integer<'w, 'a>(words: &'w [Word<'a>]) -> Option<(Constant, &'w [Word<'a>])>
+    ensures { option_map (λ x. (x.0, all_said x.1.now)) result ≡ option_map integer_as (read_number (all_said words.now)) }
+{
+    let (number, rest) = read_number(words)?;
+    Some((Constant::Int(number.kind, number.value), rest))
+}
+
+/// The global that a name means.
+fn global_named(r: &Reader, name: &[u8]) -> Option<EntityId>
+    ensures { option_map (λ g. g.0) result ≡ only_global (host_named (env_in r.now) name.now) }
+{
+    let based = r.host_named(name)?;
+    match based.host {
+        Host::Global(n) => Some(n),
+        Host::Var(_) | Host::At(_) => None,
+    }
+}
+
+/// Behind `&`: the name of a function (C11 6.6p9).
+fn function_named<'w, 'a>(r: &Reader, words: &'w [Word<'a>]) -> Option<(Constant, &'w [Word<'a>])>
+    ensures { option_map (λ x. (x.0, all_said x.1.now)) result ≡ function_named (env_in r.now) (all_said words.now) }
+{
+    match words {
+        [Word::Name(name), rest @ ..] => Some((Constant::Function(global_named(r, name)?), rest)),
+        _ => None,
+    }
+}
+
+/// The offset that a number is, if an address may have it.
+fn offset_of(value: i128) -> Option<i64>
+    ensures { result ≡ offset_in value }
+{
+    if value < i64::MIN as i128 {
+        return None;
+    }
+    if value > i64::MAX as i128 {
+        return None;
+    }
+    Some(value as i64)
+}
+
+/// Behind `+`: an address's offset from the beginning of an object, and `)`.
+#[tactic(auto, using(crate::proofs::ImageLaws::address_gives, crate::proofs::ImageLaws::address_far, crate::proofs::ImageLaws::address_open, crate::proofs::ImageLaws::address_fails))]
+fn address_in<'w, 'a>(object: EntityId, words: &'w [Word<'a>]) -> Option<(Constant, &'w [Word<'a>])>
+    ensures { option_map (λ x. (x.0, all_said x.1.now)) result ≡ option_and_then (offset_at object.0) (read_number (all_said words.now)) }
+{
+    let (number, rest) = read_number(words)?;
+    let behind = closing(rest)?;
+    let offset = offset_of(number.value)?;
+    Some((Constant::Address(object, offset), behind))
+}
+
+/// Behind a `(`: an address in an object (C11 6.6p9).
+fn read_address<'w, 'a>(r: &Reader, words: &'w [Word<'a>]) -> Option<(Constant, &'w [Word<'a>])>
+    ensures { option_map (λ x. (x.0, all_said x.1.now)) result ≡ read_address (env_in r.now) (all_said words.now) }
+{
+    match words {
+        [
+            Word::LeftParen,
+            Word::CharWord,
+            Word::Operator(BinOp::Mul),
+            Word::RightParen,
+            Word::Operator(BinOp::And),
+            Word::Name(name),
+            Word::Operator(BinOp::Add),
+            rest @ ..,
+        ] => address_in(global_named(r, name)?, rest),
+        _ => None,
+    }
+}
+
+/// Behind the conversion to a pointer's type.
+fn read_pointer<'w, 'a>(r: &Reader, words: &'w [Word<'a>]) -> Option<(Constant, &'w [Word<'a>])>
+    ensures { option_map (λ x. (x.0, all_said x.1.now)) result ≡ read_pointer (env_in r.now) (all_said words.now) }
+{
+    match words {
+        [Word::LeftParen, rest @ ..] => read_address(r, rest),
+        [Word::Operator(BinOp::And), rest @ ..] => function_named(r, rest),
+        _ => own_integer(words),
+    }
+}
+
+/// What is there, or no CIL.
+fn there<'w, 'a>(
+    found: Option<(Constant, &'w [Word<'a>])>,
+) -> Result<(Constant, &'w [Word<'a>]), Stop>
+    ensures { Gives (λ x. constant_of x) result (option_map constant_of found.entry) }
+{
+    match found {
+        Some(value) => Ok(value),
+        None => Err(Stop::NotCil),
+    }
+}
+
+/// Behind the `(` of a conversion: the type of the place, which is a pointer's, `)` and the pointer's value.
+#[tactic(auto, using(crate::proofs::ImageLaws::converted_next, crate::proofs::ImageLaws::converted_open, crate::proofs::ImageLaws::converted_fails))]
+fn read_converted<'w, 'a>(
+    r: &mut Reader,
+    left: u32,
+    ty: TypeId,
+    words: &'w [Word<'a>],
+) -> Result<(Constant, &'w [Word<'a>]), Stop>
+    requires { ty.0 < length r.old.graph.nodes }
+    ensures gives { Gives (λ x. (x.0, all_said x.1.now)) result (converted_from (env_in r.old) left (shape r.old.graph.nodes ty.0) (all_said words.now)) }
+    ensures same { OnOk result (r.new.graph.nodes ≡ r.old.graph.nodes) }
+    ensures grows { Grows r.old.graph r.new.graph }
+    ensures keeps { KeepsAggregates r.old.graph r.new.graph }
+    ensures env { env_in r.new ≡ env_in r.old }
+{
+    let rest = read_typed(r, left, ty, words)?;
+    match closing(rest) {
+        Some(behind) => there(read_pointer(r, behind)),
+        None => Err(Stop::NotCil),
+    }
+}
+
+/// The value of a pointer of a type.
+fn pointer_value<'w, 'a>(
+    r: &mut Reader,
+    left: u32,
+    ty: TypeId,
+    words: &'w [Word<'a>],
+) -> Result<(Constant, &'w [Word<'a>]), Stop>
+    requires { ty.0 < length r.old.graph.nodes }
+    ensures gives { Gives (λ x. (x.0, all_said x.1.now)) result (read_converted (env_in r.old) left (shape r.old.graph.nodes ty.0) (all_said words.now)) }
+    ensures same { OnOk result (r.new.graph.nodes ≡ r.old.graph.nodes) }
+    ensures grows { Grows r.old.graph r.new.graph }
+    ensures keeps { KeepsAggregates r.old.graph r.new.graph }
+    ensures env { env_in r.new ≡ env_in r.old }
+{
+    match words {
+        [Word::LeftParen, rest @ ..] => read_converted(r, left, ty, rest),
+        _ => Err(Stop::NotCil),
+    }
+}
+
+/// The value of a scalar of a type.
+#[tactic(auto, using(crate::proofs::ImageLaws::scalar_int, crate::proofs::ImageLaws::scalar_pointer, crate::proofs::ImageLaws::scalar_other))]
+fn read_constant<'w, 'a>(
+    r: &mut Reader,
+    left: u32,
+    ty: TypeId,
+    words: &'w [Word<'a>],
+) -> Result<(Constant, &'w [Word<'a>]), Stop>
+    requires { ty.0 < length r.old.graph.nodes }
+    ensures gives { Gives (λ x. (x.0, all_said x.1.now)) result (read_constant (env_in r.old) left (Some (shape r.old.graph.nodes ty.0)) (all_said words.now)) }
+    ensures same { OnOk result (r.new.graph.nodes ≡ r.old.graph.nodes) }
+    ensures grows { Grows r.old.graph r.new.graph }
+    ensures keeps { KeepsAggregates r.old.graph r.new.graph }
+    ensures env { env_in r.new ≡ env_in r.old }
+{
+    match r.scalar(ty) {
+        Scalar::Int(kind) => there(integer(kind, words)),
+        Scalar::Pointer => pointer_value(r, left, ty, words),
+        Scalar::Other => Err(Stop::NotCil),
+    }
+}
+
+/// A path and its value.
+#[tactic(auto, using(crate::proofs::ImageLaws::item_gives, crate::proofs::ImageLaws::item_typeless, crate::proofs::ImageLaws::item_valueless, crate::proofs::ImageLaws::item_fails))]
+fn read_item<'w, 'a>(
+    r: &mut Reader,
+    left: u32,
+    ty: TypeId,
+    words: &'w [Word<'a>],
+) -> Result<(ImageItem, &'w [Word<'a>]), Stop>
+    requires { ty.0 < length r.old.graph.nodes }
+    ensures gives { Gives (λ x. (item_of x.0, all_said x.1.now)) result (read_item (env_in r.old) left (Some (shape r.old.graph.nodes ty.0)) (all_said words.now)) }
+    ensures same { OnOk result (r.new.graph.nodes ≡ r.old.graph.nodes) }
+    ensures grows { Grows r.old.graph r.new.graph }
+    ensures keeps { KeepsAggregates r.old.graph r.new.graph }
+    ensures env { env_in r.new ≡ env_in r.old }
+{
+    let (path, rest) = read_path(r, left, ty, words)?;
+    let Some(at) = path.ty else {
+        return Err(Stop::NotCil);
+    };
+    let (value, behind) = read_constant(r, left, at, rest)?;
+    let path = path.steps;
+    Ok((ImageItem { path, value }, behind))
+}
+
+/// What stands behind an item, and whether it was the last.
+fn behind_item<'w, 'a>(words: &'w [Word<'a>]) -> Option<(bool, &'w [Word<'a>])>
+    ensures { option_map (λ r. (r.0, all_said r.1.now)) result ≡ behind_item (all_said words.now) }
+{
+    match words {
+        [Word::RightBrace, rest @ ..] => Some((true, rest)),
+        [Word::Comma, rest @ ..] => Some((false, rest)),
+        _ => None,
+    }
+}
+
+/// One item more.
+#[tactic(auto, using(crate::proofs::ImageLaws::item_end, crate::proofs::ImageLaws::item_open, crate::proofs::ImageLaws::item_none))]
+fn one_item<'w, 'a>(
+    r: &mut Reader,
+    left: u32,
+    ty: TypeId,
+    items: Items<'w, 'a>,
+) -> Result<Items<'w, 'a>, Stop>
+    requires { ty.0 < length r.old.graph.nodes }
+    ensures gives { Gives (λ x. items_of x) result (item_more (map item_of items.entry.all.items) (read_item (env_in r.old) left (Some (shape r.old.graph.nodes ty.0)) (all_said items.entry.rest.now))) }
+    ensures same { OnOk result (r.new.graph.nodes ≡ r.old.graph.nodes) }
+    ensures grows { Grows r.old.graph r.new.graph }
+    ensures keeps { KeepsAggregates r.old.graph r.new.graph }
+    ensures env { env_in r.new ≡ env_in r.old }
+{
+    let (item, after) = read_item(r, left, ty, items.rest)?;
+    let mut all = items.all;
+    all.push(item)?;
+    match behind_item(after) {
+        Some((closed, rest)) => Ok(Items { all, rest, closed }),
+        None => Err(Stop::NotCil),
+    }
+}
+
+/// Behind `{`: items up to `}`.
+#[tactic(auto, using(crate::proofs::ImageLaws::items_start, crate::proofs::ImageLaws::items_stop, crate::proofs::ImageLaws::items_over, crate::proofs::PartsLaws::there_later, crate::proofs::GlobalLaws::keeps_twice, type_graph::proofs::GrowthLaws::grows_twice))]
+fn read_items<'w, 'a>(
+    r: &mut Reader,
+    left: u32,
+    ty: TypeId,
+    words: &'w [Word<'a>],
+) -> Result<(Vec<ImageItem>, &'w [Word<'a>]), Stop>
+    requires { ty.0 < length r.old.graph.nodes }
+    ensures gives { Gives (λ x. (map item_of x.0.items, all_said x.1.now)) result (read_items (env_in r.old) left left (Some (shape r.old.graph.nodes ty.0)) (all_said words.now)) }
+    ensures same { OnOk result (r.new.graph.nodes ≡ r.old.graph.nodes) }
+    ensures grows { Grows r.old.graph r.new.graph }
+    ensures keeps { KeepsAggregates r.old.graph r.new.graph }
+    ensures env { env_in r.new ≡ env_in r.old }
+{
+    let mut items = Items {
+        all: Vec::new(r.alloc()),
+        rest: words,
+        closed: false,
+    };
+    for step in 0..left {
+        items = one_item(r, left, ty, items)?;
+        if items.closed {
+            return Ok((items.all, items.rest));
+        }
+    }
+    Err(Stop::NotCil)
+}
+
+/// The one value of a scalar.
+#[tactic(auto, using(crate::proofs::ImageLaws::only_gives, crate::proofs::ImageLaws::only_fails))]
+fn only_value<'w, 'a>(
+    r: &mut Reader,
+    left: u32,
+    ty: TypeId,
+    words: &'w [Word<'a>],
+) -> Result<(Vec<ImageItem>, &'w [Word<'a>]), Stop>
+    requires { ty.0 < length r.old.graph.nodes }
+    ensures gives { Gives (λ x. (map item_of x.0.items, all_said x.1.now)) result (option_map only_item (read_constant (env_in r.old) left (Some (shape r.old.graph.nodes ty.0)) (all_said words.now))) }
+    ensures same { OnOk result (r.new.graph.nodes ≡ r.old.graph.nodes) }
+    ensures grows { Grows r.old.graph r.new.graph }
+    ensures keeps { KeepsAggregates r.old.graph r.new.graph }
+    ensures env { env_in r.new ≡ env_in r.old }
+{
+    let (value, rest) = read_constant(r, left, ty, words)?;
+    let path = Vec::new(r.alloc());
+    let mut items = Vec::new(r.alloc());
+    items.push(ImageItem { path, value })?;
+    Ok((items, rest))
+}
+
+/// Whether `{` comes first.
+fn is_brace(words: &[Word]) -> bool
+    ensures { result ≡ is_brace (all_said words.now) }
+{
+    match words {
+        [Word::LeftBrace, ..] => true,
+        _ => false,
+    }
+}
+
+/// Behind `=`: an object's scalars in braces, or the one value of a scalar (C11 6.7.9).
+#[tactic(auto, using(crate::proofs::ImageLaws::image_braced, crate::proofs::ImageLaws::image_single))]
+pub(crate) fn read_image<'w, 'a>(
+    r: &mut Reader,
+    left: u32,
+    ty: TypeId,
+    words: &'w [Word<'a>],
+) -> Result<(Vec<ImageItem>, &'w [Word<'a>]), Stop>
+    requires { ty.0 < length r.old.graph.nodes }
+    ensures gives { Gives (λ x. (map item_of x.0.items, all_said x.1.now)) result (read_image (env_in r.old) left (Some (shape r.old.graph.nodes ty.0)) (all_said words.now)) }
+    ensures same { OnOk result (r.new.graph.nodes ≡ r.old.graph.nodes) }
+    ensures grows { Grows r.old.graph r.new.graph }
+    ensures keeps { KeepsAggregates r.old.graph r.new.graph }
+    ensures env { env_in r.new ≡ env_in r.old }
+{
+    if is_brace(words) {
+        return read_items(r, left, ty, skip_one(words));
+    }
+    only_value(r, left, ty, words)
+}

@@ -1,0 +1,236 @@
+ghost use Rattle.std.specs.Prelude.{◌≡◌, ◌++◌, Some, None, IfOk};
+ghost use Rattle.std.specs.Option.{option_map, option_and_then};
+ghost use Rattle.std.specs.Str.{bytes_eq};
+ghost use Rattle.type_graph.specs.Arena.{Graph};
+ghost use Rattle.type_graph.specs.Growth.{Grows, KeepsAggregates};
+ghost use Rattle.cil_tree.specs.Tree.{Set};
+ghost use Rattle.cil_tree.specs.View.{exp_of, lval_of, instr_of, callee_of as callee_seen};
+ghost use Rattle.cil_text.specs.ReadExps.{read_exp, read_place};
+ghost use Rattle.cil_text.specs.ReadStmts.{line_end, zero_from, read_call, read_assigned, read_effect, read_instr, memset, is_zero, opens_address, behind_address};
+ghost use Rattle.cil_text.specs.TypesOf.{AddsParts, types_in_exp, types_in_place, types_in_result, types_in_callee, types_in_instr};
+ghost use Rattle.cil_reader.specs.Said.{all_said};
+ghost use Rattle.cil_reader.specs.Gives.{Gives};
+ghost use Rattle.cil_reader.specs.Settings.{env_in};
+ghost use Rattle.cil_reader.specs.Parts.{ExpKnown, PlaceKnown};
+ghost use Rattle.cil_reader.specs.Instructions.{result_of, ResultKnown, CalleeKnown, InstrKnown, IsCallee, IsCalled, is_end};
+
+use crate::arguments::read_args;
+use crate::operands::{read_exp, read_place};
+use crate::parts::{Located, Operand};
+use crate::reader::Reader;
+use crate::stop::Stop;
+use crate::words::Word;
+use cil_base::BinOp;
+use cil_tree::{Callee, Exp, Host, Instr, Lval};
+
+/// Whether a line ends here.
+pub(crate) fn is_end(words: &[Word]) -> bool
+    ensures { result ≡ is_end (all_said words.now) }
+{
+    match words {
+        [Word::Semicolon] => true,
+        _ => false,
+    }
+}
+
+/// Whether an address stands in front.
+fn opens_address(words: &[Word]) -> bool
+    ensures { result ≡ opens_address (all_said words.now) }
+{
+    match words {
+        [Word::LeftParen, Word::Operator(BinOp::And), ..] => true,
+        _ => false,
+    }
+}
+
+/// Whether a name is that of the function that fills objects.
+fn is_memset(name: &[u8]) -> bool
+    ensures { result ≡ bytes_eq name.now memset }
+{
+    name == b"__builtin_memset".as_slice()
+}
+
+/// Whether a line fills an object with zero bytes.
+fn is_zero(words: &[Word]) -> bool
+    ensures { result ≡ is_zero (all_said words.now) }
+{
+    match words {
+        [Word::Name(name), Word::LeftParen, rest @ ..] => is_memset(name) && opens_address(rest),
+        _ => false,
+    }
+}
+
+/// What stands behind the four words in front of a zero fill's place.
+#[tactic(auto, using(crate::proofs::LayersLaws::rest_of))]
+fn behind_address<'w, 'a>(words: &'w [Word<'a>]) -> &'w [Word<'a>]
+    ensures { all_said result.now ≡ behind_address (all_said words.now) }
+{
+    match words {
+        [_, _, _, _, rest @ ..] => rest,
+        [_, _, _] => &words[3..],
+        [_, _] => &words[2..],
+        [_] => &words[1..],
+        [] => words,
+    }
+}
+
+/// What is called where a place stands before `(`: a function by its name, or what a pointer points to.
+#[tactic(auto, using(crate::proofs::InstructionLaws::direct_is, crate::proofs::InstructionLaws::through_is, crate::proofs::InstructionLaws::var_is, crate::proofs::InstructionLaws::part_is))]
+fn callee_of(place: Lval) -> Option<Callee>
+    ensures { IsCallee place result }
+{
+    let Lval { host, offsets } = place;
+    if !offsets.is_empty() {
+        return None;
+    }
+    match host {
+        Host::Global(function) => Some(Callee::Direct(function)),
+        Host::At(pointer) => Some(Callee::Through(Box::into_inner(pointer))),
+        Host::Var(_) => None,
+    }
+}
+
+/// What is called where an expression stands before `(`.
+#[tactic(auto, using(crate::proofs::InstructionLaws::called_is))]
+fn called_place(value: Exp) -> Option<Callee>
+    ensures { IsCalled value result }
+{
+    match value {
+        Exp::Lval(place) => callee_of(place),
+        _ => None,
+    }
+}
+
+/// Behind the `(` of a call: its arguments, `)` and the end of the line.
+#[tactic(auto, using(crate::proofs::InstructionLaws::call_gives, crate::proofs::InstructionLaws::call_open, crate::proofs::InstructionLaws::call_fails, crate::proofs::InstructionLaws::call_known, crate::proofs::AddedTrees::call_adds))]
+fn read_call(
+    r: &mut Reader,
+    left: u32,
+    to: Option<Lval>,
+    callee: Callee,
+    words: &[Word],
+) -> Result<Instr, Stop>
+    requires to { ResultKnown r.old.graph to }
+    requires callee { CalleeKnown r.old.graph callee }
+    ensures gives { Gives (λ i. instr_of r.new.graph.nodes i) result (read_call (read_exp (env_in r.old) left) left (result_of r.old.graph.nodes to) (callee_seen r.old.graph.nodes callee) (all_said words.now)) }
+    ensures known { IfOk result (InstrKnown r.new.graph) }
+    ensures grows { Grows r.old.graph r.new.graph }
+    ensures env { env_in r.new ≡ env_in r.old }
+    ensures keeps { KeepsAggregates r.old.graph r.new.graph }
+    ensures adds { (f : Graph) → AddsParts f r.old.graph (types_in_result (result_of r.old.graph.nodes to) ++ types_in_callee (callee_seen r.old.graph.nodes callee)) → IfOk result (λ i. AddsParts f r.new.graph (types_in_instr (instr_of r.new.graph.nodes i))) }
+{
+    let (args, rest) = read_args(r, left, words)?;
+    if !is_end(rest) {
+        return Err(Stop::NotCil);
+    }
+    Ok(Instr::Call(to, callee, args))
+}
+
+/// Behind the expression that is assigned: the end of the line, or a call's arguments (C11 6.5.16.1).
+#[tactic(auto, using(crate::proofs::InstructionLaws::called_next, crate::proofs::InstructionLaws::called_none, crate::proofs::InstructionLaws::called_known, crate::proofs::InstructionLaws::result_known, crate::proofs::AddedTrees::called_adds))]
+fn read_assigned(
+    r: &mut Reader,
+    left: u32,
+    x: Located,
+    value: Operand,
+    words: &[Word],
+) -> Result<Instr, Stop>
+    requires place { PlaceKnown r.old.graph (env_in r.old) x.place x.ty }
+    requires operand { ExpKnown r.old.graph (env_in r.old) value.exp value.to }
+    ensures gives { Gives (λ i. instr_of r.new.graph.nodes i) result (read_assigned (read_exp (env_in r.old) left) left (lval_of r.old.graph.nodes x.place) (exp_of r.old.graph.nodes value.exp) (all_said words.now)) }
+    ensures known { IfOk result (InstrKnown r.new.graph) }
+    ensures grows { Grows r.old.graph r.new.graph }
+    ensures env { env_in r.new ≡ env_in r.old }
+    ensures keeps { KeepsAggregates r.old.graph r.new.graph }
+    ensures adds { (f : Graph) → AddsParts f r.old.graph (types_in_place (lval_of r.old.graph.nodes x.place) ++ types_in_exp (exp_of r.old.graph.nodes value.exp)) → IfOk result (λ i. AddsParts f r.new.graph (types_in_instr (instr_of r.new.graph.nodes i))) }
+{
+    match words {
+        [Word::LeftParen, rest @ ..] => match called_place(value.exp) {
+            Some(callee) => read_call(r, left, Some(x.place), callee, rest),
+            None => Err(Stop::NotCil),
+        },
+        _ => stored(r, x, value, words),
+    }
+}
+
+/// An assignment, and the end of its line.
+#[tactic(auto, using(crate::proofs::InstructionLaws::ended, crate::proofs::InstructionLaws::unended, crate::proofs::InstructionLaws::set_known))]
+fn stored(r: &Reader, x: Located, value: Operand, words: &[Word]) -> Result<Instr, Stop>
+    requires place { PlaceKnown r.now.graph (env_in r.now) x.place x.ty }
+    requires operand { ExpKnown r.now.graph (env_in r.now) value.exp value.to }
+    ensures gives { Gives (λ i. instr_of r.now.graph.nodes i) result (line_end (Set (lval_of r.now.graph.nodes x.place) (exp_of r.now.graph.nodes value.exp)) (all_said words.now)) }
+    ensures known { IfOk result (InstrKnown r.now.graph) }
+    ensures adds { (f : Graph) → AddsParts f r.now.graph (types_in_place (lval_of r.now.graph.nodes x.place) ++ types_in_exp (exp_of r.now.graph.nodes value.exp)) → IfOk result (λ i. AddsParts f r.now.graph (types_in_instr (instr_of r.now.graph.nodes i))) }
+{
+    if !is_end(words) {
+        return Err(Stop::NotCil);
+    }
+    Ok(Instr::Set(x.place, value.exp))
+}
+
+/// Behind `=`: an expression, or a call.
+#[tactic(auto, using(crate::proofs::InstructionLaws::assigned_next, crate::proofs::InstructionLaws::assigned_fails, crate::proofs::PartsLaws::place_later, type_graph::proofs::GrowthLaws::grows_twice, crate::proofs::GlobalLaws::keeps_twice, crate::proofs::AddedTrees::assigned_adds))]
+fn read_assignment(r: &mut Reader, left: u32, x: Located, words: &[Word]) -> Result<Instr, Stop>
+    requires { PlaceKnown r.old.graph (env_in r.old) x.place x.ty }
+    ensures gives { Gives (λ i. instr_of r.new.graph.nodes i) result (option_and_then (λ y. read_assigned (read_exp (env_in r.old) left) left (lval_of r.old.graph.nodes x.place) y.0 y.1) (read_exp (env_in r.old) left (all_said words.now))) }
+    ensures known { IfOk result (InstrKnown r.new.graph) }
+    ensures grows { Grows r.old.graph r.new.graph }
+    ensures env { env_in r.new ≡ env_in r.old }
+    ensures keeps { KeepsAggregates r.old.graph r.new.graph }
+    ensures adds { (f : Graph) → AddsParts f r.old.graph (types_in_place (lval_of r.old.graph.nodes x.place)) → IfOk result (λ i. AddsParts f r.new.graph (types_in_instr (instr_of r.new.graph.nodes i))) }
+{
+    let (value, rest) = read_exp(r, left, words)?;
+    read_assigned(r, left, x, value, rest)
+}
+
+/// Behind the place in front of an instruction: what is assigned to it, or the arguments of a call.
+#[tactic(auto, using(crate::proofs::InstructionLaws::callee_next, crate::proofs::InstructionLaws::callee_none, crate::proofs::InstructionLaws::callee_known, crate::proofs::InstructionLaws::no_result, crate::proofs::AddedTrees::callee_adds))]
+fn read_effect(r: &mut Reader, left: u32, x: Located, words: &[Word]) -> Result<Instr, Stop>
+    requires { PlaceKnown r.old.graph (env_in r.old) x.place x.ty }
+    ensures gives { Gives (λ i. instr_of r.new.graph.nodes i) result (read_effect (read_exp (env_in r.old) left) left (lval_of r.old.graph.nodes x.place) (all_said words.now)) }
+    ensures known { IfOk result (InstrKnown r.new.graph) }
+    ensures grows { Grows r.old.graph r.new.graph }
+    ensures env { env_in r.new ≡ env_in r.old }
+    ensures keeps { KeepsAggregates r.old.graph r.new.graph }
+    ensures adds { (f : Graph) → AddsParts f r.old.graph (types_in_place (lval_of r.old.graph.nodes x.place)) → IfOk result (λ i. AddsParts f r.new.graph (types_in_instr (instr_of r.new.graph.nodes i))) }
+{
+    match words {
+        [Word::Assign, rest @ ..] => read_assignment(r, left, x, rest),
+        [Word::LeftParen, rest @ ..] => match callee_of(x.place) {
+            Some(callee) => read_call(r, left, None, callee, rest),
+            None => Err(Stop::NotCil),
+        },
+        _ => Err(Stop::NotCil),
+    }
+}
+
+/// The place of a zero fill; the rest of its line is not looked at.
+#[tactic(auto, using(crate::proofs::InstructionLaws::zero_gives, crate::proofs::InstructionLaws::zero_fails, crate::proofs::InstructionLaws::zero_known))]
+fn read_zero(r: &mut Reader, left: u32, words: &[Word]) -> Result<Instr, Stop>
+    ensures gives { Gives (λ i. instr_of r.new.graph.nodes i) result (option_and_then zero_from (read_place (env_in r.old) (read_exp (env_in r.old) left) left (all_said words.now))) }
+    ensures known { IfOk result (InstrKnown r.new.graph) }
+    ensures grows { Grows r.old.graph r.new.graph }
+    ensures env { env_in r.new ≡ env_in r.old }
+    ensures keeps { KeepsAggregates r.old.graph r.new.graph }
+    ensures adds { IfOk result (λ i. AddsParts r.old.graph r.new.graph (types_in_instr (instr_of r.new.graph.nodes i))) }
+{
+    let (x, _rest) = read_place(r, left, words)?;
+    Ok(Instr::Zero(x.place))
+}
+
+/// A line that is an instruction.
+#[tactic(auto, using(crate::proofs::InstructionLaws::instr_zero, crate::proofs::InstructionLaws::instr_next, crate::proofs::InstructionLaws::instr_fails, type_graph::proofs::GrowthLaws::grows_twice, crate::proofs::GlobalLaws::keeps_twice))]
+pub(crate) fn read_instr(r: &mut Reader, left: u32, words: &[Word]) -> Result<Instr, Stop>
+    ensures gives { Gives (λ i. instr_of r.new.graph.nodes i) result (read_instr (env_in r.old) left (all_said words.now)) }
+    ensures known { IfOk result (InstrKnown r.new.graph) }
+    ensures grows { Grows r.old.graph r.new.graph }
+    ensures env { env_in r.new ≡ env_in r.old }
+    ensures keeps { KeepsAggregates r.old.graph r.new.graph }
+    ensures adds { IfOk result (λ i. AddsParts r.old.graph r.new.graph (types_in_instr (instr_of r.new.graph.nodes i))) }
+{
+    if is_zero(words) {
+        return read_zero(r, left, behind_address(words));
+    }
+    let (x, rest) = read_place(r, left, words)?;
+    read_effect(r, left, x, rest)
+}

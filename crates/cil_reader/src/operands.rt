@@ -1,0 +1,443 @@
+ghost use Rattle.std.specs.Prelude.{◌≡◌, ◌<◌, Some, IfOk, IfSome, length, [], ◌∷◌};
+ghost use Rattle.std.specs.Option.{option_map, option_and_then};
+ghost use Rattle.type_graph.specs.Shapes.{shape};
+ghost use Rattle.type_graph.specs.Arena.{Graph};
+ghost use Rattle.type_graph.specs.Growth.{Grows, KeepsAggregates};
+ghost use Rattle.cil_tree.specs.Tree.{Un, Bin, Cast, AddrOf, At, Place, Here};
+ghost use Rattle.cil_tree.specs.View.{exp_of, host_of, lval_of};
+ghost use Rattle.cil_text.specs.Words.{LeftParen};
+ghost use Rattle.cil_text.specs.ReadTypes.{read_decl};
+ghost use Rattle.cil_text.specs.ReadExps.{enclosed, read_exp, read_formed, read_chosen, read_place, read_host, read_offsets, read_cast, read_binary, read_right, type_at_host, find_named, fields, in_brackets};
+ghost use Rattle.cil_text.specs.TypesOf.{AddsParts, types_in_exp, types_in_host, types_in_place};
+ghost use Rattle.cil_reader.specs.Said.{all_said};
+ghost use Rattle.cil_reader.specs.Gives.{Gives};
+ghost use Rattle.cil_reader.specs.Settings.{env_in, type_in};
+ghost use Rattle.cil_reader.specs.Parts.{ExpKnown, HostKnown, PlaceKnown, exp_within, form_said, part_behind, one_step, to_field, to_element};
+
+use crate::declarators::closing;
+use crate::parts::{
+    Based, Form, Located, Operand, bracketed, chosen, form_of, is_offset, skip_one, with_address,
+    with_base, with_binary, with_cast, with_element, with_member, with_pointer, with_unary,
+};
+use crate::reader::Reader;
+use crate::stop::Stop;
+use crate::words::Word;
+use cil_base::{BinOp, TypeId, UnOp};
+use cil_tree::Exp;
+
+/// An expression (C11 6.5). What stands within it is read with one step less.
+#[cycle(expression)]
+#[tactic(auto, using(crate::proofs::OperandLaws::exp_none, crate::proofs::OperandLaws::exp_step))]
+pub(crate) fn read_exp<'w, 'a>(
+    r: &mut Reader,
+    left: u32,
+    words: &'w [Word<'a>],
+) -> Result<(Operand, &'w [Word<'a>]), Stop>
+    ensures gives { Gives (λ x. (exp_of r.new.graph.nodes x.0.exp, all_said x.1.now)) result (read_exp (env_in r.old) left (all_said words.now)) }
+    ensures known { IfOk result (λ x. ExpKnown r.new.graph (env_in r.new) x.0.exp x.0.to) }
+    ensures grows { Grows r.old.graph r.new.graph }
+    ensures env { env_in r.new ≡ env_in r.old }
+    ensures keeps { KeepsAggregates r.old.graph r.new.graph }
+    ensures adds { IfOk result (λ x. AddsParts r.old.graph r.new.graph (types_in_exp (exp_of r.new.graph.nodes x.0.exp))) }
+{
+    if left == 0 {
+        return Err(Stop::NotCil);
+    }
+    exp_within(r, left - 1, words)
+}
+
+/// An expression, within which others are read with so many steps.
+#[cycle(expression)]
+#[tactic(auto, using(crate::proofs::PartsLaws::known_const, cil_text::proofs::PartsAdded::adds_none))]
+fn exp_within<'w, 'a>(
+    r: &mut Reader,
+    left: u32,
+    words: &'w [Word<'a>],
+) -> Result<(Operand, &'w [Word<'a>]), Stop>
+    ensures gives { Gives (λ x. (exp_of r.new.graph.nodes x.0.exp, all_said x.1.now)) result (exp_within (env_in r.old) left (all_said words.now)) }
+    ensures known { IfOk result (λ x. ExpKnown r.new.graph (env_in r.new) x.0.exp x.0.to) }
+    ensures grows { Grows r.old.graph r.new.graph }
+    ensures env { env_in r.new ≡ env_in r.old }
+    ensures keeps { KeepsAggregates r.old.graph r.new.graph }
+    ensures adds { IfOk result (λ x. AddsParts r.old.graph r.new.graph (types_in_exp (exp_of r.new.graph.nodes x.0.exp))) }
+{
+    match words {
+        [Word::Number(kind, n), rest @ ..] => {
+            let exp = Exp::Const(*kind, *n);
+            Ok((Operand { exp, to: None }, rest))
+        }
+        [Word::Name(_), ..] => read_chosen(r, left, words),
+        [Word::LeftParen, rest @ ..] => read_formed(r, left, form_of(rest), words, rest),
+        _ => Err(Stop::NotCil),
+    }
+}
+
+/// What stands in parentheses, by its form.
+#[cycle(expression)]
+fn read_formed<'w, 'a>(
+    r: &mut Reader,
+    left: u32,
+    form: Form,
+    words: &'w [Word<'a>],
+    inner: &'w [Word<'a>],
+) -> Result<(Operand, &'w [Word<'a>]), Stop>
+    requires { all_said words.now ≡ LeftParen ∷ all_said inner.now }
+    ensures gives { Gives (λ x. (exp_of r.new.graph.nodes x.0.exp, all_said x.1.now)) result (read_formed (env_in r.old) (read_exp (env_in r.old) left) (read_decl (env_in r.old).tags left) left (form_said form) (all_said inner.now)) }
+    ensures known { IfOk result (λ x. ExpKnown r.new.graph (env_in r.new) x.0.exp x.0.to) }
+    ensures grows { Grows r.old.graph r.new.graph }
+    ensures env { env_in r.new ≡ env_in r.old }
+    ensures keeps { KeepsAggregates r.old.graph r.new.graph }
+    ensures adds { IfOk result (λ x. AddsParts r.old.graph r.new.graph (types_in_exp (exp_of r.new.graph.nodes x.0.exp))) }
+{
+    match form {
+        Form::Negated => one_operand(r, left, UnOp::Neg, skip_one(inner)),
+        Form::Complemented => one_operand(r, left, UnOp::Compl, skip_one(inner)),
+        Form::Denied => one_operand(r, left, UnOp::Not, skip_one(inner)),
+        Form::Addressed => read_address(r, left, skip_one(inner)),
+        Form::Pointed => read_chosen(r, left, words),
+        Form::Converted => read_cast(r, left, skip_one(inner)),
+        Form::Combined => read_binary(r, left, inner),
+    }
+}
+
+/// Behind a unary operator: its operand and `)` (C11 6.5.3.3).
+#[cycle(expression)]
+#[tactic(auto, using(crate::proofs::OperandLaws::enclosed_gives, crate::proofs::OperandLaws::enclosed_open, crate::proofs::OperandLaws::enclosed_fails, crate::proofs::AddedTrees::un_adds))]
+fn one_operand<'w, 'a>(
+    r: &mut Reader,
+    left: u32,
+    op: UnOp,
+    words: &'w [Word<'a>],
+) -> Result<(Operand, &'w [Word<'a>]), Stop>
+    ensures gives { Gives (λ x. (exp_of r.new.graph.nodes x.0.exp, all_said x.1.now)) result (enclosed (Un op) (read_exp (env_in r.old) left (all_said words.now))) }
+    ensures known { IfOk result (λ x. ExpKnown r.new.graph (env_in r.new) x.0.exp x.0.to) }
+    ensures grows { Grows r.old.graph r.new.graph }
+    ensures env { env_in r.new ≡ env_in r.old }
+    ensures keeps { KeepsAggregates r.old.graph r.new.graph }
+    ensures adds { IfOk result (λ x. AddsParts r.old.graph r.new.graph (types_in_exp (exp_of r.new.graph.nodes x.0.exp))) }
+{
+    let (operand, rest) = read_exp(r, left, words)?;
+    let Some(behind) = closing(rest) else {
+        return Err(Stop::NotCil);
+    };
+    Ok((with_unary(r, op, operand)?, behind))
+}
+
+/// Behind `&`: a place and `)` (C11 6.5.3.2).
+#[cycle(expression)]
+#[tactic(auto, using(crate::proofs::OperandLaws::enclosed_gives, crate::proofs::OperandLaws::enclosed_open, crate::proofs::OperandLaws::enclosed_fails, crate::proofs::AddedTrees::address_adds))]
+fn read_address<'w, 'a>(
+    r: &mut Reader,
+    left: u32,
+    words: &'w [Word<'a>],
+) -> Result<(Operand, &'w [Word<'a>]), Stop>
+    ensures gives { Gives (λ x. (exp_of r.new.graph.nodes x.0.exp, all_said x.1.now)) result (enclosed AddrOf (read_place (env_in r.old) (read_exp (env_in r.old) left) left (all_said words.now))) }
+    ensures known { IfOk result (λ x. ExpKnown r.new.graph (env_in r.new) x.0.exp x.0.to) }
+    ensures grows { Grows r.old.graph r.new.graph }
+    ensures env { env_in r.new ≡ env_in r.old }
+    ensures keeps { KeepsAggregates r.old.graph r.new.graph }
+    ensures adds { IfOk result (λ x. AddsParts r.old.graph r.new.graph (types_in_exp (exp_of r.new.graph.nodes x.0.exp))) }
+{
+    let (located, rest) = read_place(r, left, words)?;
+    let Some(behind) = closing(rest) else {
+        return Err(Stop::NotCil);
+    };
+    Ok((with_address(r, located), behind))
+}
+
+/// A place in an expression.
+#[cycle(expression)]
+#[tactic(auto, using(crate::proofs::OperandLaws::chosen_gives, crate::proofs::OperandLaws::chosen_fails, crate::proofs::AddedTrees::chosen_adds))]
+fn read_chosen<'w, 'a>(
+    r: &mut Reader,
+    left: u32,
+    words: &'w [Word<'a>],
+) -> Result<(Operand, &'w [Word<'a>]), Stop>
+    ensures gives { Gives (λ x. (exp_of r.new.graph.nodes x.0.exp, all_said x.1.now)) result (read_chosen (env_in r.old) (read_exp (env_in r.old) left) left (all_said words.now)) }
+    ensures known { IfOk result (λ x. ExpKnown r.new.graph (env_in r.new) x.0.exp x.0.to) }
+    ensures grows { Grows r.old.graph r.new.graph }
+    ensures env { env_in r.new ≡ env_in r.old }
+    ensures keeps { KeepsAggregates r.old.graph r.new.graph }
+    ensures adds { IfOk result (λ x. AddsParts r.old.graph r.new.graph (types_in_exp (exp_of r.new.graph.nodes x.0.exp))) }
+{
+    let (located, rest) = read_place(r, left, words)?;
+    Ok((chosen(r, located), rest))
+}
+
+/// Behind the `(` of a type's name: the rest of a conversion (C11 6.5.4).
+#[cycle(expression)]
+#[tactic(auto, using(crate::proofs::OperandLaws::cast_next, crate::proofs::OperandLaws::cast_open, crate::proofs::OperandLaws::cast_fails, type_graph::proofs::GrowthLaws::grows_twice, crate::proofs::GlobalLaws::keeps_twice))]
+fn read_cast<'w, 'a>(
+    r: &mut Reader,
+    left: u32,
+    words: &'w [Word<'a>],
+) -> Result<(Operand, &'w [Word<'a>]), Stop>
+    ensures gives { Gives (λ x. (exp_of r.new.graph.nodes x.0.exp, all_said x.1.now)) result (read_cast (read_exp (env_in r.old) left) (read_decl (env_in r.old).tags left) (all_said words.now)) }
+    ensures known { IfOk result (λ x. ExpKnown r.new.graph (env_in r.new) x.0.exp x.0.to) }
+    ensures grows { Grows r.old.graph r.new.graph }
+    ensures env { env_in r.new ≡ env_in r.old }
+    ensures keeps { KeepsAggregates r.old.graph r.new.graph }
+    ensures adds { IfOk result (λ x. AddsParts r.old.graph r.new.graph (types_in_exp (exp_of r.new.graph.nodes x.0.exp))) }
+{
+    let (named, rest) = r.read_decl(left, words)?;
+    let Some(behind) = closing(rest) else {
+        return Err(Stop::NotCil);
+    };
+    cast_operand(r, left, named.ty, behind)
+}
+
+/// What is converted to a type, and `)`.
+#[cycle(expression)]
+#[tactic(auto, using(crate::proofs::OperandLaws::enclosed_gives, crate::proofs::OperandLaws::enclosed_open, crate::proofs::OperandLaws::enclosed_fails, crate::proofs::PartsLaws::there_later, type_graph::proofs::ShapeLaws::kept, crate::proofs::AddedTrees::cast_adds))]
+fn cast_operand<'w, 'a>(
+    r: &mut Reader,
+    left: u32,
+    to: TypeId,
+    words: &'w [Word<'a>],
+) -> Result<(Operand, &'w [Word<'a>]), Stop>
+    requires { to.0 < length r.old.graph.nodes }
+    ensures gives { Gives (λ x. (exp_of r.new.graph.nodes x.0.exp, all_said x.1.now)) result (enclosed (Cast (Some (shape r.old.graph.nodes to.0))) (read_exp (env_in r.old) left (all_said words.now))) }
+    ensures known { IfOk result (λ x. ExpKnown r.new.graph (env_in r.new) x.0.exp x.0.to) }
+    ensures grows { Grows r.old.graph r.new.graph }
+    ensures env { env_in r.new ≡ env_in r.old }
+    ensures keeps { KeepsAggregates r.old.graph r.new.graph }
+    ensures adds { (f : Graph) → AddsParts f r.old.graph (shape r.old.graph.nodes to.0 ∷ []) → IfOk result (λ x. AddsParts f r.new.graph (types_in_exp (exp_of r.new.graph.nodes x.0.exp))) }
+{
+    let (operand, rest) = read_exp(r, left, words)?;
+    let Some(behind) = closing(rest) else {
+        return Err(Stop::NotCil);
+    };
+    Ok((with_cast(r, to, operand)?, behind))
+}
+
+/// An expression, an operator, another one and `)` (C11 6.5.5 to 6.5.12).
+#[cycle(expression)]
+#[tactic(auto, using(crate::proofs::OperandLaws::binary_next, crate::proofs::OperandLaws::binary_fails, type_graph::proofs::GrowthLaws::grows_twice, crate::proofs::GlobalLaws::keeps_twice))]
+fn read_binary<'w, 'a>(
+    r: &mut Reader,
+    left: u32,
+    words: &'w [Word<'a>],
+) -> Result<(Operand, &'w [Word<'a>]), Stop>
+    ensures gives { Gives (λ x. (exp_of r.new.graph.nodes x.0.exp, all_said x.1.now)) result (read_binary (read_exp (env_in r.old) left) (all_said words.now)) }
+    ensures known { IfOk result (λ x. ExpKnown r.new.graph (env_in r.new) x.0.exp x.0.to) }
+    ensures grows { Grows r.old.graph r.new.graph }
+    ensures env { env_in r.new ≡ env_in r.old }
+    ensures keeps { KeepsAggregates r.old.graph r.new.graph }
+    ensures adds { IfOk result (λ x. AddsParts r.old.graph r.new.graph (types_in_exp (exp_of r.new.graph.nodes x.0.exp))) }
+{
+    let (operand, rest) = read_exp(r, left, words)?;
+    read_right(r, left, operand, rest)
+}
+
+/// Behind the left operand: the operator, the right one and `)`.
+#[cycle(expression)]
+fn read_right<'w, 'a>(
+    r: &mut Reader,
+    left: u32,
+    x: Operand,
+    words: &'w [Word<'a>],
+) -> Result<(Operand, &'w [Word<'a>]), Stop>
+    requires { ExpKnown r.old.graph (env_in r.old) x.exp x.to }
+    ensures gives { Gives (λ x. (exp_of r.new.graph.nodes x.0.exp, all_said x.1.now)) result (read_right (read_exp (env_in r.old) left) (exp_of r.old.graph.nodes x.exp) (all_said words.now)) }
+    ensures known { IfOk result (λ x. ExpKnown r.new.graph (env_in r.new) x.0.exp x.0.to) }
+    ensures grows { Grows r.old.graph r.new.graph }
+    ensures env { env_in r.new ≡ env_in r.old }
+    ensures keeps { KeepsAggregates r.old.graph r.new.graph }
+    ensures adds { (f : Graph) → AddsParts f r.old.graph (types_in_exp (exp_of r.old.graph.nodes x.exp)) → IfOk result (λ y. AddsParts f r.new.graph (types_in_exp (exp_of r.new.graph.nodes y.0.exp))) }
+{
+    match words {
+        [Word::Operator(op), rest @ ..] => right_operand(r, left, *op, x, rest),
+        _ => Err(Stop::NotCil),
+    }
+}
+
+/// The right operand and `)`.
+#[cycle(expression)]
+#[tactic(auto, using(crate::proofs::OperandLaws::enclosed_gives, crate::proofs::OperandLaws::enclosed_open, crate::proofs::OperandLaws::enclosed_fails, crate::proofs::PartsLaws::exp_later, crate::proofs::PartsLaws::exp_same, crate::proofs::AddedTrees::bin_adds))]
+fn right_operand<'w, 'a>(
+    r: &mut Reader,
+    left: u32,
+    op: BinOp,
+    x: Operand,
+    words: &'w [Word<'a>],
+) -> Result<(Operand, &'w [Word<'a>]), Stop>
+    requires { ExpKnown r.old.graph (env_in r.old) x.exp x.to }
+    ensures gives { Gives (λ x. (exp_of r.new.graph.nodes x.0.exp, all_said x.1.now)) result (enclosed (Bin op (exp_of r.old.graph.nodes x.exp)) (read_exp (env_in r.old) left (all_said words.now))) }
+    ensures known { IfOk result (λ x. ExpKnown r.new.graph (env_in r.new) x.0.exp x.0.to) }
+    ensures grows { Grows r.old.graph r.new.graph }
+    ensures env { env_in r.new ≡ env_in r.old }
+    ensures keeps { KeepsAggregates r.old.graph r.new.graph }
+    ensures adds { (f : Graph) → AddsParts f r.old.graph (types_in_exp (exp_of r.old.graph.nodes x.exp)) → IfOk result (λ y. AddsParts f r.new.graph (types_in_exp (exp_of r.new.graph.nodes y.0.exp))) }
+{
+    let (operand, rest) = read_exp(r, left, words)?;
+    let Some(behind) = closing(rest) else {
+        return Err(Stop::NotCil);
+    };
+    Ok((with_binary(r, op, x, operand)?, behind))
+}
+
+/// A place (C11 6.3.2.1p1).
+#[cycle(expression)]
+#[tactic(auto, using(crate::proofs::OperandLaws::place_next, crate::proofs::OperandLaws::place_fails, type_graph::proofs::GrowthLaws::grows_twice, crate::proofs::GlobalLaws::keeps_twice))]
+pub(crate) fn read_place<'w, 'a>(
+    r: &mut Reader,
+    left: u32,
+    words: &'w [Word<'a>],
+) -> Result<(Located, &'w [Word<'a>]), Stop>
+    ensures gives { Gives (λ x. (lval_of r.new.graph.nodes x.0.place, all_said x.1.now)) result (read_place (env_in r.old) (read_exp (env_in r.old) left) left (all_said words.now)) }
+    ensures known { IfOk result (λ x. PlaceKnown r.new.graph (env_in r.new) x.0.place x.0.ty) }
+    ensures grows { Grows r.old.graph r.new.graph }
+    ensures env { env_in r.new ≡ env_in r.old }
+    ensures keeps { KeepsAggregates r.old.graph r.new.graph }
+    ensures adds { IfOk result (λ x. AddsParts r.old.graph r.new.graph (types_in_place (lval_of r.new.graph.nodes x.0.place))) }
+{
+    let (based, rest) = read_host(r, left, words)?;
+    behind_host(r, left, based, rest)
+}
+
+/// Behind what a place begins with.
+#[cycle(expression)]
+#[tactic(auto, using(crate::proofs::PartsLaws::host_typed, crate::proofs::AddedTrees::base_adds))]
+fn behind_host<'w, 'a>(
+    r: &mut Reader,
+    left: u32,
+    based: Based,
+    words: &'w [Word<'a>],
+) -> Result<(Located, &'w [Word<'a>]), Stop>
+    requires { HostKnown r.old.graph (env_in r.old) based.host based.ty }
+    ensures gives { Gives (λ x. (lval_of r.new.graph.nodes x.0.place, all_said x.1.now)) result (option_map (part_behind (Place (host_of r.old.graph.nodes based.host) Here)) (read_offsets (env_in r.old) (read_exp (env_in r.old) left) left (type_at_host (env_in r.old) (host_of r.old.graph.nodes based.host)) (all_said words.now))) }
+    ensures known { IfOk result (λ x. PlaceKnown r.new.graph (env_in r.new) x.0.place x.0.ty) }
+    ensures grows { Grows r.old.graph r.new.graph }
+    ensures env { env_in r.new ≡ env_in r.old }
+    ensures keeps { KeepsAggregates r.old.graph r.new.graph }
+    ensures adds { (f : Graph) → AddsParts f r.old.graph (types_in_host (host_of r.old.graph.nodes based.host)) → IfOk result (λ x. AddsParts f r.new.graph (types_in_place (lval_of r.new.graph.nodes x.0.place))) }
+{
+    let located = with_base(r, based);
+    read_offsets(r, left, left, located, words)
+}
+
+/// What a place begins with: a name, or what a pointer points to.
+#[cycle(expression)]
+#[tactic(auto, using(cil_text::proofs::PartsAdded::adds_none))]
+fn read_host<'w, 'a>(
+    r: &mut Reader,
+    left: u32,
+    words: &'w [Word<'a>],
+) -> Result<(Based, &'w [Word<'a>]), Stop>
+    ensures gives { Gives (λ x. (host_of r.new.graph.nodes x.0.host, all_said x.1.now)) result (read_host (env_in r.old) (read_exp (env_in r.old) left) (all_said words.now)) }
+    ensures known { IfOk result (λ x. HostKnown r.new.graph (env_in r.new) x.0.host x.0.ty) }
+    ensures grows { Grows r.old.graph r.new.graph }
+    ensures env { env_in r.new ≡ env_in r.old }
+    ensures keeps { KeepsAggregates r.old.graph r.new.graph }
+    ensures adds { IfOk result (λ x. AddsParts r.old.graph r.new.graph (types_in_host (host_of r.new.graph.nodes x.0.host))) }
+{
+    match words {
+        [Word::Name(name), rest @ ..] => match r.host_named(name) {
+            Some(based) => Ok((based, rest)),
+            None => Err(Stop::NotCil),
+        },
+        [Word::LeftParen, Word::Operator(BinOp::Mul), rest @ ..] => pointed_host(r, left, rest),
+        _ => Err(Stop::NotCil),
+    }
+}
+
+/// Behind `( *`: a pointer and `)` (C11 6.5.3.2p4).
+#[cycle(expression)]
+#[tactic(auto, using(crate::proofs::OperandLaws::enclosed_gives, crate::proofs::OperandLaws::enclosed_open, crate::proofs::OperandLaws::enclosed_fails, crate::proofs::AddedTrees::at_adds))]
+fn pointed_host<'w, 'a>(
+    r: &mut Reader,
+    left: u32,
+    words: &'w [Word<'a>],
+) -> Result<(Based, &'w [Word<'a>]), Stop>
+    ensures gives { Gives (λ x. (host_of r.new.graph.nodes x.0.host, all_said x.1.now)) result (enclosed At (read_exp (env_in r.old) left (all_said words.now))) }
+    ensures known { IfOk result (λ x. HostKnown r.new.graph (env_in r.new) x.0.host x.0.ty) }
+    ensures grows { Grows r.old.graph r.new.graph }
+    ensures env { env_in r.new ≡ env_in r.old }
+    ensures keeps { KeepsAggregates r.old.graph r.new.graph }
+    ensures adds { IfOk result (λ x. AddsParts r.old.graph r.new.graph (types_in_host (host_of r.new.graph.nodes x.0.host))) }
+{
+    let (operand, rest) = read_exp(r, left, words)?;
+    let Some(behind) = closing(rest) else {
+        return Err(Stop::NotCil);
+    };
+    Ok((with_pointer(r, operand)?, behind))
+}
+
+/// Steps into a part of a place.
+#[cycle(expression)]
+#[tactic(auto, using(crate::proofs::OperandLaws::offsets_none, crate::proofs::OperandLaws::offsets_end, crate::proofs::OperandLaws::offsets_fail, type_graph::proofs::GrowthLaws::grows_twice, crate::proofs::GlobalLaws::keeps_twice))]
+fn read_offsets<'w, 'a>(
+    r: &mut Reader,
+    left: u32,
+    steps: u32,
+    located: Located,
+    words: &'w [Word<'a>],
+) -> Result<(Located, &'w [Word<'a>]), Stop>
+    requires { PlaceKnown r.old.graph (env_in r.old) located.place located.ty }
+    ensures gives { Gives (λ x. (lval_of r.new.graph.nodes x.0.place, all_said x.1.now)) result (option_map (part_behind (lval_of r.old.graph.nodes located.place)) (read_offsets (env_in r.old) (read_exp (env_in r.old) left) steps (type_in r.old.graph.nodes located.ty) (all_said words.now))) }
+    ensures known { IfOk result (λ x. PlaceKnown r.new.graph (env_in r.new) x.0.place x.0.ty) }
+    ensures grows { Grows r.old.graph r.new.graph }
+    ensures env { env_in r.new ≡ env_in r.old }
+    ensures keeps { KeepsAggregates r.old.graph r.new.graph }
+    ensures adds { (f : Graph) → AddsParts f r.old.graph (types_in_place (lval_of r.old.graph.nodes located.place)) → IfOk result (λ x. AddsParts f r.new.graph (types_in_place (lval_of r.new.graph.nodes x.0.place))) }
+{
+    if steps == 0 {
+        return Err(Stop::NotCil);
+    }
+    if !is_offset(words) {
+        return Ok((located, words));
+    }
+    let (part, rest) = one_step(r, left, located, words)?;
+    read_offsets(r, left, steps - 1, part, rest)
+}
+
+/// A member or an element of a place.
+#[cycle(expression)]
+#[tactic(auto, using(crate::proofs::PartsLaws::place_below, crate::proofs::AddedTrees::field_adds))]
+fn one_step<'w, 'a>(
+    r: &mut Reader,
+    left: u32,
+    located: Located,
+    words: &'w [Word<'a>],
+) -> Result<(Located, &'w [Word<'a>]), Stop>
+    requires { PlaceKnown r.old.graph (env_in r.old) located.place located.ty }
+    ensures gives { Gives (λ x. ((lval_of r.new.graph.nodes x.0.place, type_in r.new.graph.nodes x.0.ty), all_said x.1.now)) result (one_step (env_in r.old) (read_exp (env_in r.old) left) (lval_of r.old.graph.nodes located.place) (type_in r.old.graph.nodes located.ty) (all_said words.now)) }
+    ensures known { IfOk result (λ x. PlaceKnown r.new.graph (env_in r.new) x.0.place x.0.ty) }
+    ensures grows { Grows r.old.graph r.new.graph }
+    ensures env { env_in r.new ≡ env_in r.old }
+    ensures keeps { KeepsAggregates r.old.graph r.new.graph }
+    ensures adds { (f : Graph) → AddsParts f r.old.graph (types_in_place (lval_of r.old.graph.nodes located.place)) → IfOk result (λ x. AddsParts f r.new.graph (types_in_place (lval_of r.new.graph.nodes x.0.place))) }
+{
+    match words {
+        [Word::Dot, Word::Name(name), rest @ ..] => match r.field(located.ty, name) {
+            Some(found) => Ok((with_member(r, located, found.0, found.1)?, rest)),
+            None => Err(Stop::NotCil),
+        },
+        [Word::LeftBracket, rest @ ..] => one_element(r, left, located, rest),
+        _ => Err(Stop::NotCil),
+    }
+}
+
+/// Behind `[`: an index and `]`.
+#[cycle(expression)]
+#[tactic(auto, using(crate::proofs::OperandLaws::element_gives, crate::proofs::OperandLaws::element_open, crate::proofs::OperandLaws::element_fails, crate::proofs::PartsLaws::place_later, crate::proofs::PartsLaws::place_same, crate::proofs::PartsLaws::type_later, crate::proofs::AddedTrees::element_adds))]
+fn one_element<'w, 'a>(
+    r: &mut Reader,
+    left: u32,
+    located: Located,
+    words: &'w [Word<'a>],
+) -> Result<(Located, &'w [Word<'a>]), Stop>
+    requires { PlaceKnown r.old.graph (env_in r.old) located.place located.ty }
+    ensures gives { Gives (λ x. ((lval_of r.new.graph.nodes x.0.place, type_in r.new.graph.nodes x.0.ty), all_said x.1.now)) result (option_map (to_element (lval_of r.old.graph.nodes located.place) (type_in r.old.graph.nodes located.ty)) (option_and_then (λ y. in_brackets y.0 y.1) (read_exp (env_in r.old) left (all_said words.now)))) }
+    ensures known { IfOk result (λ x. PlaceKnown r.new.graph (env_in r.new) x.0.place x.0.ty) }
+    ensures grows { Grows r.old.graph r.new.graph }
+    ensures env { env_in r.new ≡ env_in r.old }
+    ensures keeps { KeepsAggregates r.old.graph r.new.graph }
+    ensures adds { (f : Graph) → AddsParts f r.old.graph (types_in_place (lval_of r.old.graph.nodes located.place)) → IfOk result (λ x. AddsParts f r.new.graph (types_in_place (lval_of r.new.graph.nodes x.0.place))) }
+{
+    let (index, rest) = read_exp(r, left, words)?;
+    let Some(behind) = bracketed(rest) else {
+        return Err(Stop::NotCil);
+    };
+    Ok((with_element(r, located, index)?, behind))
+}

@@ -1,0 +1,172 @@
+ghost use Rattle.std.specs.Prelude.{◌≡◌, ◌++◌, true, false, [], length, IfOk, IfErr, OnOk};
+ghost use Rattle.std.specs.List.{list_all};
+ghost use Rattle.type_graph.specs.Arena.{IsArena};
+ghost use Rattle.type_graph.specs.Growth.{Grows, KeepsAggregates};
+ghost use Rattle.cil_tree.specs.View.{program_of};
+ghost use Rattle.cil_tree.specs.WellFormedTypes.{members_are_unqualified};
+ghost use Rattle.cil_tree.specs.Programs.{IsTextOf};
+ghost use Rattle.cil_text.specs.ReadText.{read_text};
+ghost use Rattle.cil_text.specs.TypesOf.{AddsParts, HasNeeded, declared_types, defined_types};
+ghost use Rattle.cil_reader.specs.declared.stop.Stop.TheVariants.{WantOfMemory};
+ghost use Rattle.cil_reader.specs.Said.{all_lines};
+ghost use Rattle.cil_reader.specs.Gives.{Gives};
+ghost use Rattle.cil_reader.specs.Settings.{env_in};
+ghost use Rattle.cil_reader.specs.Aggregates.{aggregates_in};
+ghost use Rattle.cil_reader.specs.Globals.{EachDeclared, PoolGrows, declarations_of, globals_of};
+ghost use Rattle.cil_reader.specs.Defined.{defined_read, globals_read, Refuses};
+ghost use Rattle.cil_reader.specs.Stops.{StopsAt};
+
+use crate::aggregates::read_aggregates;
+use crate::bodies::read_bodies;
+use crate::globals::{Declaration, names_of, read_declarations, read_objects};
+use crate::layout::bad_place;
+use crate::lines::lines_of;
+use crate::names::{Known, Names};
+use crate::numbering::Numbering;
+use crate::reader::Reader;
+use crate::stop::Stop;
+use crate::words::Word;
+use cil_base::NamePool;
+use cil_check::check;
+use cil_printer::{PrintStop, print};
+use cil_tree::{CilUnit, GlobalDecl};
+use std::alloc::Global;
+use thiserror::Error;
+use type_graph::TypeGraph;
+
+/// The depth to which what is read may nest, and the most parts that one may have: more than any text can.
+const DEPTH: u32 = u32::MAX;
+
+/// Why bytes are not read.
+#[derive(Clone, Copy, Debug, PartialEq, Eq, Error)]
+pub enum ReadStop {
+    /// They are no text of a program. The place is that of the first line that is not laid out as a text has its
+    /// lines, or the end (own).
+    #[error("not CIL at byte {0}")]
+    NotCil(usize),
+    /// Want of memory.
+    #[error("want of memory")]
+    Memory,
+}
+
+/// Nothing is known yet.
+fn nothing_known(alloc: Global) -> Known
+    ensures tags { result.tags ≡ [] }
+    ensures members { result.members.items ≡ [] }
+    ensures globals { result.globals.types.items ≡ [] }
+    ensures locals { result.locals.types.items ≡ [] }
+{
+    Known {
+        tags: Numbering::new(alloc),
+        members: Vec::new(alloc),
+        globals: Names::new(alloc),
+        locals: Names::new(alloc),
+    }
+}
+
+/// The globals that are declared so, with the objects and the bodies that lines define; no other line stands there.
+#[tactic(auto, using(type_graph::proofs::GrowthLaws::grows_twice, crate::proofs::BodyLaws::pool_twice, crate::proofs::GlobalLaws::declared_later, crate::proofs::ProgramLaws::defined_fails))]
+fn define_globals(
+    r: &mut Reader,
+    pool: &mut NamePool,
+    left: u32,
+    declarations: &[Declaration],
+    lines: &[Vec<Word>],
+) -> Result<Vec<GlobalDecl>, Stop>
+    requires { EachDeclared (length r.old.graph.nodes) declarations.now }
+    ensures gives { Gives (λ xs. globals_of r.new.graph.nodes pool.new xs.items) result (defined_read (env_in r.old) left (declarations_of r.old.graph.nodes declarations.now) (all_lines lines.now)) }
+    ensures grows { Grows r.old.graph r.new.graph }
+    ensures keeps { KeepsAggregates r.old.graph r.new.graph }
+    ensures pool { OnOk result (PoolGrows pool.old pool.new) }
+    ensures adds { IfOk result (λ xs. AddsParts r.old.graph r.new.graph (defined_types (globals_of r.new.graph.nodes pool.new xs.items))) }
+{
+    let (mut globals, rest) = read_objects(r, pool, left, declarations, lines)?;
+    let rest = read_bodies(r, pool, left, declarations, &mut globals, rest)?;
+    if !rest.is_empty() {
+        return Err(Stop::NotCil);
+    }
+    Ok(globals)
+}
+
+/// The globals of a program, to the end of its text.
+#[tactic(auto, using(type_graph::proofs::GrowthLaws::grows_twice, crate::proofs::GlobalLaws::declared_later, crate::proofs::ProgramLaws::globals_give, crate::proofs::ProgramLaws::globals_alike, crate::proofs::ProgramLaws::globals_fail, crate::proofs::NeededLaws::globals_added))]
+fn read_globals(
+    r: &mut Reader,
+    pool: &mut NamePool,
+    left: u32,
+    lines: &[Vec<Word>],
+) -> Result<Vec<GlobalDecl>, Stop>
+    ensures gives { Gives (λ xs. globals_of r.new.graph.nodes pool.new xs.items) result (globals_read (env_in r.old) left (all_lines lines.now)) }
+    ensures grows { Grows r.old.graph r.new.graph }
+    ensures keeps { KeepsAggregates r.old.graph r.new.graph }
+    ensures pool { OnOk result (PoolGrows pool.old pool.new) }
+    ensures adds { IfOk result (λ xs. AddsParts r.old.graph r.new.graph (declared_types (globals_of r.new.graph.nodes pool.new xs.items) ++ defined_types (globals_of r.new.graph.nodes pool.new xs.items))) }
+{
+    let (declarations, rest) = read_declarations(r, left, lines)?;
+    let names = names_of(r, &declarations)?;
+    r.set_globals(names);
+    define_globals(r, pool, left, &declarations, rest)
+}
+
+/// The tree that the lines of a text say, whether or not it is a program's and the text is its own.
+#[tactic(auto, using(crate::proofs::MemberLaws::new_known, crate::proofs::ProgramLaws::blank, crate::proofs::ProgramLaws::aggregates_stay, crate::proofs::NeededLaws::tree_needed, crate::proofs::NeededLaws::members_stay))]
+fn read_tree(alloc: Global, bytes: &[u8], pool: &mut NamePool) -> Result<CilUnit, Stop>
+    ensures gives { Gives (λ u. (aggregates_in u.graph pool.new, globals_of u.graph.nodes pool.new u.globals.items)) result (read_text 4294967295 bytes.now) }
+    ensures needed { IfOk result (λ u. HasNeeded (program_of pool.new u)) }
+    ensures unqualified { IfOk result (λ u. list_all members_are_unqualified u.graph.aggs ≡ true) }
+    ensures arena { IfOk result (λ u. IsArena u.graph) }
+{
+    let lines = lines_of(alloc, bytes)?;
+    let mut r = Reader::new(TypeGraph::new(alloc), nothing_known(alloc));
+    let rest = read_aggregates(&mut r, pool, DEPTH, &lines)?;
+    let globals = read_globals(&mut r, pool, DEPTH, rest)?;
+    let graph = r.into_graph();
+    // What is known of an arena is known where it is read.
+    let _types = graph.len();
+    Ok(CilUnit { graph, globals })
+}
+
+/// Whether bytes are the text of a tree, which is a program's.
+#[tactic(auto, using(crate::proofs::RefusalLaws::no_program, crate::proofs::RefusalLaws::other_text, crate::proofs::RefusalLaws::too_long))]
+fn is_text(unit: &CilUnit, names: &NamePool, bytes: &[u8]) -> Result<bool, Stop>
+    ensures text { IfOk result (λ b. b ≡ true → IsTextOf bytes.now (program_of names.now unit.now)) }
+    ensures other { IfOk result (λ b. b ≡ false → IsTextOf bytes.now (program_of names.now unit.now) → ⊥) }
+    ensures memory { IfErr result (λ e. e ≡ WantOfMemory) }
+{
+    if !check(unit, names)? {
+        return Ok(false);
+    }
+    match print(unit, names) {
+        Ok(text) => Ok(text.as_slice() == bytes),
+        Err(PrintStop::TooLong) => Ok(false),
+        Err(PrintStop::Memory) => Err(Stop::WantOfMemory),
+    }
+}
+
+/// The program whose text bytes are.
+fn read_text(alloc: Global, bytes: &[u8], pool: &mut NamePool) -> Result<CilUnit, Stop>
+    ensures text { IfOk result (λ u. IsTextOf bytes.now (program_of pool.new u)) }
+    ensures refused { Refuses bytes.now result }
+{
+    let unit = read_tree(alloc, bytes, pool)?;
+    if !is_text(&unit, pool, bytes)? {
+        return Err(Stop::NotCil);
+    }
+    Ok(unit)
+}
+
+/// Reads a CIL text: the program whose text these bytes are, with the texts of the pool's names (own).
+///
+/// NotCil comes exactly for bytes that are the text of no well-formed program, where memory suffices; it names the
+/// place of the first line that is not laid out as a text has its lines, or the end. Memory comes only for want of
+/// memory. The pool gets the names that stand in the text.
+pub fn read(alloc: Global, bytes: &[u8], pool: &mut NamePool) -> Result<CilUnit, ReadStop>
+    ensures text { IfOk result (λ u. IsTextOf bytes.now (program_of pool.new u)) }
+    ensures place { StopsAt bytes.now result }
+{
+    match read_text(alloc, bytes, pool) {
+        Ok(unit) => Ok(unit),
+        Err(Stop::NotCil) => Err(ReadStop::NotCil(bad_place(bytes))),
+        Err(Stop::WantOfMemory) => Err(ReadStop::Memory),
+    }
+}
