@@ -204,7 +204,10 @@ fn bodies() -> &'static [(&'static str, bool)] {
         ("  int x [ 3 ] ;\n  x [ 2L ] = 1 ;\n", true),
         ("  main ( ) ;\n", true),
         ("  int ( * f ) ( void ) ;\n  ( * f ) ( ) ;\n", true),
-        ("  int x ;\n  __builtin_memset ( ( & x ) , 0 , 4UL ) ;\n", true),
+        (
+            "  int x ;\n  __builtin_memset ( ( & x ) , 0 , 4UL ) ;\n",
+            true,
+        ),
         // a value that is missing, and one too many
         ("  return ;\n", false),
         ("  return 0 0 ;\n", false),
@@ -225,7 +228,10 @@ fn bodies() -> &'static [(&'static str, bool)] {
         ("  break ;\n", false),
         ("  case 1 : ;\n", false),
         ("  default : ;\n", false),
-        ("  switch ( 1 ) {\n    case 1 : ;\n    case 1 : ;\n  }\n", false),
+        (
+            "  switch ( 1 ) {\n    case 1 : ;\n    case 1 : ;\n  }\n",
+            false,
+        ),
         ("  switch ( 1L ) {\n    case 1 : ;\n  }\n", false),
         ("  switch ( 1 ) {\n    default ;\n  }\n", false),
         // an object with a value, behind statements, twice, and that stands nowhere
@@ -239,7 +245,10 @@ fn bodies() -> &'static [(&'static str, bool)] {
         ("  1 ;\n", false),
         // an argument too many, and the bytes of another object
         ("  main ( 1 ) ;\n", false),
-        ("  int x ;\n  __builtin_memset ( ( & x ) , 0 , 8UL ) ;\n", false),
+        (
+            "  int x ;\n  __builtin_memset ( ( & x ) , 0 , 8UL ) ;\n",
+            false,
+        ),
         ("  int x ;\n  __builtin_memset ( & x , 0 , 4UL ) ;\n", false),
         // a block that is not closed
         ("  {\n", false),

@@ -297,9 +297,9 @@ linkage_cut false ws e = no_static ws e
 
 zero_told : (p : Program) (n : ℕ) (x : GlobalDecl) → size (shape_of x.type) + 2 ≤ n → IsDeclared p x → own_definition (known_of p []) n (declaration_of x) (onto (closed (declarator p x)) []) ≡ Some Zeros
 zero_told p n x low is = own_told p n x (onto (closed (declarator p x)) []) (Semicolon ∷ []) (
-  ap (λ (ws : List Word). read_decl (tags p) n (without_static ws)) (closed_words (declarator p x) ∙ declarator_words p x (Semicolon ∷ []) is)
-  ∙ ap (read_decl (tags p) n) (no_static (declarator_spelled p x (Semicolon ∷ [])) (declarator_base p x (Semicolon ∷ []) is))
-  ∙ named_back p n (shape_of x.type) x.name (Semicolon ∷ []) low is.2 refl)
+    ap (λ (ws : List Word). read_decl (tags p) n (without_static ws)) (closed_words (declarator p x) ∙ declarator_words p x (Semicolon ∷ []) is)
+    ∙ ap (read_decl (tags p) n) (no_static (declarator_spelled p x (Semicolon ∷ [])) (declarator_base p x (Semicolon ∷ []) is))
+    ∙ named_back p n (shape_of x.type) x.name (Semicolon ∷ []) low is.2 refl)
 
 image_told : (p : Program) (n : ℕ) (x : GlobalDecl) (items : List Item) → size (shape_of x.type) + 2 ≤ n → IsDeclared p x →
     own_definition (known_of p []) n (declaration_of x) (onto (image_line p x items) []) ≡ defined_by (known_of p []) n (shape_of x.type) (Assign ∷ onto (image_tokens p (Some (shape_of x.type)) items) (Semicolon ∷ []))
