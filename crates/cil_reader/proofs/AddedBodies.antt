@@ -23,7 +23,8 @@ use Rattle.cil_reader.specs.Settings.{locals_of}
 use Rattle.cil_reader.specs.Heads.{heads_of}
 use Rattle.cil_reader.specs.Nesting.{waiting}
 use Rattle.cil_reader.specs.Added.{types_in_heads}
-use Rattle.cil_reader.specs.Globals.{PoolGrows, globals_of, GlobalsKnown}
+use Rattle.cil_reader.specs.Pools.{KeepsNames}
+use Rattle.cil_reader.specs.Globals.{globals_of, GlobalsKnown}
 use Rattle.cil_reader.specs.Bodies.{named_local, local_behind, LocalsKnown, with_body, own_types}
 use Rattle.cil_reader.proofs.BodyLaws.{one_more, behind_cases}
 use Rattle.cil_reader.proofs.FunctionLaws.{globals_same, globals_set}
@@ -80,7 +81,7 @@ stmts_add f g n hs ks js ss turned is none adds =
 
 -- bodies
 
-pub body_adds : (f e g : Graph) (p q : List (List ℕ)) (b : SeenBody) (x : Locals) → Grows e g → PoolGrows p q → LocalsKnown e p x → b.locals ≡ x.all →
+pub body_adds : (f e g : Graph) (p q : List (List ℕ)) (b : SeenBody) (x : Locals) → Grows e g → KeepsNames p q → LocalsKnown e p x → b.locals ≡ x.all →
     AddsParts f e (types_in_locals (locals_of e.nodes x.names)) → AddsParts e g (types_in_stmts (stmts_of g.nodes b.stmts.items)) → AddsParts f g (types_in_body (body_of g.nodes q b))
 body_adds f e g p q b x grows pool known same first second =
     subst (λ (ls : List Local). AddsParts f g (types_in_locals ls ++ types_in_stmts (stmts_of g.nodes b.stmts.items))) (sym (ap (λ v. map (local_of g.nodes q) v.items) same ∙ known.steady g q grows pool))
@@ -112,7 +113,7 @@ set_among s (y ∷ ys) (suc i) b d less a =
 passed_more : (f h : Graph) (ys : List GlobalDecl) (i : ℕ) → AddsParts f h (defined_types (take (suc i) ys)) → AddsParts f h (defined_types (take (i + 1) ys))
 passed_more f h ys i adds = subst (λ (k : ℕ). AddsParts f h (defined_types (take k ys))) (one_more i) adds
 
-pub none_adds : (f g h : Graph) (p q : List (List ℕ)) (xs : List SeenGlobal) (i : ℕ) (o : Option (SeenBody × ℕ)) → Grows g h → PoolGrows p q → GlobalsKnown g p xs → o ≡ None → AddsParts f g (defined_types (take i (globals_of g.nodes p xs))) → AddsParts g h (own_types h.nodes q o) →
+pub none_adds : (f g h : Graph) (p q : List (List ℕ)) (xs : List SeenGlobal) (i : ℕ) (o : Option (SeenBody × ℕ)) → Grows g h → KeepsNames p q → GlobalsKnown g p xs → o ≡ None → AddsParts f g (defined_types (take i (globals_of g.nodes p xs))) → AddsParts g h (own_types h.nodes q o) →
     AddsParts f h (defined_types (take (i + 1) (globals_of h.nodes q xs)))
 none_adds f g h p q xs i o grows pool known none first second =
     let ys = globals_of g.nodes p xs in
@@ -121,7 +122,7 @@ none_adds f g h p q xs i o grows pool known none first second =
     (among_wider f h (defined_types (take i ys) ++ []) (defined_types (take (suc i) ys)) (λ s a. next_among s ys i (subst (Among s) (append-nil (defined_types (take i ys))) a))
     (adds_twice f g h (defined_types (take i ys)) [] grows first (subst (λ (v : Option (SeenBody × ℕ)). AddsParts g h (own_types h.nodes q v)) none second))))
 
-pub some_adds : (f g h : Graph) (p q : List (List ℕ)) (xs zs : List SeenGlobal) (i : ℕ) (y : SeenGlobal) (b : SeenBody) (m : ℕ) (o : Option (SeenBody × ℕ)) → i < length xs → Grows g h → PoolGrows p q → GlobalsKnown g p xs → o ≡ Some (b, m) → zs ≡ set xs i (record (get_or xs i y) { def = def.Body b }) →
+pub some_adds : (f g h : Graph) (p q : List (List ℕ)) (xs zs : List SeenGlobal) (i : ℕ) (y : SeenGlobal) (b : SeenBody) (m : ℕ) (o : Option (SeenBody × ℕ)) → i < length xs → Grows g h → KeepsNames p q → GlobalsKnown g p xs → o ≡ Some (b, m) → zs ≡ set xs i (record (get_or xs i y) { def = def.Body b }) →
     AddsParts f g (defined_types (take i (globals_of g.nodes p xs))) → AddsParts g h (own_types h.nodes q o) → AddsParts f h (defined_types (take (i + 1) (globals_of h.nodes q zs)))
 some_adds f g h p q xs zs i y b m o less grows pool known some is first second =
     let ys = globals_of g.nodes p xs in

@@ -23,7 +23,8 @@ use Rattle.cil_text.specs.TypesOf.{parts, Among, AddsParts, type_of_member, type
 use Rattle.cil_text.proofs.PartsAdded.{among_first, among_last, among_either, adds_none, adds_twice}
 use Rattle.cil_reader.specs.declared.names.Names.{Names}
 use Rattle.cil_reader.specs.Settings.{Setting}
-use Rattle.cil_reader.specs.Members.{may_hold, KeepsNames, members_in, MembersKnown, type_number, FieldsKnown, enumerators_from}
+use Rattle.cil_reader.specs.Pools.{KeepsNames}
+use Rattle.cil_reader.specs.Members.{may_hold, members_in, MembersKnown, type_number, FieldsKnown, enumerators_from}
 use Rattle.cil_reader.specs.Aggregates.{program_with, aggregates_in, Holds, AddsTag, completed, tag_back, AreOpen, tag_at, types_at, FieldsAdded, MembersAdded, AggregatesAdded}
 use Rattle.cil_reader.proofs.AddedLaws.{adds_among}
 use Rattle.cil_reader.proofs.MemberLaws.{both_true}

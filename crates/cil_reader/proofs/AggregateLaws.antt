@@ -44,10 +44,12 @@ use Rattle.cil_reader.specs.declared.names.Names.{Names}
 use Rattle.cil_reader.specs.declared.names.Known.{Known}
 use Rattle.cil_reader.specs.Settings.{Setting, KnownIn, zipped, locals_of, env_of, env_in}
 use Rattle.cil_reader.specs.Fresh.{with_new}
-use Rattle.cil_reader.specs.Members.{AreThere, may_hold, may_complete, KeepsNames, member_in, members_in, MembersKnown, type_number, FieldsKnown, enumerator_with, members_behind, enumerators_from, members_apart, members_from}
+use Rattle.cil_reader.specs.Pools.{KeepsNames}
+use Rattle.cil_reader.specs.Members.{AreThere, may_hold, may_complete, member_in, members_in, MembersKnown, type_number, FieldsKnown, enumerator_with, members_behind, enumerators_from, members_apart, members_from}
 use Rattle.cil_reader.specs.Aggregates.{program_with, aggregates_in, AggregatesKnown, Holds, IsBlank, AddsTag, completed, with_fields, is_number, enum_behind, one_enum, one_more, enum_if, next_enum, tags_apart, enums_from, enums_on, with_tag, tag_before, tag_if, next_tag, tags_behind, tags_from, tags_on, bit, tag_back, AreOpen, ArePlain, first_tag, tag_at, complete_behind, one_complete, own_if, own_members, one_struct, stands_behind, structs_behind, structs_after, tagged_structs}
 use Rattle.cil_reader.proofs.SettingsLaws.{setting_kept}
-use Rattle.cil_reader.proofs.MemberLaws.{locals_known, both_true, all_joined, different_without, different_more, different_front, new_some, new_none, keeps_twice, text_is}
+use Rattle.cil_reader.proofs.MemberLaws.{locals_known, both_true, all_joined, different_without, different_more, different_front, new_some, new_none, text_is}
+use Rattle.cil_reader.proofs.PoolLaws.{pool_twice}
 
 -- lists by place
 
@@ -104,7 +106,7 @@ pub aggregates_later : (g h : Graph) (names later : List (List ℕ)) → Aggrega
 aggregates_later g h names later k r same q = record {
   steady = λ i last p o.
       ap (map (seen_aggregate (program_with i last))) same.0
-      ∙ k.steady i last (grows_twice g h i r p) (keeps_twice names later last q o)
+      ∙ k.steady i last (grows_twice g h i r p) (pool_twice names later last q o)
       ∙ sym (seen_later g h names later k r same q);
 }
 
@@ -191,7 +193,7 @@ tag_steady g h names later kind tag k q a = record {
   steady = λ i last r p.
       ap (λ (x : Graph). map (seen_aggregate (program_with i last)) x.aggs) a.is
       ∙ map-append (seen_aggregate (program_with i last)) g.aggs (bare kind a.name ∷ [])
-      ∙ ap (λ xs. xs ++ seen_aggregate (program_with i last) (bare kind a.name) ∷ []) (k.steady i last (grows_twice g h i (grows_agg g h (bare kind a.name) a.is) r) (keeps_twice names later last q p))
+      ∙ ap (λ xs. xs ++ seen_aggregate (program_with i last) (bare kind a.name) ∷ []) (k.steady i last (grows_twice g h i (grows_agg g h (bare kind a.name) a.is) r) (pool_twice names later last q p))
       ∙ ap (λ x. aggregates_in g names ++ x ∷ []) (bare_seen i last kind tag a.name (p.at a.name.0 tag a.text))
       ∙ sym (tag_seen g h names later kind tag k q a);
 }
@@ -447,7 +449,7 @@ core_holds r t names a ms ls h o m e grown env same =
 -- structs and unions
 
 members_later : (g h : Graph) (names later : List (List ℕ)) (ms : List Member) → Grows g h → KeepsNames names later → MembersKnown g names ms → MembersKnown h later ms
-members_later g h names later ms r q k = record { steady = λ i last p o. k.steady i last (grows_twice g h i r p) (keeps_twice names later last q o) ∙ sym (k.steady h later r q); plain = k.plain }
+members_later g h names later ms r q k = record { steady = λ i last p o. k.steady i last (grows_twice g h i r p) (pool_twice names later last q o) ∙ sym (k.steady h later r q); plain = k.plain }
 
 zipped_fields : (nodes : List Node) (names : List (List ℕ)) (ms : List Member) → zipped nodes (map member_name_of (members_in nodes names ms)) (map type_number ms) ≡ map seen_field (members_in nodes names ms)
 unfolding members_in

@@ -1,11 +1,9 @@
 -- Device: steps of the reading of functions with bodies.
 use Rattle.std.proofs.Common.{◌≡◌, ℕ, zero, suc, ◌+◌, ◌-◌, ◌<◌, ◌≤◌, min, Bool, true, false, not, ◌&&◌, ◌||◌, cond, List, [], ◌∷◌, ◌++◌, length, take, drop, map, get_or, slice_get, Vec, Bor, Option, Some, None, refl, sym, ap, ◌∙◌, subst, append_assoc, append-nil, arith, lt-ltb}
 use Rattle.std.specs.Str.{bytes_eq}
-use Rattle.std.specs.List.{list_any}
 use Rattle.std.specs.Global.{Global}
 use Rattle.std.proofs.Math.Nat.{min-le_left, min-le_right}
 use Rattle.std.proofs.lemmas.List.{take_all, take_rest}
-use Rattle.std.proofs.lemmas.Option.{get_or_from_slice_get}
 use Rattle.std.proofs.lemmas.Slice.Eq.{bytes_eq-Decides}
 use Rattle.cil_base.specs.declared.numbers.NameId.{NameId}
 use Rattle.cil_base.specs.declared.numbers.TypeId.{TypeId}
@@ -15,7 +13,6 @@ use Rattle.type_graph.specs.declared.nodes.Node.{Node}
 use Rattle.type_graph.specs.Shapes.{Shape, Shapes, NoTypes, MoreTypes, shape, shapes_of}
 use Rattle.type_graph.specs.Arena.{Graph, EachType}
 use Rattle.type_graph.specs.Growth.{Grows}
-use Rattle.type_graph.proofs.Lists.{get_stays}
 use Rattle.type_graph.proofs.ShapeLaws.{kept}
 use Rattle.type_graph.proofs.GrowthLaws.{grows_twice}
 use Rattle.cil_tree.specs.declared.globals.Local.{Local as SeenLocal}
@@ -32,11 +29,13 @@ use Rattle.cil_reader.specs.declared.bodies.Locals.{Locals}
 use Rattle.cil_reader.specs.Said.{said, all_said, all_lines}
 use Rattle.cil_reader.specs.Settings.{zipped, locals_of}
 use Rattle.cil_reader.specs.Fresh.{with_new}
-use Rattle.cil_reader.specs.Globals.{PoolGrows, behind_line}
+use Rattle.cil_reader.specs.Pools.{KeepsNames}
+use Rattle.cil_reader.specs.Globals.{behind_line}
 use Rattle.cil_reader.specs.Bodies.{texts_of, TextsKnown, names_from, is_tag_word, tag_behind, name_in, names_here, next_names, still_open, closes, lines_before, named_local, apart, local_behind, LocalsKnown}
 use Rattle.cil_reader.proofs.LayersLaws.{no_fewer}
 use Rattle.cil_reader.proofs.MemberLaws.{each_there, types_later}
 use Rattle.cil_reader.proofs.SettingsLaws.{zipped_kept}
+use Rattle.cil_reader.proofs.PoolLaws.{pool_twice, pool_asked, text_stays}
 
 -- lists
 
@@ -201,27 +200,6 @@ all_behind xs n h = take_rest xs (length xs) ∙ past xs (length xs) (omega arit
 pub some_behind : {A : Type 0} (xs : List A) (n : ℕ) → take (length xs - n) (drop n xs) ≡ drop n xs
 some_behind xs n = take_rest xs n
 
--- pools
-
-pub pool_same : (p : List (List ℕ)) → PoolGrows p p
-pool_same p = record { more = []; is = sym (append-nil p) }
-
-pub pool_by : (p q : List (List ℕ)) → q ≡ p → PoolGrows p q
-pool_by p q e = record { more = []; is = e ∙ sym (append-nil p) }
-
-pub pool_twice : (p q r : List (List ℕ)) → PoolGrows p q → PoolGrows q r → PoolGrows p r
-pool_twice p q r a b = record { more = a.more ++ b.more; is = b.is ∙ ap (λ xs. xs ++ b.more) a.is ∙ append_assoc p a.more b.more }
-
-pub pool_asked : (p q : List (List ℕ)) (text : List ℕ) (n : ℕ) → Interns p q text n → PoolGrows p q
-pool_asked p q text n i = by (list_any (bytes_eq text) p) i.after
-  where
-    by : (b : Bool) → q ≡ cond b p (p ++ text ∷ []) → PoolGrows p q
-    by true e = pool_by p q e
-    by false e = record { more = text ∷ []; is = e }
-
-text_stays : (p q : List (List ℕ)) (n : NameId) (text : List ℕ) → slice_get p n.0 ≡ Some text → PoolGrows p q → text_at q n ≡ text
-text_stays p q n text e g = get_or_from_slice_get q n.0 text [] (ap (λ (xs : List (List ℕ)). slice_get xs n.0) g.is ∙ get_stays p g.more n.0 text e)
-
 -- texts with numbers
 
 pub no_texts : (pool : List (List ℕ)) → TextsKnown pool [] []
@@ -239,7 +217,7 @@ texts_asked p q names texts text n k i = record {
       ∙ ap (λ y. texts ++ y ∷ []) (text_stays q later n text i.number g);
 }
 
-pub texts_later : (p q : List (List ℕ)) (names : List NameId) (texts : List (List ℕ)) → TextsKnown p names texts → PoolGrows p q → TextsKnown q names texts
+pub texts_later : (p q : List (List ℕ)) (names : List NameId) (texts : List (List ℕ)) → TextsKnown p names texts → KeepsNames p q → TextsKnown q names texts
 texts_later p q names texts k g = record { steady = λ later h. k.steady later (pool_twice p q later g h) }
 
 -- names that differ
@@ -351,7 +329,7 @@ seen_more nodes pool (y ∷ xs) x = ap (λ ys. local_of nodes pool y ∷ ys) (se
 type_there : (nodes : List Node) (t : TypeId) → t.0 < length nodes → type_at nodes t ≡ Some (shape nodes t.0)
 type_there nodes t h = ap (λ b. cond b (Some (shape nodes t.0)) None) (lt-ltb t.0 (length nodes) h)
 
-local_seen : (g h : Graph) (q later : List (List ℕ)) (text : List ℕ) (n : NameId) (t : TypeId) → Grows g h → PoolGrows q later → slice_get q n.0 ≡ Some text → t.0 < length g.nodes → local_of h.nodes later (record { name = n; ty = t }) ≡ named_local text (shape g.nodes t.0)
+local_seen : (g h : Graph) (q later : List (List ℕ)) (text : List ℕ) (n : NameId) (t : TypeId) → Grows g h → KeepsNames q later → slice_get q n.0 ≡ Some text → t.0 < length g.nodes → local_of h.nodes later (record { name = n; ty = t }) ≡ named_local text (shape g.nodes t.0)
 local_seen g h q later text n t r p e less =
     ap (λ (x : List ℕ). record { name = x; type = type_at h.nodes t }) (text_stays q later n text e p)
     ∙ ap (λ (s : Option Shape). record { name = text; type = s }) (type_there h.nodes t (omega (arith, less, no_fewer g h r)) ∙ ap Some (kept g h t.0 r less))
@@ -377,7 +355,7 @@ no_locals g p x ns ts ls = record {
 pub locals_same : (g h : Graph) (p : List (List ℕ)) (x : Locals) → Grows g h → LocalsKnown g p x → locals_of h.nodes x.names ≡ locals_of g.nodes x.names
 locals_same g h p x r k = zipped_kept g h x.names.numbering x.names.types.items r k.each
 
-pub locals_later : (g h : Graph) (p q : List (List ℕ)) (x : Locals) → Grows g h → PoolGrows p q → LocalsKnown g p x → LocalsKnown h q x
+pub locals_later : (g h : Graph) (p q : List (List ℕ)) (x : Locals) → Grows g h → KeepsNames p q → LocalsKnown g p x → LocalsKnown h q x
 locals_later g h p q x r l k = record {
   each = types_later g h x.names.types.items r k.each;
   steady = λ i later s m. k.steady i later (grows_twice g h i r s) (pool_twice p q later l m) ∙ sym (locals_same g h p x r k);

@@ -42,11 +42,13 @@ use Rattle.cil_reader.specs.Fresh.{with_new}
 use Rattle.cil_reader.specs.Instructions.{is_end}
 use Rattle.cil_reader.specs.Heads.{heads_of, HeadsKnown}
 use Rattle.cil_reader.specs.Nesting.{waiting, StmtsKnown, Carries}
-use Rattle.cil_reader.specs.Globals.{EachDeclared, PoolGrows, behind_line, declaration_of, declarations_of, globals_of, GlobalsKnown}
+use Rattle.cil_reader.specs.Pools.{KeepsNames}
+use Rattle.cil_reader.specs.Globals.{EachDeclared, behind_line, declaration_of, declarations_of, globals_of, GlobalsKnown}
 use Rattle.cil_reader.specs.Bodies.{texts_of, TextsKnown, next_names, named_local, apart, first_apart, local_behind, locals_behind, label_behind, LocalsKnown, whole_stmts, body_made, BodyKnown, Own, with_lines, own_body, with_body, with_bodies, bodies_from, bodied}
-use Rattle.cil_reader.proofs.BodyLaws.{one_more, dropped, past, lines_at, texts_more, taken, pool_same, pool_twice, texts_asked, different_more, not_different, text_cases, text_among, behind_cases, named_more, apart_more, not_apart}
+use Rattle.cil_reader.proofs.BodyLaws.{one_more, dropped, past, lines_at, texts_more, taken, texts_asked, different_more, not_different, text_cases, text_among, behind_cases, named_more, apart_more, not_apart}
 use Rattle.cil_reader.proofs.CarryLaws.{turned_known}
 use Rattle.cil_reader.proofs.GlobalLaws.{declared_there}
+use Rattle.cil_reader.proofs.PoolLaws.{pool_same, pool_twice}
 
 -- a line with a local
 
@@ -236,7 +238,7 @@ pub texts_end : (p : List (List ℕ)) (names : List NameId) (xs : List (Bor (Lis
 texts_end p names xs i end k = subst (λ ys. TextsKnown p names (texts_of ys)) (take_all i xs end) k
 
 pub texts_given : (p : List (List ℕ)) (names : List NameId) (ts : List (List ℕ)) → TextsKnown p names ts → Some ts ≡ Some (map (text_at p) names)
-texts_given p names ts k = ap Some (sym (k.steady p (record { more = []; is = sym (append-nil p) })))
+texts_given p names ts k = ap Some (sym (k.steady p (pool_same p)))
 
 -- statements
 
@@ -414,7 +416,7 @@ body_params_fail env n type params lines p =
 
 -- a body that is seen as one tree
 
-pub body_seen : (e g : Graph) (p q : List (List ℕ)) (b : SeenBody) (x : Locals) (params labels : List (List ℕ)) (ls : List Local) (ss : Stmts) → Grows e g → PoolGrows p q →
+pub body_seen : (e g : Graph) (p q : List (List ℕ)) (b : SeenBody) (x : Locals) (params labels : List (List ℕ)) (ls : List Local) (ss : Stmts) → Grows e g → KeepsNames p q →
     LocalsKnown e p x → b.locals ≡ x.all → ls ≡ locals_of e.nodes x.names → TextsKnown q b.params.items params → TextsKnown q b.labels.items labels → ss ≡ stmts_of g.nodes b.stmts.items →
     Some (body_made params ls labels ss) ≡ Some (body_of g.nodes q b)
 body_seen e g p q b x params labels ls ss r l known same seen ps ts is =
@@ -423,7 +425,7 @@ body_seen e g p q b x params labels ls ss r l known same seen ps ts is =
     ∙ ap (λ (zs : List (List ℕ)). Some (body_made (map (text_at q) b.params.items) (map (local_of g.nodes q) b.locals.items) zs ss)) (sym (ts.steady q (pool_same q)))
     ∙ ap (λ (zs : Stmts). Some (body_made (map (text_at q) b.params.items) (map (local_of g.nodes q) b.locals.items) (map (text_at q) b.labels.items) zs)) is
 
-pub body_known : (e g : Graph) (p q : List (List ℕ)) (b : SeenBody) (x : Locals) (params labels : List (List ℕ)) → Grows e g → PoolGrows p q →
+pub body_known : (e g : Graph) (p q : List (List ℕ)) (b : SeenBody) (x : Locals) (params labels : List (List ℕ)) → Grows e g → KeepsNames p q →
     LocalsKnown e p x → b.locals ≡ x.all → TextsKnown q b.params.items params → TextsKnown q b.labels.items labels → StmtsKnown g b.stmts.items → BodyKnown g q b
 body_known e g p q b x params labels r l known same ps ts ss = record {
   steady = λ h later s m.
@@ -577,10 +579,10 @@ bodies_end env n nodes ds i xs lines whole h inv =
 
 -- globals while bodies are read
 
-pub globals_later : (g h : Graph) (p q : List (List ℕ)) (xs : List SeenGlobal) → Grows g h → PoolGrows p q → GlobalsKnown g p xs → GlobalsKnown h q xs
+pub globals_later : (g h : Graph) (p q : List (List ℕ)) (xs : List SeenGlobal) → Grows g h → KeepsNames p q → GlobalsKnown g p xs → GlobalsKnown h q xs
 globals_later g h p q xs r l k = record { steady = λ i later s m. k.steady i later (grows_twice g h i r s) (pool_twice p q later l m) ∙ sym (k.steady h q r l) }
 
-pub globals_same : (g h : Graph) (p q : List (List ℕ)) (xs : List SeenGlobal) → Grows g h → PoolGrows p q → GlobalsKnown g p xs → globals_of h.nodes q xs ≡ globals_of g.nodes p xs
+pub globals_same : (g h : Graph) (p q : List (List ℕ)) (xs : List SeenGlobal) → Grows g h → KeepsNames p q → GlobalsKnown g p xs → globals_of h.nodes q xs ≡ globals_of g.nodes p xs
 globals_same g h p q xs r l k = k.steady h q r l
 
 abbrev pub bodied_global : SeenGlobal → SeenBody → SeenGlobal
@@ -623,7 +625,7 @@ fails_by WantOfMemory o p f e = tt
 -- one declaration more in the loop
 
 pub none_step : (e g h : Graph) (p q : List (List ℕ)) (env : Env) (n : ℕ) (ds : List SeenDeclaration) (i : ℕ) (d : SeenDeclaration) (xs : List SeenGlobal) (lines : Lines) (header : List (List ℕ)) (whole : Option (List GlobalDecl × Lines)) → i < length ds → length xs ≡ length ds →
-    Grows e g → (get_or ds i d).ty.0 < length e.nodes → Grows g h → PoolGrows p q → GlobalsKnown g p xs → header ≡ next_names lines → own_body env n (declaration_of g.nodes (get_or ds i d)) header lines ≡ Some None →
+    Grows e g → (get_or ds i d).ty.0 < length e.nodes → Grows g h → KeepsNames p q → GlobalsKnown g p xs → header ≡ next_names lines → own_body env n (declaration_of g.nodes (get_or ds i d)) header lines ≡ Some None →
     option_map (bodied i (globals_of g.nodes p xs)) (read_bodies env n (declarations_of e.nodes (drop i ds)) lines) ≡ whole →
     option_map (bodied (i + 1) (globals_of h.nodes q xs)) (read_bodies env n (declarations_of e.nodes (drop (i + 1) ds)) lines) ≡ whole
 none_step e g h p q env n ds i d xs lines header whole less size r there s l k names own inv =
@@ -632,7 +634,7 @@ none_step e g h p q env n ds i d xs lines header whole less size r there s l k n
     (ap (λ (x : Declaration). own_body env n x header lines) (sym (declared_same e g (get_or ds i d) r there)) ∙ own) inv
 
 pub some_step : (e g h : Graph) (p q : List (List ℕ)) (env : Env) (n : ℕ) (ds : List SeenDeclaration) (i : ℕ) (d : SeenDeclaration) (xs zs : List SeenGlobal) (y : SeenGlobal) (b : SeenBody) (lines behind : Lines) (header : List (List ℕ)) (whole : Option (List GlobalDecl × Lines)) → i < length ds → length xs ≡ length ds →
-    Grows e g → (get_or ds i d).ty.0 < length e.nodes → Grows g h → PoolGrows p q → GlobalsKnown g p xs → header ≡ next_names lines → own_body env n (declaration_of g.nodes (get_or ds i d)) header lines ≡ Some (Some (body_of h.nodes q b, behind)) →
+    Grows e g → (get_or ds i d).ty.0 < length e.nodes → Grows g h → KeepsNames p q → GlobalsKnown g p xs → header ≡ next_names lines → own_body env n (declaration_of g.nodes (get_or ds i d)) header lines ≡ Some (Some (body_of h.nodes q b, behind)) →
     zs ≡ set xs i (bodied_global (get_or xs i y) b) → option_map (bodied i (globals_of g.nodes p xs)) (read_bodies env n (declarations_of e.nodes (drop i ds)) lines) ≡ whole →
     option_map (bodied (i + 1) (globals_of h.nodes q zs)) (read_bodies env n (declarations_of e.nodes (drop (i + 1) ds)) behind) ≡ whole
 some_step e g h p q env n ds i d xs zs y b lines behind header whole less size r there s l k names own is inv =
@@ -644,7 +646,7 @@ some_step e g h p q env n ds i d xs zs y b lines behind header whole less size r
     ∙ bodies_some env n e.nodes ds i d (globals_of g.nodes p xs) z lines behind (body_of h.nodes q b) header whole less (omega (arith, less, size, length-map xs (global_of g.nodes p))) names
     (ap (λ (x : Declaration). own_body env n x header lines) (sym (declared_same e g (get_or ds i d) r there)) ∙ own) inv
 
-pub some_known : (g h : Graph) (p q : List (List ℕ)) (xs zs : List SeenGlobal) (i : ℕ) (y : SeenGlobal) (b : SeenBody) → Grows g h → PoolGrows p q → GlobalsKnown g p xs → BodyKnown h q b → zs ≡ set xs i (bodied_global (get_or xs i y) b) → GlobalsKnown h q zs
+pub some_known : (g h : Graph) (p q : List (List ℕ)) (xs zs : List SeenGlobal) (i : ℕ) (y : SeenGlobal) (b : SeenBody) → Grows g h → KeepsNames p q → GlobalsKnown g p xs → BodyKnown h q b → zs ≡ set xs i (bodied_global (get_or xs i y) b) → GlobalsKnown h q zs
 some_known g h p q xs zs i y b r l k c is = subst (GlobalsKnown h q) (sym is) (set_known h q xs i y b (globals_later g h p q xs r l k) c)
 
 pub fail_step : (e g : Graph) (env : Env) (n : ℕ) (ds : List SeenDeclaration) (i : ℕ) (d : SeenDeclaration) (xs : List GlobalDecl) (lines : Lines) (header : List (List ℕ)) (whole : Option (List GlobalDecl × Lines)) → i < length ds →
@@ -656,7 +658,7 @@ fail_step e g env n ds i d xs lines header whole less r there names own inv =
 -- the same with what the code has at hand
 
 pub none_all : (e g h : Graph) (p q : List (List ℕ)) (env now : Env) (n : ℕ) (ds : List SeenDeclaration) (i : ℕ) (d : SeenDeclaration) (xs : List SeenGlobal) (lines : Lines) (header : List (List ℕ)) (whole : Option (List GlobalDecl × Lines)) (f : SeenBody × ℕ → Body × Lines) (o : Option (SeenBody × ℕ)) →
-    i < length ds → length xs ≡ length ds → Grows e g → EachDeclared (length e.nodes) ds → Grows g h → PoolGrows p q → GlobalsKnown g p xs → header ≡ next_names lines → now ≡ env → o ≡ None →
+    i < length ds → length xs ≡ length ds → Grows e g → EachDeclared (length e.nodes) ds → Grows g h → KeepsNames p q → GlobalsKnown g p xs → header ≡ next_names lines → now ≡ env → o ≡ None →
     own_body now n (declaration_of g.nodes (get_or ds i d)) header lines ≡ Some (option_map f o) → option_map (bodied i (globals_of g.nodes p xs)) (read_bodies env n (declarations_of e.nodes (drop i ds)) lines) ≡ whole →
     option_map (bodied (i + 1) (globals_of h.nodes q xs)) (read_bodies env n (declarations_of e.nodes (drop (i + 1) ds)) lines) ≡ whole
 none_all e g h p q env now n ds i d xs lines header whole f o less size r each s l k names same none own inv =
@@ -664,7 +666,7 @@ none_all e g h p q env now n ds i d xs lines header whole f o less size r each s
     (ap (λ (v : Env). own_body v n (declaration_of g.nodes (get_or ds i d)) header lines) (sym same) ∙ own ∙ ap (λ (v : Option (SeenBody × ℕ)). Some (option_map f v)) none) inv
 
 pub some_all : (e g h : Graph) (p q : List (List ℕ)) (env now : Env) (n : ℕ) (ds : List SeenDeclaration) (i : ℕ) (d : SeenDeclaration) (xs zs : List SeenGlobal) (y : SeenGlobal) (b : SeenBody) (m : ℕ) (lines behind : Lines) (header : List (List ℕ)) (whole : Option (List GlobalDecl × Lines)) (at : ℕ → Lines) (o : Option (SeenBody × ℕ)) →
-    i < length ds → length xs ≡ length ds → Grows e g → EachDeclared (length e.nodes) ds → Grows g h → PoolGrows p q → GlobalsKnown g p xs → header ≡ next_names lines → now ≡ env → o ≡ Some (b, m) →
+    i < length ds → length xs ≡ length ds → Grows e g → EachDeclared (length e.nodes) ds → Grows g h → KeepsNames p q → GlobalsKnown g p xs → header ≡ next_names lines → now ≡ env → o ≡ Some (b, m) →
     own_body now n (declaration_of g.nodes (get_or ds i d)) header lines ≡ Some (option_map (λ (x : SeenBody × ℕ). (body_of h.nodes q x.0, at x.1)) o) → zs ≡ set xs i (bodied_global (get_or xs i y) b) → behind ≡ at m →
     option_map (bodied i (globals_of g.nodes p xs)) (read_bodies env n (declarations_of e.nodes (drop i ds)) lines) ≡ whole →
     option_map (bodied (i + 1) (globals_of h.nodes q zs)) (read_bodies env n (declarations_of e.nodes (drop (i + 1) ds)) behind) ≡ whole

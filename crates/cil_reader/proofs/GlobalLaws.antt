@@ -1,5 +1,5 @@
 -- Device: steps of the reading of globals.
-use Rattle.std.proofs.Common.{◌≡◌, ℕ, zero, suc, ◌+◌, ◌-◌, ◌<◌, ◌≤◌, Bool, true, false, not, ◌&&◌, ◌||◌, true≢false, if◌then◌else◌, cond, List, [], ◌∷◌, ◌++◌, length, length-drop, take, drop, map, get_or, slice_get, slice_index_or, Option, Some, None, refl, sym, ap, ◌∙◌, subst, append_assoc, append-nil, arith, lt-ltb, Vec, Result, Ok, Err, IfOk}
+use Rattle.std.proofs.Common.{◌≡◌, ℕ, zero, suc, ◌+◌, ◌-◌, ◌<◌, ◌≤◌, Bool, true, false, not, ◌&&◌, ◌||◌, true≢false, if◌then◌else◌, cond, List, [], ◌∷◌, ◌++◌, length, length-drop, take, drop, map, get_or, Option, Some, None, refl, sym, ap, ◌∙◌, subst, append_assoc, append-nil, arith, lt-ltb, Vec, Result, Ok, Err, IfOk}
 use Rattle.std.specs.Option.{option_map, option_and_then}
 use Rattle.std.specs.Str.{bytes_eq}
 use Rattle.std.specs.List.{list_any}
@@ -7,9 +7,7 @@ use Rattle.std.specs.Global.{Global}
 use Rattle.std.proofs.lemmas.List.{take_all}
 use Rattle.std.proofs.lemmas.List.Folds.{list_any-append}
 use Rattle.std.proofs.lemmas.Slice.Eq.{bytes_eq-Decides}
-use Rattle.cil_base.specs.declared.numbers.NameId.{NameId}
 use Rattle.cil_base.specs.declared.numbers.TypeId.{TypeId}
-use Rattle.cil_base.specs.NamePool.{Interns}
 use Rattle.type_graph.specs.declared.nodes.Node.{Node}
 use Rattle.type_graph.specs.Shapes.{Shape, shape}
 use Rattle.type_graph.specs.Arena.{Graph}
@@ -23,7 +21,7 @@ use Rattle.cil_tree.specs.declared.globals.ImageItem.{ImageItem}
 use Rattle.cil_tree.specs.Tree.{Local, Item, Definition, Declared, Zeros, Image, GlobalDecl}
 use Rattle.cil_tree.specs.Typing.{same_shape, is_function}
 use Rattle.cil_tree.specs.Names.{is_among, are_different, local_name_of}
-use Rattle.cil_tree.specs.View.{text_at, type_at, definition_of, global_of}
+use Rattle.cil_tree.specs.View.{type_at, definition_of, global_of}
 use Rattle.cil_text.specs.TypesOf.{AddsParts}
 use Rattle.cil_text.proofs.PartsAdded.{adds_none, adds_twice}
 use Rattle.cil_text.specs.Words.{Word, Semicolon, ExternWord, StaticWord}
@@ -40,12 +38,14 @@ use Rattle.cil_reader.specs.declared.stop.Stop.TheVariants.{NotCil, WantOfMemory
 use Rattle.cil_reader.specs.Gives.{Gives, Fails}
 use Rattle.cil_reader.specs.Settings.{zipped, locals_of}
 use Rattle.cil_reader.specs.Instructions.{is_end}
-use Rattle.cil_reader.specs.Globals.{EachDeclared, declaration_of, declarations_of, types_declared, declaration_behind, declarations_behind, named_apart, next_definition, behind_line, global_with, defined_line, global_from, one_global, globals_with, globals_behind, PoolGrows, DefinitionFlat, IsGlobal, GlobalKnown, globals_of, GlobalsKnown, WaitingKnown, names_on, objects_left}
+use Rattle.cil_reader.specs.Pools.{KeepsNames}
+use Rattle.cil_reader.specs.Globals.{EachDeclared, declaration_of, declarations_of, types_declared, declaration_behind, declarations_behind, named_apart, next_definition, behind_line, global_with, defined_line, global_from, one_global, globals_with, globals_behind, DefinitionFlat, IsGlobal, GlobalKnown, globals_of, GlobalsKnown, WaitingKnown, names_on, objects_left}
 use Rattle.cil_reader.specs.Fresh.{with_new}
 use Rattle.cil_reader.specs.LineKinds.{storage, next_name}
 use Rattle.cil_reader.specs.declared.globals.Waiting.{Waiting}
 use denote.Ref.{Bor}
 use Rattle.cil_reader.proofs.LayersLaws.{no_fewer}
+use Rattle.cil_reader.proofs.PoolLaws.{pool_same, pool_twice}
 use Rattle.cil_reader.specs.Typed.{typed_as, typed}
 
 or_true : (b : Bool) → b || true ≡ true
@@ -486,35 +486,12 @@ default_external d e = sym (ap (λ b. cond (is_function d.type) Declared (cond b
 pub default_internal : (d : Declaration) → is_function d.type ≡ false → d.internal ≡ true → Zeros ≡ default_of d
 default_internal d e f = sym (ap (λ b. cond b Declared (cond d.internal Zeros Declared)) e ∙ ap (λ b. cond b Zeros Declared) f)
 
--- pools
-
-pub pool_same : (p : List (List ℕ)) → PoolGrows p p
-pool_same p = record { more = []; is = sym (append-nil p) }
-
-pub pool_twice : (p q r : List (List ℕ)) → PoolGrows p q → PoolGrows q r → PoolGrows p r
-pool_twice p q r a b = record { more = a.more ++ b.more; is = b.is ∙ ap (λ xs. xs ++ b.more) a.is ∙ append_assoc p a.more b.more }
-
-pub pool_interned : (p q : List (List ℕ)) (text : List ℕ) (n : ℕ) → Interns p q text n → PoolGrows p q
-pool_interned p q text n is = by (list_any (bytes_eq text) p) is.after
-  where
-    by : (b : Bool) → q ≡ cond b p (p ++ text ∷ []) → PoolGrows p q
-    by true e = record { more = []; is = e ∙ sym (append-nil p) }
-    by false e = record { more = text ∷ []; is = e }
-
-text_there : (p more : List (List ℕ)) (n : ℕ) (text : List ℕ) → slice_get p n ≡ Some text → slice_index_or (p ++ more) n [] ≡ text
-text_there [] more n text e = absurd (cc e)
-text_there (x ∷ p) more zero text e = let same : x ≡ text = cc in same
-text_there (x ∷ p) more (suc n) text e = text_there p more n text e
-
-pub name_known : (p q : List (List ℕ)) (text : List ℕ) (n : NameId) → Interns p q text n.0 → (later : List (List ℕ)) → PoolGrows q later → text_at later n ≡ text
-name_known p q text n is later grows = ap (λ ts. text_at ts n) grows.is ∙ text_there q grows.more n.0 text is.number
-
 -- globals
 
 type_there : (nodes : List Node) (t : TypeId) → t.0 < length nodes → type_at nodes t ≡ Some (shape nodes t.0)
 type_there nodes t less = ap (λ v. cond v (Some (shape nodes t.0)) None) (lt-ltb t.0 (length nodes) less)
 
-global_at : (g h : Graph) (p later : List (List ℕ)) (d : SeenDeclaration) (x : GlobalDef) (y : SeenGlobal) → IsGlobal p d x y → DefinitionFlat x → d.ty.0 < length g.nodes → Grows g h → PoolGrows p later →
+global_at : (g h : Graph) (p later : List (List ℕ)) (d : SeenDeclaration) (x : GlobalDef) (y : SeenGlobal) → IsGlobal p d x y → DefinitionFlat x → d.ty.0 < length g.nodes → Grows g h → KeepsNames p later →
     global_of h.nodes later y ≡ global_with (declaration_of g.nodes d) (definition_of [] [] x)
 global_at g h p later d x y is flat less r q =
     let low : d.ty.0 < length h.nodes = omega (arith, less, no_fewer g h r) in
@@ -580,7 +557,7 @@ globals_more : (nodes : List Node) (p : List (List ℕ)) (xs : List SeenGlobal) 
 globals_more nodes p [] x = refl
 globals_more nodes p (y ∷ xs) x = ap (λ zs. global_of nodes p y ∷ zs) (globals_more nodes p xs x)
 
-pub globals_pushed : (g h : Graph) (p q : List (List ℕ)) (xs : List SeenGlobal) (x : SeenGlobal) → GlobalsKnown g p xs → Grows g h → PoolGrows p q → GlobalKnown h q x → GlobalsKnown h q (xs ++ x ∷ [])
+pub globals_pushed : (g h : Graph) (p q : List (List ℕ)) (xs : List SeenGlobal) (x : SeenGlobal) → GlobalsKnown g p xs → Grows g h → KeepsNames p q → GlobalKnown h q x → GlobalsKnown h q (xs ++ x ∷ [])
 globals_pushed g h p q xs x k r s e = record {
   steady = λ i later t u.
       globals_more i.nodes later xs x
@@ -589,7 +566,7 @@ globals_pushed g h p q xs x k r s e = record {
       ∙ sym (globals_more h.nodes q xs x);
 }
 
-pub globals_later : (g h : Graph) (p q : List (List ℕ)) (xs : List SeenGlobal) → GlobalsKnown g p xs → Grows g h → PoolGrows p q → GlobalsKnown h q xs
+pub globals_later : (g h : Graph) (p q : List (List ℕ)) (xs : List SeenGlobal) → GlobalsKnown g p xs → Grows g h → KeepsNames p q → GlobalsKnown h q xs
 globals_later g h p q xs k r s = record { steady = λ i later t u. k.steady i later (grows_twice g h i r t) (pool_twice p q later s u) ∙ sym (k.steady h q r s) }
 
 -- objects
@@ -631,7 +608,7 @@ objects_at f g env n ds i d lines less each r =
     ∙ ap (λ e. option_and_then (objects_on env n (declarations_of f.nodes (drop (i + 1) ds))) (one_global env n e lines)) (sym (declaration_kept f g (get_or ds i d) r (declared_there (length f.nodes) ds i d each less)))
 
 pub objects_next : (f g h : Graph) (p q : List (List ℕ)) (env now : Env) (n : ℕ) (ds : List SeenDeclaration) (xs : List SeenGlobal) (x : SeenGlobal) (i : ℕ) (d : SeenDeclaration) (lines behind : Lines) (whole : LinesReading (List GlobalDecl)) →
-    i < length ds → EachDeclared (length f.nodes) ds → Grows f g → Grows g h → GlobalsKnown g p xs → PoolGrows p q → now ≡ env → one_global now n (declaration_of g.nodes (get_or ds i d)) lines ≡ Some (global_of h.nodes q x, behind) →
+    i < length ds → EachDeclared (length f.nodes) ds → Grows f g → Grows g h → GlobalsKnown g p xs → KeepsNames p q → now ≡ env → one_global now n (declaration_of g.nodes (get_or ds i d)) lines ≡ Some (global_of h.nodes q x, behind) →
     option_map (globals_behind (globals_of g.nodes p xs)) (objects_left env n (declarations_of f.nodes (drop i ds)) lines) ≡ whole →
     option_map (globals_behind (globals_of h.nodes q (xs ++ x ∷ []))) (objects_left env n (declarations_of f.nodes (drop (i + 1) ds)) behind) ≡ whole
 objects_next f g h p q env now n ds xs x i d lines behind whole less each r s k u same told inv =

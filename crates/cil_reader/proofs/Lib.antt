@@ -22,6 +22,7 @@ mod AddedBodies
 mod ProgramLaws
 mod NeededLaws
 mod RefusalLaws
+mod PoolLaws
 mod MemberLaws
 mod AggregateLaws
 mod FilledLaws

@@ -13,7 +13,6 @@ use Rattle.cil_base.specs.declared.numbers.TypeId.{TypeId}
 use Rattle.cil_base.specs.Arithmetic.{fits}
 use Rattle.cil_base.specs.Integer.{least, greatest}
 use Rattle.cil_base.specs.NamePool.{Interns}
-use Rattle.cil_base.proofs.PoolLemmas.{Interns-stays}
 use Rattle.type_graph.specs.declared.aggregates.AggKind.{AggKind}
 use Rattle.type_graph.specs.declared.aggregates.Aggregate.{Aggregate}
 use Rattle.type_graph.specs.declared.aggregates.Member.{Member}
@@ -43,9 +42,11 @@ use Rattle.cil_reader.specs.declared.names.Known.{Known}
 use Rattle.cil_reader.specs.Settings.{EachNames, KnownIn, Setting, env_in}
 use Rattle.cil_reader.specs.Instructions.{is_end}
 use Rattle.cil_reader.specs.Fresh.{with_new}
-use Rattle.cil_reader.specs.Members.{AreThere, stands_here, may_hold, may_complete, KeepsNames, IsMember, member_in, members_in, is_plain, MembersKnown, type_number, FieldsKnown, is_comma, value_at, enumerator_with, member_with, with_member, enumerator_more, with_other, member_more, NextLine, line_of, next_line, members_behind, enumerators_from, enumerators_on, members_apart, members_from, members_on}
+use Rattle.cil_reader.specs.Pools.{KeepsNames}
+use Rattle.cil_reader.specs.Members.{AreThere, stands_here, may_hold, may_complete, IsMember, member_in, members_in, is_plain, MembersKnown, type_number, FieldsKnown, is_comma, value_at, enumerator_with, member_with, with_member, enumerator_more, with_other, member_more, NextLine, line_of, next_line, members_behind, enumerators_from, enumerators_on, members_apart, members_from, members_on}
 use Rattle.cil_reader.proofs.LayersLaws.{no_fewer, each_below}
 use Rattle.cil_reader.proofs.SettingsLaws.{known_kept}
+use Rattle.cil_reader.proofs.PoolLaws.{pool_same, pool_twice}
 
 pub member_at_place : (n : ℕ) (ms : List Member) (i : ℕ) (d : Member) → AreThere n ms → i < length ms → (get_or ms i d).ty.of.0 < n
 member_at_place n [] i d e h = absurd (omega arith)
@@ -250,20 +251,6 @@ new_none ts t e = by (is_among ts t) e
     by true h = refl
     by false h = absurd (cc h)
 
--- the pool
-
-pub keeps_none : (names : List (List ℕ)) → KeepsNames names names
-keeps_none names = record { at = λ n text e. e }
-
-pub keeps_same : (names later : List (List ℕ)) → later ≡ names → KeepsNames names later
-keeps_same names later e = subst (KeepsNames names) (sym e) (keeps_none names)
-
-pub keeps_twice : (names next later : List (List ℕ)) → KeepsNames names next → KeepsNames next later → KeepsNames names later
-keeps_twice names next later p q = record { at = λ n text e. q.at n text (p.at n text e) }
-
-pub keeps_interned : (old new : List (List ℕ)) (text : List ℕ) (n : ℕ) → Interns old new text n → KeepsNames old new
-keeps_interned old new text n h = record { at = λ i u e. Interns-stays old new text n i u h e }
-
 pub text_is : (names : List (List ℕ)) (i : ℕ) (text : List ℕ) → slice_get names i ≡ Some text → slice_index_or names i [] ≡ text
 text_is [] i text e = absurd (cc e)
 text_is (t ∷ names) zero text e = let same : t ≡ text = cc in same
@@ -310,7 +297,7 @@ pub members_more : (g : Graph) (names later : List (List ℕ)) (text : List ℕ)
 members_more g names later text of v ms m less k keeps is = record {
   steady = λ h last r q.
       all_more h.nodes last ms m
-      ∙ ap (λ xs. xs ++ member_in h.nodes last m ∷ []) (k.steady h last r (keeps_twice names later last keeps q) ∙ sym (k.steady g later (grows_none g) keeps))
+      ∙ ap (λ xs. xs ++ member_in h.nodes last m ∷ []) (k.steady h last r (pool_twice names later last keeps q) ∙ sym (k.steady g later (grows_none g) keeps))
       ∙ ap (λ x. members_in g.nodes later ms ++ x ∷ []) (member_kept g h later last text of v m less r q is)
       ∙ sym (all_more g.nodes later ms m);
   plain = all_joined is_plain ms m k.plain is.plain;
@@ -493,20 +480,20 @@ fields_more g names later ms x y text ty m less k keeps is e types = let new = n
 
 pub fields_later : (g h : Graph) (names : List (List ℕ)) (ms : List Member) (x : Names) → Grows g h → FieldsKnown g names ms x → FieldsKnown h names ms x
 fields_later g h names ms x e k = record {
-  members = record { steady = λ i last r q. k.members.steady i last (grows_twice g h i e r) q ∙ sym (k.members.steady h names e (keeps_none names)); plain = k.members.plain };
+  members = record { steady = λ i last r q. k.members.steady i last (grows_twice g h i e r) q ∙ sym (k.members.steady h names e (pool_same names)); plain = k.members.plain };
   there = there_later g h ms e k.there;
-  named = k.named ∙ ap (map member_name_of) (sym (k.members.steady h names e (keeps_none names)));
+  named = k.named ∙ ap (map member_name_of) (sym (k.members.steady h names e (pool_same names)));
   typed = k.typed;
   apart = k.apart;
 }
 
 pub more_gives : (g h : Graph) (names : List (List ℕ)) (ms : List Member) (x : Names) (tags : List (List ℕ)) (n : ℕ) (ws : List Word) (m : SeenMember) (ns : List SeenMember) → FieldsKnown g names ms x → Grows g h → read_member tags n ws ≡ Some m →
     with_other (members_in h.nodes names ms) m ≡ Some ns → member_more (read_member tags n) (members_in g.nodes names ms) ws ≡ Some ns
-more_gives g h names ms x tags n ws m ns k r e f = ap (option_and_then (with_other (members_in g.nodes names ms))) e ∙ ap (λ xs. with_other xs m) (sym (k.members.steady h names r (keeps_none names))) ∙ f
+more_gives g h names ms x tags n ws m ns k r e f = ap (option_and_then (with_other (members_in g.nodes names ms))) e ∙ ap (λ xs. with_other xs m) (sym (k.members.steady h names r (pool_same names))) ∙ f
 
 pub more_refused : (g h : Graph) (names : List (List ℕ)) (ms : List Member) (x : Names) (tags : List (List ℕ)) (n : ℕ) (ws : List Word) (m : SeenMember) → FieldsKnown g names ms x → Grows g h → read_member tags n ws ≡ Some m →
     with_other (members_in h.nodes names ms) m ≡ None → member_more (read_member tags n) (members_in g.nodes names ms) ws ≡ None
-more_refused g h names ms x tags n ws m k r e f = ap (option_and_then (with_other (members_in g.nodes names ms))) e ∙ ap (λ xs. with_other xs m) (sym (k.members.steady h names r (keeps_none names))) ∙ f
+more_refused g h names ms x tags n ws m k r e f = ap (option_and_then (with_other (members_in g.nodes names ms))) e ∙ ap (λ xs. with_other xs m) (sym (k.members.steady h names r (pool_same names))) ∙ f
 
 pub more_fails : (tags : List (List ℕ)) (n : ℕ) (ms : List SeenMember) (ws : List Word) → read_member tags n ws ≡ None → member_more (read_member tags n) ms ws ≡ None
 more_fails tags n ms ws e = ap (option_and_then (with_other ms)) e

@@ -1,11 +1,10 @@
 -- Device: steps of the reading of a whole text.
-use Rattle.std.proofs.Common.{◌≡◌, ◌≢◌, ℕ, suc, Bool, true, false, cond, List, [], ◌∷◌, length, map, slice_get, Option, Some, None, refl, sym, ap, ◌∙◌, arith, Vec}
+use Rattle.std.proofs.Common.{◌≡◌, ◌≢◌, ℕ, suc, Bool, true, false, cond, List, [], ◌∷◌, length, map, Option, Some, None, refl, sym, ap, ◌∙◌, arith, Vec}
 use Rattle.std.specs.Global.{Global}
 use Rattle.std.specs.Option.{option_map, option_and_then}
 use Rattle.type_graph.specs.Arena.{Graph}
 use Rattle.type_graph.specs.Growth.{Grows, KeepsAggregates}
 use Rattle.type_graph.specs.declared.aggregates.Aggregate.{Aggregate}
-use Rattle.type_graph.proofs.Lists.{get_stays}
 use Rattle.cil_tree.specs.Tree.{Local, Body, Definition, GlobalDecl}
 use Rattle.cil_tree.specs.Names.{are_different}
 use Rattle.cil_tree.specs.Programs.{SeenAggregate, seen_aggregate}
@@ -15,9 +14,9 @@ use Rattle.cil_text.specs.ReadGlobals.{Declaration, Definitions, Bodies, body_fi
 use Rattle.cil_reader.specs.declared.words.Word.{Word as SeenWord}
 use Rattle.cil_reader.specs.Said.{all_lines}
 use Rattle.cil_reader.specs.Settings.{Setting, with_globals, outside}
-use Rattle.cil_reader.specs.Members.{KeepsNames}
+use Rattle.cil_reader.specs.Pools.{KeepsNames}
 use Rattle.cil_reader.specs.Aggregates.{program_with, aggregates_in, AggregatesKnown, IsBlank}
-use Rattle.cil_reader.specs.Globals.{PoolGrows, named_apart, global_with, globals_from, globals_with}
+use Rattle.cil_reader.specs.Globals.{named_apart, global_with, globals_from, globals_with}
 use Rattle.cil_reader.specs.Bodies.{with_body, with_bodies, bodied}
 use Rattle.cil_reader.specs.Defined.{whole_globals, bodies_read, defined_read, declared_read, globals_read, with_aggregates}
 
@@ -204,12 +203,9 @@ text_fails n words lines told a = ap (read_lines n) (sym told) ∙ ap (option_an
 
 -- aggregates stay while globals are read
 
-pub keeps_names : (p q : List (List ℕ)) → PoolGrows p q → KeepsNames p q
-keeps_names p q g = record { at = λ n text e. ap (λ (xs : List (List ℕ)). slice_get xs n) g.is ∙ get_stays p g.more n text e }
-
-pub aggregates_stay : (g h : Graph) (p q : List (List ℕ)) → AggregatesKnown g p → Grows g h → KeepsAggregates g h → PoolGrows p q → aggregates_in h q ≡ aggregates_in g p
+pub aggregates_stay : (g h : Graph) (p q : List (List ℕ)) → AggregatesKnown g p → Grows g h → KeepsAggregates g h → KeepsNames p q → aggregates_in h q ≡ aggregates_in g p
 unfolding aggregates_in
-aggregates_stay g h p q k r same l = ap (λ (xs : List Aggregate). map (seen_aggregate (program_with h q)) xs) same.0 ∙ k.steady h q r (keeps_names p q l)
+aggregates_stay g h p q k r same l = ap (λ (xs : List Aggregate). map (seen_aggregate (program_with h q)) xs) same.0 ∙ k.steady h q r l
 
 pub blank : (s : Setting) → s.graph.aggs ≡ [] → s.known.tags ≡ [] → s.known.members.items ≡ [] → IsBlank s
 blank s a t m = record { aggs = a; tags = t; members = m }

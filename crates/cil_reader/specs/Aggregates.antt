@@ -25,7 +25,8 @@ use Rattle.cil_text.specs.ReadAggregates.{Lines, LinesReading, read_enumerator, 
 use Rattle.cil_text.specs.ReadGlobals.{seen_fields}
 use Rattle.cil_text.specs.TypesOf.{AddsParts, member_types}
 use Rattle.cil_reader.specs.Settings.{Setting, env_in}
-use Rattle.cil_reader.specs.Members.{KeepsNames, may_hold}
+use Rattle.cil_reader.specs.Pools.{KeepsNames}
+use Rattle.cil_reader.specs.Members.{may_hold}
 
 abbrev pub program_with : Graph → List (List ℕ) → Program
 program_with g names = record { graph = g; names = names; globals = [] }

@@ -20,7 +20,8 @@ use Rattle.cil_text.specs.ReadGlobals.{Declaration, Bodies, plain_names, header_
 use Rattle.cil_reader.specs.declared.bodies.Locals.{Locals}
 use Rattle.cil_reader.specs.Fresh.{with_new}
 use Rattle.cil_reader.specs.Settings.{locals_of}
-use Rattle.cil_reader.specs.Globals.{PoolGrows, behind_line}
+use Rattle.cil_reader.specs.Pools.{KeepsNames}
+use Rattle.cil_reader.specs.Globals.{behind_line}
 
 -- texts that are borrowed
 abbrev pub texts_of : List (Bor (List ℕ)) → List (List ℕ)
@@ -28,7 +29,7 @@ texts_of xs = map (λ (t : Bor (List ℕ)). t.now) xs
 
 -- numbers of names that have these texts in this pool and in each later one
 pub record TextsKnown (pool : List (List ℕ)) (names : List NameId) (texts : List (List ℕ)) : Type 0 where
-  pub steady : (later : List (List ℕ)) → PoolGrows pool later → map (text_at later) names ≡ texts
+  pub steady : (later : List (List ℕ)) → KeepsNames pool later → map (text_at later) names ≡ texts
 
 -- the names in words, where the first stands behind `struct`, `union` or `enum`, or does not
 abbrev pub names_from : Bool → List Word → List (List ℕ)
@@ -96,7 +97,7 @@ locals_behind ls r = (ls ++ r.0, r.1)
 -- locals with their types in this graph; as trees they are seen so in it and in each later graph and pool
 pub record LocalsKnown (g : Graph) (pool : List (List ℕ)) (x : Locals) : Type 0 where
   pub each : EachType (length g.nodes) x.names.types.items
-  pub steady : (h : Graph) (later : List (List ℕ)) → Grows g h → PoolGrows pool later → map (local_of h.nodes later) x.all.items ≡ locals_of g.nodes x.names
+  pub steady : (h : Graph) (later : List (List ℕ)) → Grows g h → KeepsNames pool later → map (local_of h.nodes later) x.all.items ≡ locals_of g.nodes x.names
 
 -- statements
 
@@ -112,7 +113,7 @@ body_made params ls labels ss = record { params = params; locals = ls; labels = 
 
 -- a body that is seen as one tree in each later graph and pool
 pub record BodyKnown (g : Graph) (pool : List (List ℕ)) (b : SeenBody) : Type 0 where
-  pub steady : (h : Graph) (later : List (List ℕ)) → Grows g h → PoolGrows pool later → body_of h.nodes later b ≡ body_of g.nodes pool b
+  pub steady : (h : Graph) (later : List (List ℕ)) → Grows g h → KeepsNames pool later → body_of h.nodes later b ≡ body_of g.nodes pool b
 
 -- the body of a declared function and the lines behind it, if its line stands next with these names
 abbrev pub Own : Type 0

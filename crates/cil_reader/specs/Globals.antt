@@ -18,6 +18,7 @@ use Rattle.cil_reader.specs.declared.globals.Declaration.{Declaration as SeenDec
 use Rattle.cil_reader.specs.declared.globals.Waiting.{Waiting}
 use Rattle.cil_reader.specs.Said.{all_lines}
 use Rattle.cil_reader.specs.LineKinds.{next_name}
+use Rattle.cil_reader.specs.Pools.{KeepsNames}
 
 -- the types of declarations are among the first n
 abbrev pub EachDeclared : ℕ → List SeenDeclaration → Type 0
@@ -90,31 +91,26 @@ objects_left env n ds lines = option_map (globals_with ds) (read_objects env n d
 abbrev pub globals_behind : List GlobalDecl → List GlobalDecl × Lines → List GlobalDecl × Lines
 globals_behind xs r = (xs ++ r.0, r.1)
 
--- a pool gets more texts
-pub record PoolGrows (old new : List (List ℕ)) : Type 0 where
-  pub more : List (List ℕ)
-  pub is : new ≡ old ++ more
-
 -- a definition without a body: it has neither types nor names
 pub record DefinitionFlat (x : GlobalDef) : Type 0 where
   pub steady : (nodes : List Node) (names : List (List ℕ)) → definition_of nodes names x ≡ definition_of [] [] x
 
 -- a declared global with this definition, whose name has its text in this pool and in each later one
 pub record IsGlobal (pool : List (List ℕ)) (d : SeenDeclaration) (def : GlobalDef) (x : SeenGlobal) : Type 0 where
-  pub name : (later : List (List ℕ)) → PoolGrows pool later → text_at later x.name ≡ d.name.now
+  pub name : (later : List (List ℕ)) → KeepsNames pool later → text_at later x.name ≡ d.name.now
   pub type : x.ty ≡ d.ty
   pub internal : x.internal ≡ d.internal
   pub definition : x.def ≡ def
 
 -- a global that is seen as one tree in each later graph and pool
 pub record GlobalKnown (g : Graph) (pool : List (List ℕ)) (x : SeenGlobal) : Type 0 where
-  pub steady : (h : Graph) (later : List (List ℕ)) → Grows g h → PoolGrows pool later → global_of h.nodes later x ≡ global_of g.nodes pool x
+  pub steady : (h : Graph) (later : List (List ℕ)) → Grows g h → KeepsNames pool later → global_of h.nodes later x ≡ global_of g.nodes pool x
 
 abbrev pub globals_of : List Node → List (List ℕ) → List SeenGlobal → List GlobalDecl
 globals_of nodes pool xs = map (global_of nodes pool) xs
 
 pub record GlobalsKnown (g : Graph) (pool : List (List ℕ)) (xs : List SeenGlobal) : Type 0 where
-  pub steady : (h : Graph) (later : List (List ℕ)) → Grows g h → PoolGrows pool later → globals_of h.nodes later xs ≡ globals_of g.nodes pool xs
+  pub steady : (h : Graph) (later : List (List ℕ)) → Grows g h → KeepsNames pool later → globals_of h.nodes later xs ≡ globals_of g.nodes pool xs
 
 -- lines, and what the first one defines
 pub record WaitingKnown (w : Waiting) : Type 0 where

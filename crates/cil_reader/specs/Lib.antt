@@ -15,6 +15,7 @@ pub mod Heads
 pub mod Nesting
 pub mod Typed
 pub mod Images
+pub mod Pools
 pub mod Members
 pub mod Aggregates
 pub mod LineKinds

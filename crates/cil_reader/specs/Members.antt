@@ -20,6 +20,7 @@ use Rattle.cil_text.specs.Allowed.{member_name_of}
 use Rattle.cil_text.specs.ReadStmts.{Numbered, read_number}
 use Rattle.cil_text.specs.ReadAggregates.{Lines, LinesReading, is_close, read_enumerator, read_members}
 use Rattle.cil_reader.specs.declared.names.Names.{Names}
+use Rattle.cil_reader.specs.Pools.{KeepsNames}
 
 -- the members' types are among the first n
 abbrev pub AreThere : ℕ → List Member → Type 0
@@ -40,10 +41,6 @@ may_hold g x ms = if is_some x.members then false else members_fit g x.kind fals
 
 abbrev pub may_complete : Graph → ℕ → List Member → Bool
 may_complete g a ms = elim (slice_get g.aggs a) [ None ↦ false | Some x ↦ may_hold g x ms ]
-
--- each name of the one pool has its text in the other
-pub record KeepsNames (names later : List (List ℕ)) : Type 0 where
-  pub at : (n : ℕ) (text : List ℕ) → slice_get names n ≡ Some text → slice_get later n ≡ Some text
 
 pub record IsMember (names : List (List ℕ)) (text : List ℕ) (of : TypeId) (value : ℤ) (m : Member) : Type 0 where
   pub name : slice_get names m.name.0 ≡ Some text

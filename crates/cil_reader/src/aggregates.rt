@@ -13,7 +13,8 @@ ghost use Rattle.cil_text.specs.TypesOf.{AddsParts, member_types};
 ghost use Rattle.cil_reader.specs.Said.{all_said, all_lines};
 ghost use Rattle.cil_reader.specs.Gives.{Gives};
 ghost use Rattle.cil_reader.specs.Settings.{env_in};
-ghost use Rattle.cil_reader.specs.Members.{AreThere, KeepsNames, IsMember, MembersKnown, FieldsKnown, members_in, is_comma, valued, enumerator_with, enumerator_more, member_with, with_other, member_more, next_line, enumerators_from, members_from};
+ghost use Rattle.cil_reader.specs.Pools.{KeepsNames};
+ghost use Rattle.cil_reader.specs.Members.{AreThere, IsMember, MembersKnown, FieldsKnown, members_in, is_comma, valued, enumerator_with, enumerator_more, member_with, with_other, member_more, next_line, enumerators_from, members_from};
 ghost use Rattle.cil_reader.specs.Aggregates.{aggregates_in, AggregatesKnown, Holds, IsBlank, AreOpen, ArePlain, one_enum, next_enum, enums_from, with_tag, next_tag, tags_from, tag_at, one_complete, one_struct, own_members, tagged_structs, bit, types_at, FieldsAdded, AggregatesAdded};
 
 use crate::instructions::is_end;
@@ -111,7 +112,7 @@ fn lone_tag<'a>(words: &[Word<'a>]) -> Option<(AggKind, &'a [u8])>
 }
 
 /// A member without qualifiers.
-#[tactic(auto, using(crate::proofs::MemberLaws::is_member, crate::proofs::MemberLaws::keeps_interned, crate::proofs::MemberLaws::keeps_same))]
+#[tactic(auto, using(crate::proofs::MemberLaws::is_member, crate::proofs::PoolLaws::pool_asked, crate::proofs::PoolLaws::pool_by))]
 fn member(pool: &mut NamePool, text: &[u8], of: TypeId, value: i32) -> Result<Member, Stop>
     ensures gives { Gives (λ m. true) result (Some true) }
     ensures is { IfOk result (IsMember pool.new text.now of value) }
@@ -152,7 +153,7 @@ fn one_enumerator(
 }
 
 /// Whether a line has one enumerator more, which is then read, and the lines behind it.
-#[tactic(auto, using(crate::proofs::MemberLaws::line_closed, crate::proofs::MemberLaws::line_read, crate::proofs::MemberLaws::line_fails, crate::proofs::MemberLaws::keeps_none))]
+#[tactic(auto, using(crate::proofs::MemberLaws::line_closed, crate::proofs::MemberLaws::line_read, crate::proofs::MemberLaws::line_fails, crate::proofs::PoolLaws::pool_same))]
 fn next_enumerator<'w, 'a>(
     r: &Reader,
     pool: &mut NamePool,
@@ -183,7 +184,7 @@ fn next_enumerator<'w, 'a>(
 }
 
 /// Enumerators up to the line that closes their enum, and the lines behind it.
-#[tactic(auto, using(crate::proofs::MemberLaws::none_there, crate::proofs::MemberLaws::none_known, crate::proofs::MemberLaws::enumerators_begin, crate::proofs::MemberLaws::enumerators_none, crate::proofs::MemberLaws::enumerators_next, crate::proofs::MemberLaws::enumerators_end, crate::proofs::MemberLaws::enumerators_fail, crate::proofs::MemberLaws::keeps_none, crate::proofs::MemberLaws::keeps_twice))]
+#[tactic(auto, using(crate::proofs::MemberLaws::none_there, crate::proofs::MemberLaws::none_known, crate::proofs::MemberLaws::enumerators_begin, crate::proofs::MemberLaws::enumerators_none, crate::proofs::MemberLaws::enumerators_next, crate::proofs::MemberLaws::enumerators_end, crate::proofs::MemberLaws::enumerators_fail, crate::proofs::PoolLaws::pool_same, crate::proofs::PoolLaws::pool_twice))]
 fn read_enumerators<'w, 'a>(
     r: &Reader,
     pool: &mut NamePool,
@@ -208,7 +209,7 @@ fn read_enumerators<'w, 'a>(
 }
 
 /// Behind the line that opens an enum: its enumerators.
-#[tactic(auto, using(crate::proofs::AggregateLaws::never, crate::proofs::AggregateLaws::enum_fails, crate::proofs::AggregateLaws::enum_twice, crate::proofs::AggregateLaws::enum_refused, crate::proofs::AggregateLaws::enum_gives, crate::proofs::AggregateLaws::enum_holds, crate::proofs::AggregateLaws::holds_later, crate::proofs::AggregateLaws::nothing_types, crate::proofs::MemberLaws::keeps_none, crate::proofs::AddedMembers::enum_added))]
+#[tactic(auto, using(crate::proofs::AggregateLaws::never, crate::proofs::AggregateLaws::enum_fails, crate::proofs::AggregateLaws::enum_twice, crate::proofs::AggregateLaws::enum_refused, crate::proofs::AggregateLaws::enum_gives, crate::proofs::AggregateLaws::enum_holds, crate::proofs::AggregateLaws::holds_later, crate::proofs::AggregateLaws::nothing_types, crate::proofs::PoolLaws::pool_same, crate::proofs::AddedMembers::enum_added, crate::proofs::PoolLaws::pool_twice))]
 fn read_enum<'w, 'a>(
     r: &mut Reader,
     pool: &mut NamePool,
@@ -219,6 +220,7 @@ fn read_enum<'w, 'a>(
     ensures gives { Gives (λ rest. (aggregates_in r.new.graph pool.new, all_lines rest.now)) result (one_enum (aggregates_in r.old.graph pool.old) tag.now (all_lines lines.now)) }
     ensures holds { OnOk result (Holds r.new pool.new (length r.new.graph.aggs)) }
     ensures adds { OnOk result (AggregatesAdded r.old.graph r.new.graph pool.old pool.new) }
+    ensures pool { KeepsNames pool.old pool.new }
 {
     let int = r.int_type()?;
     let (members, rest) = read_enumerators(r, pool, int, lines)?;
@@ -229,7 +231,7 @@ fn read_enum<'w, 'a>(
 }
 
 /// Whether an enum stands next, which is then read, and the lines behind it.
-#[tactic(auto, using(crate::proofs::AddedMembers::added_none))]
+#[tactic(auto, using(crate::proofs::AddedMembers::added_none, crate::proofs::PoolLaws::pool_same))]
 fn next_enum<'w, 'a>(
     r: &mut Reader,
     pool: &mut NamePool,
@@ -239,6 +241,7 @@ fn next_enum<'w, 'a>(
     ensures gives { Gives (λ x. (x.0, (aggregates_in r.new.graph pool.new, all_lines x.1.now))) result (next_enum (aggregates_in r.old.graph pool.old) (all_lines lines.now)) }
     ensures holds { OnOk result (Holds r.new pool.new (length r.new.graph.aggs)) }
     ensures adds { OnOk result (AggregatesAdded r.old.graph r.new.graph pool.old pool.new) }
+    ensures pool { KeepsNames pool.old pool.new }
 {
     if let [line, behind @ ..] = lines {
         if let Some(tag) = opened_tag(line) {
@@ -250,7 +253,7 @@ fn next_enum<'w, 'a>(
 }
 
 /// Enums, and the lines behind them. Their number is bounded.
-#[tactic(auto, using(crate::proofs::AggregateLaws::enums_nothing, crate::proofs::AggregateLaws::enums_begin, crate::proofs::AggregateLaws::enums_none, crate::proofs::AggregateLaws::enums_next, crate::proofs::AggregateLaws::enums_end, crate::proofs::AggregateLaws::enums_fail, crate::proofs::AggregateLaws::enums_stop, crate::proofs::AddedMembers::added_none, crate::proofs::AddedMembers::added_twice))]
+#[tactic(auto, using(crate::proofs::AggregateLaws::enums_nothing, crate::proofs::AggregateLaws::enums_begin, crate::proofs::AggregateLaws::enums_none, crate::proofs::AggregateLaws::enums_next, crate::proofs::AggregateLaws::enums_end, crate::proofs::AggregateLaws::enums_fail, crate::proofs::AggregateLaws::enums_stop, crate::proofs::AddedMembers::added_none, crate::proofs::AddedMembers::added_twice, crate::proofs::PoolLaws::pool_same, crate::proofs::PoolLaws::pool_twice))]
 fn read_enums<'w, 'a>(
     r: &mut Reader,
     pool: &mut NamePool,
@@ -261,6 +264,7 @@ fn read_enums<'w, 'a>(
     ensures gives { Gives (λ rest. (aggregates_in r.new.graph pool.new, all_lines rest.now)) result (enums_from left (aggregates_in r.old.graph pool.old) (all_lines lines.now)) }
     ensures holds { OnOk result (Holds r.new pool.new (length r.new.graph.aggs)) }
     ensures adds { OnOk result (AggregatesAdded r.old.graph r.new.graph pool.old pool.new) }
+    ensures pool { KeepsNames pool.old pool.new }
 {
     if left == 0 {
         return Ok(lines);
@@ -292,13 +296,14 @@ fn add_tag(
     ensures holds { OnOk result (Holds r.new pool.new first) }
     ensures adds { OnOk result (AggregatesAdded r.old.graph r.new.graph pool.old pool.new) }
     ensures within { OnOk result (first ≤ length r.new.graph.aggs) }
+    ensures pool { KeepsNames pool.old pool.new }
 {
     let _number = r.add_aggregate(pool, kind, tag)?;
     Ok(())
 }
 
 /// Whether a struct or union stands next, whose tag is then added, and the lines behind it.
-#[tactic(auto, using(crate::proofs::AddedMembers::added_none))]
+#[tactic(auto, using(crate::proofs::AddedMembers::added_none, crate::proofs::PoolLaws::pool_same))]
 fn next_tag<'w, 'a>(
     r: &mut Reader,
     pool: &mut NamePool,
@@ -312,6 +317,7 @@ fn next_tag<'w, 'a>(
     ensures adds { OnOk result (AggregatesAdded r.old.graph r.new.graph pool.old pool.new) }
     ensures within { OnOk result (first ≤ length r.new.graph.aggs) }
     ensures less { IfOk result (λ x. length x.1.now + bit x.0 ≤ length lines.now) }
+    ensures pool { KeepsNames pool.old pool.new }
 {
     if let [line, behind @ ..] = lines {
         if let Some((kind, tag)) = lone_tag(line) {
@@ -323,7 +329,7 @@ fn next_tag<'w, 'a>(
 }
 
 /// The tags of structs and unions, the first of which has this number, and the lines behind them.
-#[tactic(auto, using(crate::proofs::AggregateLaws::tags_begin, crate::proofs::AggregateLaws::tags_none, crate::proofs::AggregateLaws::tags_next, crate::proofs::AggregateLaws::tags_end, crate::proofs::AggregateLaws::tags_fail, crate::proofs::AggregateLaws::bit_falls, crate::proofs::AddedMembers::added_twice))]
+#[tactic(auto, using(crate::proofs::AggregateLaws::tags_begin, crate::proofs::AggregateLaws::tags_none, crate::proofs::AggregateLaws::tags_next, crate::proofs::AggregateLaws::tags_end, crate::proofs::AggregateLaws::tags_fail, crate::proofs::AggregateLaws::bit_falls, crate::proofs::AddedMembers::added_twice, crate::proofs::PoolLaws::pool_twice))]
 fn read_tags<'w, 'a>(
     r: &mut Reader,
     pool: &mut NamePool,
@@ -336,6 +342,7 @@ fn read_tags<'w, 'a>(
     ensures holds { OnOk result (Holds r.new pool.new first) }
     ensures adds { OnOk result (AggregatesAdded r.old.graph r.new.graph pool.old pool.new) }
     ensures within { OnOk result (first ≤ length r.new.graph.aggs) }
+    ensures pool { KeepsNames pool.old pool.new }
 {
     let (mut found, mut rest) = next_tag(r, pool, first, lines)?;
     while found {
@@ -367,7 +374,7 @@ fn declared<'a>(r: &mut Reader, left: u32, words: &[Word<'a>]) -> Result<(&'a [u
 }
 
 /// These members and one more.
-#[tactic(auto, using(crate::proofs::MemberLaws::other_gives, crate::proofs::MemberLaws::other_refused, crate::proofs::MemberLaws::fields_more, crate::proofs::MemberLaws::keeps_none, crate::proofs::MemberLaws::keeps_twice))]
+#[tactic(auto, using(crate::proofs::MemberLaws::other_gives, crate::proofs::MemberLaws::other_refused, crate::proofs::MemberLaws::fields_more, crate::proofs::PoolLaws::pool_same, crate::proofs::PoolLaws::pool_twice))]
 fn with_member(
     r: &Reader,
     pool: &mut NamePool,
@@ -394,7 +401,7 @@ fn with_member(
 }
 
 /// One member more, by its line (C11 6.7.2.1).
-#[tactic(auto, using(crate::proofs::MemberLaws::fields_later, crate::proofs::MemberLaws::more_gives, crate::proofs::MemberLaws::more_refused, crate::proofs::MemberLaws::more_fails, crate::proofs::MemberLaws::keeps_none, crate::proofs::AddedMembers::field_added))]
+#[tactic(auto, using(crate::proofs::MemberLaws::fields_later, crate::proofs::MemberLaws::more_gives, crate::proofs::MemberLaws::more_refused, crate::proofs::MemberLaws::more_fails, crate::proofs::PoolLaws::pool_same, crate::proofs::AddedMembers::field_added))]
 fn one_member(
     r: &mut Reader,
     pool: &mut NamePool,
@@ -417,7 +424,7 @@ fn one_member(
 }
 
 /// Whether a line has one member more, which is then read, and the lines behind it.
-#[tactic(auto, using(crate::proofs::MemberLaws::line_closed, crate::proofs::MemberLaws::line_read, crate::proofs::MemberLaws::line_fails, crate::proofs::MemberLaws::keeps_none, crate::proofs::AddedMembers::fields_same))]
+#[tactic(auto, using(crate::proofs::MemberLaws::line_closed, crate::proofs::MemberLaws::line_read, crate::proofs::MemberLaws::line_fails, crate::proofs::PoolLaws::pool_same, crate::proofs::AddedMembers::fields_same))]
 fn next_member<'w, 'a>(
     r: &mut Reader,
     pool: &mut NamePool,
@@ -448,7 +455,7 @@ fn next_member<'w, 'a>(
 }
 
 /// Members up to the line that closes their struct or union, and the lines behind it.
-#[tactic(auto, using(crate::proofs::MemberLaws::no_fields, crate::proofs::MemberLaws::members_begin, crate::proofs::MemberLaws::members_none, crate::proofs::MemberLaws::members_next, crate::proofs::MemberLaws::members_end, crate::proofs::MemberLaws::members_fail, crate::proofs::MemberLaws::keeps_none, crate::proofs::MemberLaws::keeps_twice, type_graph::proofs::GrowthLaws::grows_none, type_graph::proofs::GrowthLaws::grows_twice, crate::proofs::AddedMembers::fields_begin, crate::proofs::AddedMembers::fields_on))]
+#[tactic(auto, using(crate::proofs::MemberLaws::no_fields, crate::proofs::MemberLaws::members_begin, crate::proofs::MemberLaws::members_none, crate::proofs::MemberLaws::members_next, crate::proofs::MemberLaws::members_end, crate::proofs::MemberLaws::members_fail, crate::proofs::PoolLaws::pool_same, crate::proofs::PoolLaws::pool_twice, type_graph::proofs::GrowthLaws::grows_none, type_graph::proofs::GrowthLaws::grows_twice, crate::proofs::AddedMembers::fields_begin, crate::proofs::AddedMembers::fields_on))]
 fn read_members<'w, 'a>(
     r: &mut Reader,
     pool: &mut NamePool,
@@ -496,6 +503,7 @@ fn read_complete<'w, 'a>(
     ensures rest { OnOk result (drop (a.0 + 1) (aggregates_in r.new.graph pool.new) ≡ drop (a.0 + 1) (aggregates_in r.old.graph pool.old)) }
     ensures tags { OnOk result ((env_in r.new).tags ≡ (env_in r.old).tags) }
     ensures count { OnOk result (length r.new.graph.aggs ≡ length r.old.graph.aggs) }
+    ensures pool { KeepsNames pool.old pool.new }
 {
     let (fields, rest) = read_members(r, pool, left, lines)?;
     r.complete(a, fields.members, fields.names)?;
@@ -536,7 +544,7 @@ fn own_members<'w, 'a>(
 }
 
 /// A struct or union: its members, if they stand next, and the lines behind them.
-#[tactic(auto, using(crate::proofs::AggregateLaws::struct_complete, crate::proofs::AggregateLaws::struct_bad, crate::proofs::AggregateLaws::struct_left, crate::proofs::AggregateLaws::left_rest))]
+#[tactic(auto, using(crate::proofs::AggregateLaws::struct_complete, crate::proofs::AggregateLaws::struct_bad, crate::proofs::AggregateLaws::struct_left, crate::proofs::AggregateLaws::left_rest, crate::proofs::PoolLaws::pool_same))]
 fn read_struct<'w, 'a>(
     r: &mut Reader,
     pool: &mut NamePool,
@@ -554,6 +562,7 @@ fn read_struct<'w, 'a>(
     ensures rest { OnOk result (drop (a.0 + 1) (aggregates_in r.new.graph pool.new) ≡ drop (a.0 + 1) (aggregates_in r.old.graph pool.old)) }
     ensures tags { OnOk result ((env_in r.new).tags ≡ (env_in r.old).tags) }
     ensures count { OnOk result (length r.new.graph.aggs ≡ length r.old.graph.aggs) }
+    ensures pool { KeepsNames pool.old pool.new }
 {
     match own_members(r, a, lines) {
         Some(behind) => {
@@ -569,7 +578,7 @@ fn read_struct<'w, 'a>(
 
 /// Structs and unions, of which the first has this number: their tags, the members that stand next, and the lines
 /// behind them.
-#[tactic(auto, using(crate::proofs::AggregateLaws::whole_open, crate::proofs::AggregateLaws::whole_plain, crate::proofs::AggregateLaws::structs_begin, crate::proofs::AggregateLaws::structs_none, crate::proofs::AggregateLaws::structs_next, crate::proofs::AggregateLaws::structs_fail, crate::proofs::AggregateLaws::structs_end, crate::proofs::AggregateLaws::structs_open, crate::proofs::AggregateLaws::structs_plain, crate::proofs::AggregateLaws::holds_all, crate::proofs::AddedMembers::added_twice))]
+#[tactic(auto, using(crate::proofs::AggregateLaws::whole_open, crate::proofs::AggregateLaws::whole_plain, crate::proofs::AggregateLaws::structs_begin, crate::proofs::AggregateLaws::structs_none, crate::proofs::AggregateLaws::structs_next, crate::proofs::AggregateLaws::structs_fail, crate::proofs::AggregateLaws::structs_end, crate::proofs::AggregateLaws::structs_open, crate::proofs::AggregateLaws::structs_plain, crate::proofs::AggregateLaws::holds_all, crate::proofs::AddedMembers::added_twice, crate::proofs::PoolLaws::pool_twice))]
 fn read_structs<'w, 'a>(
     r: &mut Reader,
     pool: &mut NamePool,
@@ -582,6 +591,7 @@ fn read_structs<'w, 'a>(
     ensures gives { Gives (λ rest. (aggregates_in r.new.graph pool.new, all_lines rest.now)) result (tagged_structs left first (aggregates_in r.old.graph pool.old) (all_lines lines.now)) }
     ensures holds { OnOk result (Holds r.new pool.new (length r.new.graph.aggs)) }
     ensures adds { OnOk result (AggregatesAdded r.old.graph r.new.graph pool.old pool.new) }
+    ensures pool { KeepsNames pool.old pool.new }
 {
     let mut rest = read_tags(r, pool, first, lines)?;
     let count = r.aggregate_count();
@@ -592,7 +602,7 @@ fn read_structs<'w, 'a>(
 }
 
 /// Aggregates, of which the first structs and unions may have members behind all tags, and the lines behind them.
-#[tactic(auto, using(crate::proofs::AggregateLaws::blank_holds, crate::proofs::AggregateLaws::whole_gives, crate::proofs::AggregateLaws::whole_refused, crate::proofs::AggregateLaws::whole_fails, crate::proofs::AggregateLaws::holds_seen, crate::proofs::AggregateLaws::holds_fields, crate::proofs::AggregateLaws::holds_tags, crate::proofs::AddedMembers::added_twice, crate::proofs::AggregateLaws::holds_plain))]
+#[tactic(auto, using(crate::proofs::AggregateLaws::blank_holds, crate::proofs::AggregateLaws::whole_gives, crate::proofs::AggregateLaws::whole_refused, crate::proofs::AggregateLaws::whole_fails, crate::proofs::AggregateLaws::holds_seen, crate::proofs::AggregateLaws::holds_fields, crate::proofs::AggregateLaws::holds_tags, crate::proofs::AddedMembers::added_twice, crate::proofs::AggregateLaws::holds_plain, crate::proofs::PoolLaws::pool_twice))]
 fn read_placed<'w, 'a>(
     r: &mut Reader,
     pool: &mut NamePool,
@@ -606,6 +616,7 @@ fn read_placed<'w, 'a>(
     ensures members { OnOk result ((env_in r.new).members ≡ map seen_fields (aggregates_in r.new.graph pool.new)) }
     ensures adds { OnOk result (AggregatesAdded r.old.graph r.new.graph pool.old pool.new) }
     ensures unqualified { OnOk result (list_all members_are_unqualified r.new.graph.aggs ≡ true) }
+    ensures pool { KeepsNames pool.old pool.new }
 {
     let behind = read_enums(r, pool, left, lines)?;
     let first = r.aggregate_count();
@@ -628,6 +639,7 @@ pub(crate) fn read_aggregates<'w, 'a>(
     ensures members { OnOk result ((env_in r.new).members ≡ map seen_fields (aggregates_in r.new.graph pool.new)) }
     ensures adds { IfOk result (λ rest. AddsParts r.old.graph r.new.graph (member_types (aggregates_in r.new.graph pool.new))) }
     ensures unqualified { IfOk result (λ rest. list_all members_are_unqualified r.new.graph.aggs ≡ true) }
+    ensures pool { KeepsNames pool.old pool.new }
 {
     let rest = read_placed(r, pool, left, lines)?;
     if !r.are_filled() {

@@ -1,4 +1,4 @@
-ghost use Rattle.std.specs.Prelude.{◌≡◌, ◌<◌, ◌≤◌, ◌+◌, ◌^◌, ◌++◌, ◌&&◌, true, Some, IfOk, IfSome, OnOk, length, map, take, drop};
+ghost use Rattle.std.specs.Prelude.{◌≡◌, ◌<◌, ◌≤◌, ◌+◌, ◌^◌, ◌++◌, ◌&&◌, true, Some, IfOk, IfSome, length, map, take, drop};
 ghost use Rattle.std.specs.Option.{option_map, option_and_then};
 ghost use Rattle.type_graph.specs.Shapes.{shape};
 ghost use Rattle.type_graph.specs.Growth.{Grows, KeepsAggregates};
@@ -14,7 +14,8 @@ ghost use Rattle.cil_reader.specs.Gives.{Gives};
 ghost use Rattle.cil_reader.specs.Settings.{env_in, locals_of, outside};
 ghost use Rattle.cil_reader.specs.Fresh.{with_new};
 ghost use Rattle.cil_reader.specs.Nesting.{StmtsKnown};
-ghost use Rattle.cil_reader.specs.Globals.{EachDeclared, PoolGrows, declaration_of, declarations_of, globals_of, GlobalsKnown, behind_line};
+ghost use Rattle.cil_reader.specs.Pools.{KeepsNames};
+ghost use Rattle.cil_reader.specs.Globals.{EachDeclared, declaration_of, declarations_of, globals_of, GlobalsKnown, behind_line};
 ghost use Rattle.cil_reader.specs.Bodies.{texts_of, TextsKnown, is_tag_word, tag_behind, name_in, names_here, next_names, still_open, closes, named_local, apart, first_apart, local_behind, locals_behind, label_behind, LocalsKnown, whole_stmts, BodyKnown, own_body, own_types, bodied};
 
 use crate::aggregates::is_close;
@@ -179,7 +180,7 @@ fn block_length(lines: &[Vec<Word>]) -> usize
 }
 
 /// One local more.
-#[tactic(auto, using(crate::proofs::BodyLaws::local_gives, crate::proofs::BodyLaws::local_fails, crate::proofs::BodyLaws::local_known, crate::proofs::BodyLaws::pool_asked, crate::proofs::BodyLaws::pool_by))]
+#[tactic(auto, using(crate::proofs::BodyLaws::local_gives, crate::proofs::BodyLaws::local_fails, crate::proofs::BodyLaws::local_known, crate::proofs::PoolLaws::pool_asked, crate::proofs::PoolLaws::pool_by, crate::proofs::PoolLaws::pool_same))]
 fn with_local(
     r: &Reader,
     pool: &mut NamePool,
@@ -191,7 +192,7 @@ fn with_local(
     requires there { ty.0 < length r.now.graph.nodes }
     ensures gives { Gives (λ x. locals_of r.now.graph.nodes x.names) result (local_behind (locals_of r.now.graph.nodes locals.names) (named_local text.now (shape r.now.graph.nodes ty.0))) }
     ensures known { IfOk result (λ x. LocalsKnown r.now.graph pool.new x) }
-    ensures pool { OnOk result (PoolGrows pool.old pool.new) }
+    ensures pool { KeepsNames pool.old pool.new }
 {
     let Locals { names, mut all } = locals;
     let names = names.with(text, ty)?;
@@ -201,7 +202,7 @@ fn with_local(
 }
 
 /// A function's parameters as its first locals.
-#[tactic(auto, using(crate::proofs::MemberLaws::type_there, crate::proofs::BodyLaws::no_locals, crate::proofs::BodyLaws::pool_same, crate::proofs::BodyLaws::pool_twice, crate::proofs::BodyLaws::params_next, crate::proofs::BodyLaws::params_fail, crate::proofs::BodyLaws::params_end, crate::proofs::BodyLaws::apart_more))]
+#[tactic(auto, using(crate::proofs::MemberLaws::type_there, crate::proofs::BodyLaws::no_locals, crate::proofs::PoolLaws::pool_same, crate::proofs::PoolLaws::pool_twice, crate::proofs::BodyLaws::params_next, crate::proofs::BodyLaws::params_fail, crate::proofs::BodyLaws::params_end, crate::proofs::BodyLaws::apart_more))]
 fn param_locals(
     r: &Reader,
     pool: &mut NamePool,
@@ -211,7 +212,7 @@ fn param_locals(
     requires { ty.0 < length r.now.graph.nodes }
     ensures gives { Gives (λ x. locals_of r.now.graph.nodes x.names) result (allowed apart (param_locals (params_of (shape r.now.graph.nodes ty.0)) (texts_of texts.now))) }
     ensures known { IfOk result (λ x. LocalsKnown r.now.graph pool.new x) }
-    ensures pool { OnOk result (PoolGrows pool.old pool.new) }
+    ensures pool { KeepsNames pool.old pool.new }
 {
     let types = r.params(ty);
     let mut locals = Locals {
@@ -225,7 +226,7 @@ fn param_locals(
 }
 
 /// A local that is no parameter, by its line.
-#[tactic(auto, using(crate::proofs::BodyLaws::locals_later, crate::proofs::BodyLaws::locals_same, crate::proofs::FunctionLaws::one_open, crate::proofs::FunctionLaws::one_nameless, crate::proofs::FunctionLaws::one_fails, crate::proofs::FunctionLaws::one_taken))]
+#[tactic(auto, using(crate::proofs::BodyLaws::locals_later, crate::proofs::BodyLaws::locals_same, crate::proofs::FunctionLaws::one_open, crate::proofs::FunctionLaws::one_nameless, crate::proofs::FunctionLaws::one_fails, crate::proofs::FunctionLaws::one_taken, crate::proofs::PoolLaws::pool_same))]
 fn one_local(
     r: &mut Reader,
     pool: &mut NamePool,
@@ -240,7 +241,7 @@ fn one_local(
     ensures grows { Grows r.old.graph r.new.graph }
     ensures keeps { KeepsAggregates r.old.graph r.new.graph }
     ensures env { env_in r.new ≡ env_in r.old }
-    ensures pool { OnOk result (PoolGrows pool.old pool.new) }
+    ensures pool { KeepsNames pool.old pool.new }
 {
     let (named, rest) = r.read_decl(left, words)?;
     if !is_end(rest) {
@@ -253,7 +254,7 @@ fn one_local(
 }
 
 /// Locals that are no parameters, behind those, and the lines behind them.
-#[tactic(auto, using(type_graph::proofs::GrowthLaws::grows_twice, crate::proofs::BodyLaws::pool_same, crate::proofs::BodyLaws::pool_twice, crate::proofs::FunctionLaws::locals_refused, crate::proofs::FunctionLaws::locals_stop, crate::proofs::FunctionLaws::locals_over, cil_text::proofs::PartsAdded::adds_none))]
+#[tactic(auto, using(type_graph::proofs::GrowthLaws::grows_twice, crate::proofs::PoolLaws::pool_same, crate::proofs::PoolLaws::pool_twice, crate::proofs::FunctionLaws::locals_refused, crate::proofs::FunctionLaws::locals_stop, crate::proofs::FunctionLaws::locals_over, cil_text::proofs::PartsAdded::adds_none))]
 fn read_locals<'w, 'a>(
     r: &mut Reader,
     pool: &mut NamePool,
@@ -269,7 +270,7 @@ fn read_locals<'w, 'a>(
     ensures grows { Grows r.old.graph r.new.graph }
     ensures keeps { KeepsAggregates r.old.graph r.new.graph }
     ensures env { env_in r.new ≡ env_in r.old }
-    ensures pool { OnOk result (PoolGrows pool.old pool.new) }
+    ensures pool { KeepsNames pool.old pool.new }
 {
     let mut locals = params;
     for i in 0..lines.len() {
@@ -283,12 +284,12 @@ fn read_locals<'w, 'a>(
 }
 
 /// One label more.
-#[tactic(auto, using(crate::proofs::FunctionLaws::texts_added, crate::proofs::BodyLaws::pool_asked))]
+#[tactic(auto, using(crate::proofs::FunctionLaws::texts_added, crate::proofs::PoolLaws::pool_asked, crate::proofs::PoolLaws::pool_by, crate::proofs::PoolLaws::pool_same))]
 fn with_label(pool: &mut NamePool, labels: Labels, text: &[u8]) -> Result<Labels, Stop>
     requires { TextsKnown pool.old labels.names.items labels.texts }
     ensures gives { Gives (λ x. x.texts) result (with_new labels.texts text.now) }
     ensures known { IfOk result (λ x. TextsKnown pool.new x.names.items x.texts) }
-    ensures pool { OnOk result (PoolGrows pool.old pool.new) }
+    ensures pool { KeepsNames pool.old pool.new }
 {
     let Labels {
         mut texts,
@@ -301,12 +302,12 @@ fn with_label(pool: &mut NamePool, labels: Labels, text: &[u8]) -> Result<Labels
 }
 
 /// The label of a line behind others, if it sets one.
-#[tactic(auto, using(crate::proofs::BodyLaws::pool_same, crate::proofs::FunctionLaws::label_none, crate::proofs::FunctionLaws::label_taken))]
+#[tactic(auto, using(crate::proofs::PoolLaws::pool_same, crate::proofs::FunctionLaws::label_none, crate::proofs::FunctionLaws::label_taken))]
 fn next_label(pool: &mut NamePool, labels: Labels, line: &[Word]) -> Result<Labels, Stop>
     requires { TextsKnown pool.old labels.names.items labels.texts }
     ensures gives { Gives (λ x. x.texts) result (label_behind labels.texts (all_said line.now)) }
     ensures known { IfOk result (λ x. TextsKnown pool.new x.names.items x.texts) }
-    ensures pool { OnOk result (PoolGrows pool.old pool.new) }
+    ensures pool { KeepsNames pool.old pool.new }
 {
     if !is_label(line) {
         return Ok(labels);
@@ -315,11 +316,11 @@ fn next_label(pool: &mut NamePool, labels: Labels, line: &[Word]) -> Result<Labe
 }
 
 /// The labels that lines set, in order (C11 6.8.1); they differ.
-#[tactic(auto, using(crate::proofs::BodyLaws::no_texts, crate::proofs::BodyLaws::pool_same, crate::proofs::FunctionLaws::labels_fail, crate::proofs::FunctionLaws::labels_end))]
+#[tactic(auto, using(crate::proofs::BodyLaws::no_texts, crate::proofs::PoolLaws::pool_same, crate::proofs::PoolLaws::pool_twice, crate::proofs::FunctionLaws::labels_fail, crate::proofs::FunctionLaws::labels_end))]
 fn labels_in(alloc: Global, pool: &mut NamePool, lines: &[Vec<Word>]) -> Result<Labels, Stop>
     ensures gives { Gives (λ x. x.texts) result (allowed are_different (labels_in (all_lines lines.now))) }
     ensures known { IfOk result (λ x. TextsKnown pool.new x.names.items x.texts) }
-    ensures pool { OnOk result (PoolGrows pool.old pool.new) }
+    ensures pool { KeepsNames pool.old pool.new }
 {
     let mut labels = Labels {
         texts: Numbering::new(alloc),
@@ -332,11 +333,11 @@ fn labels_in(alloc: Global, pool: &mut NamePool, lines: &[Vec<Word>]) -> Result<
 }
 
 /// The numbers of names.
-#[tactic(auto, using(crate::proofs::BodyLaws::no_texts, crate::proofs::BodyLaws::pool_same, crate::proofs::BodyLaws::pool_asked, crate::proofs::BodyLaws::pool_twice, crate::proofs::FunctionLaws::texts_next, crate::proofs::FunctionLaws::texts_end, crate::proofs::FunctionLaws::texts_given))]
+#[tactic(auto, using(crate::proofs::BodyLaws::no_texts, crate::proofs::PoolLaws::pool_same, crate::proofs::PoolLaws::pool_asked, crate::proofs::PoolLaws::pool_by, crate::proofs::PoolLaws::pool_twice, crate::proofs::FunctionLaws::texts_next, crate::proofs::FunctionLaws::texts_end, crate::proofs::FunctionLaws::texts_given))]
 fn numbers_of(alloc: Global, pool: &mut NamePool, texts: &[&[u8]]) -> Result<Vec<NameId>, Stop>
     ensures gives { Gives (λ x. map (text_at pool.new) x.items) result (Some (texts_of texts.now)) }
     ensures known { IfOk result (λ x. TextsKnown pool.new x.items (texts_of texts.now)) }
-    ensures pool { OnOk result (PoolGrows pool.old pool.new) }
+    ensures pool { KeepsNames pool.old pool.new }
 {
     let mut names = Vec::new(alloc);
     for i in 0..texts.len() {
@@ -371,7 +372,7 @@ fn read_stmts(
 
 /// The lines between those that open and close a function's body, where the function has this type and its parameters
 /// these names.
-#[tactic(auto, using(type_graph::proofs::GrowthLaws::grows_twice, crate::proofs::BodyLaws::pool_twice, crate::proofs::FunctionLaws::body_known, crate::proofs::FunctionLaws::body_gives, crate::proofs::FunctionLaws::body_stmts_fail, crate::proofs::FunctionLaws::body_labels_fail, crate::proofs::FunctionLaws::body_locals_fail, crate::proofs::FunctionLaws::body_params_fail))]
+#[tactic(auto, using(type_graph::proofs::GrowthLaws::grows_twice, crate::proofs::PoolLaws::pool_twice, crate::proofs::FunctionLaws::body_known, crate::proofs::FunctionLaws::body_gives, crate::proofs::FunctionLaws::body_stmts_fail, crate::proofs::FunctionLaws::body_labels_fail, crate::proofs::FunctionLaws::body_locals_fail, crate::proofs::FunctionLaws::body_params_fail))]
 fn read_body(
     r: &mut Reader,
     pool: &mut NamePool,
@@ -387,7 +388,7 @@ fn read_body(
     ensures grows { Grows r.old.graph r.new.graph }
     ensures keeps { KeepsAggregates r.old.graph r.new.graph }
     ensures env { outside (env_in r.new) ≡ outside (env_in r.old) }
-    ensures pool { OnOk result (PoolGrows pool.old pool.new) }
+    ensures pool { KeepsNames pool.old pool.new }
 {
     let first = param_locals(r, pool, ty, params)?;
     let (locals, rest) = read_locals(r, pool, left, first, lines)?;
@@ -441,7 +442,7 @@ fn behind_first<'w, 'a>(names: &'w [&'a [u8]]) -> &'w [&'a [u8]]
 }
 
 /// The body of a function that is declared so, if it stands next; and how many lines it has within.
-#[tactic(auto, using(crate::proofs::FunctionLaws::own_step, crate::proofs::FunctionLaws::own_refused, crate::proofs::FunctionLaws::not_own, type_graph::proofs::GrowthLaws::grows_none, crate::proofs::BodyLaws::pool_same, cil_text::proofs::PartsAdded::adds_none))]
+#[tactic(auto, using(crate::proofs::FunctionLaws::own_step, crate::proofs::FunctionLaws::own_refused, crate::proofs::FunctionLaws::not_own, type_graph::proofs::GrowthLaws::grows_none, crate::proofs::PoolLaws::pool_same, cil_text::proofs::PartsAdded::adds_none))]
 fn own_body(
     r: &mut Reader,
     pool: &mut NamePool,
@@ -457,7 +458,7 @@ fn own_body(
     ensures grows { Grows r.old.graph r.new.graph }
     ensures keeps { KeepsAggregates r.old.graph r.new.graph }
     ensures env { outside (env_in r.new) ≡ outside (env_in r.old) }
-    ensures pool { OnOk result (PoolGrows pool.old pool.new) }
+    ensures pool { KeepsNames pool.old pool.new }
 {
     if !begins_with(header, declaration.name) {
         return Ok(None);
@@ -470,7 +471,7 @@ fn own_body(
 }
 
 /// Gives declared globals the bodies that stand next; the lines behind those.
-#[tactic(auto, using(crate::proofs::GlobalLaws::declared_there, crate::proofs::GlobalLaws::declared_later, type_graph::proofs::GrowthLaws::grows_twice, crate::proofs::BodyLaws::pool_same, crate::proofs::BodyLaws::pool_twice, crate::proofs::FunctionLaws::bodies_none, crate::proofs::FunctionLaws::bodies_some, crate::proofs::FunctionLaws::bodies_fail, crate::proofs::FunctionLaws::bodies_end, crate::proofs::FunctionLaws::globals_later, crate::proofs::FunctionLaws::globals_set, cil_text::proofs::PartsAdded::adds_none, crate::proofs::AddedBodies::all_add))]
+#[tactic(auto, using(crate::proofs::GlobalLaws::declared_there, crate::proofs::GlobalLaws::declared_later, type_graph::proofs::GrowthLaws::grows_twice, crate::proofs::PoolLaws::pool_same, crate::proofs::PoolLaws::pool_twice, crate::proofs::FunctionLaws::bodies_none, crate::proofs::FunctionLaws::bodies_some, crate::proofs::FunctionLaws::bodies_fail, crate::proofs::FunctionLaws::bodies_end, crate::proofs::FunctionLaws::globals_later, crate::proofs::FunctionLaws::globals_set, cil_text::proofs::PartsAdded::adds_none, crate::proofs::AddedBodies::all_add))]
 pub(crate) fn read_bodies<'w, 'a>(
     r: &mut Reader,
     pool: &mut NamePool,
@@ -486,7 +487,7 @@ pub(crate) fn read_bodies<'w, 'a>(
     ensures adds { IfOk result (λ rest. AddsParts r.old.graph r.new.graph (defined_types (globals_of r.new.graph.nodes pool.new globals.new))) }
     ensures grows { Grows r.old.graph r.new.graph }
     ensures keeps { KeepsAggregates r.old.graph r.new.graph }
-    ensures pool { OnOk result (PoolGrows pool.old pool.new) }
+    ensures pool { KeepsNames pool.old pool.new }
 {
     let mut rest = lines;
     let mut header = next_header(r.alloc(), rest)?;

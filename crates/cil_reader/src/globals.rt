@@ -11,7 +11,8 @@ ghost use Rattle.cil_text.specs.TypesOf.{AddsParts};
 ghost use Rattle.cil_reader.specs.Said.{all_said, all_lines};
 ghost use Rattle.cil_reader.specs.Gives.{Gives};
 ghost use Rattle.cil_reader.specs.Settings.{env_in, locals_of};
-ghost use Rattle.cil_reader.specs.Globals.{EachDeclared, declaration_of, declarations_of, types_declared, declaration_behind, named_apart, next_definition, behind_line, global_with, defined_line, one_global, objects_left, PoolGrows, DefinitionFlat, IsGlobal, GlobalKnown, globals_of, GlobalsKnown, WaitingKnown};
+ghost use Rattle.cil_reader.specs.Pools.{KeepsNames};
+ghost use Rattle.cil_reader.specs.Globals.{EachDeclared, declaration_of, declarations_of, types_declared, declaration_behind, named_apart, next_definition, behind_line, global_with, defined_line, one_global, objects_left, DefinitionFlat, IsGlobal, GlobalKnown, globals_of, GlobalsKnown, WaitingKnown};
 
 use crate::images::read_image;
 use crate::instructions::is_end;
@@ -280,11 +281,11 @@ pub(crate) fn behind_line<'w, 'a>(lines: &'w [Vec<Word<'a>>]) -> &'w [Vec<Word<'
 }
 
 /// A global with what it is.
-#[tactic(auto, using(crate::proofs::GlobalLaws::pool_same, crate::proofs::GlobalLaws::pool_interned, crate::proofs::GlobalLaws::name_known))]
+#[tactic(auto, using(crate::proofs::PoolLaws::pool_same, crate::proofs::PoolLaws::pool_asked, crate::proofs::PoolLaws::name_known))]
 fn global(pool: &mut NamePool, x: &Declaration, def: GlobalDef) -> Result<GlobalDecl, Stop>
     ensures gives { Gives (λ y. y.ty) result (Some x.now.ty) }
     ensures is { IfOk result (IsGlobal pool.new x.now def) }
-    ensures pool { PoolGrows pool.old pool.new }
+    ensures pool { KeepsNames pool.old pool.new }
 {
     let name = pool.intern(x.name)?;
     Ok(GlobalDecl {
@@ -301,13 +302,13 @@ fn plain_global(r: &Reader, pool: &mut NamePool, x: &Declaration) -> Result<Glob
     requires { x.now.ty.0 < length r.now.graph.nodes }
     ensures gives { Gives (λ y. global_of r.now.graph.nodes pool.new y) result (Some (global_with (declaration_of r.now.graph.nodes x.now) (default_of (declaration_of r.now.graph.nodes x.now)))) }
     ensures known { IfOk result (GlobalKnown r.now.graph pool.new) }
-    ensures pool { PoolGrows pool.old pool.new }
+    ensures pool { KeepsNames pool.old pool.new }
 {
     global(pool, x, default_of(r, x))
 }
 
 /// A global that the next line defines.
-#[tactic(auto, using(crate::proofs::GlobalLaws::defined_seen, crate::proofs::GlobalLaws::defined_known, crate::proofs::GlobalLaws::defined_fails, crate::proofs::GlobalLaws::pool_same))]
+#[tactic(auto, using(crate::proofs::GlobalLaws::defined_seen, crate::proofs::GlobalLaws::defined_known, crate::proofs::GlobalLaws::defined_fails, crate::proofs::PoolLaws::pool_same))]
 fn defined_global(
     r: &mut Reader,
     pool: &mut NamePool,
@@ -318,7 +319,7 @@ fn defined_global(
     requires { x.now.ty.0 < length r.old.graph.nodes }
     ensures gives { Gives (λ y. global_of r.new.graph.nodes pool.new y) result (option_map (global_with (declaration_of r.old.graph.nodes x.now)) (next_definition (env_in r.old) left (declaration_of r.old.graph.nodes x.now) (all_lines lines.now))) }
     ensures known { IfOk result (GlobalKnown r.new.graph pool.new) }
-    ensures pool { PoolGrows pool.old pool.new }
+    ensures pool { KeepsNames pool.old pool.new }
     ensures same { OnOk result (r.new.graph.nodes ≡ r.old.graph.nodes) }
     ensures grows { Grows r.old.graph r.new.graph }
     ensures keeps { KeepsAggregates r.old.graph r.new.graph }
@@ -351,7 +352,7 @@ fn own_global<'w, 'a>(
     ensures gives { Gives (λ y. (global_of r.new.graph.nodes pool.new y.0, all_lines y.1.lines.now)) result (option_map (defined_line (declaration_of r.old.graph.nodes x.now) (all_lines lines.now)) (next_definition (env_in r.old) left (declaration_of r.old.graph.nodes x.now) (all_lines lines.now))) }
     ensures known { IfOk result (λ y. GlobalKnown r.new.graph pool.new y.0) }
     ensures waiting { IfOk result (λ y. WaitingKnown y.1) }
-    ensures pool { PoolGrows pool.old pool.new }
+    ensures pool { KeepsNames pool.old pool.new }
     ensures same { OnOk result (r.new.graph.nodes ≡ r.old.graph.nodes) }
     ensures grows { Grows r.old.graph r.new.graph }
     ensures keeps { KeepsAggregates r.old.graph r.new.graph }
@@ -376,7 +377,7 @@ fn next_global<'w, 'a>(
     ensures gives { Gives (λ y. (global_of r.new.graph.nodes pool.new y.0, all_lines y.1.lines.now)) result (one_global (env_in r.old) left (declaration_of r.old.graph.nodes x.now) (all_lines waiting.entry.lines.now)) }
     ensures known { IfOk result (λ y. GlobalKnown r.new.graph pool.new y.0) }
     ensures waiting { IfOk result (λ y. WaitingKnown y.1) }
-    ensures pool { PoolGrows pool.old pool.new }
+    ensures pool { KeepsNames pool.old pool.new }
     ensures same { OnOk result (r.new.graph.nodes ≡ r.old.graph.nodes) }
     ensures grows { Grows r.old.graph r.new.graph }
     ensures keeps { KeepsAggregates r.old.graph r.new.graph }
@@ -389,7 +390,7 @@ fn next_global<'w, 'a>(
 }
 
 /// The declared globals, each with the line that stands next, if it is its own; and the lines behind those.
-#[tactic(auto, using(crate::proofs::GlobalLaws::declared_there, crate::proofs::GlobalLaws::declared_later, crate::proofs::GlobalLaws::no_globals, crate::proofs::GlobalLaws::globals_pushed, crate::proofs::GlobalLaws::objects_start, crate::proofs::GlobalLaws::objects_next, crate::proofs::GlobalLaws::objects_fail, crate::proofs::GlobalLaws::objects_end, crate::proofs::GlobalLaws::pool_same, crate::proofs::GlobalLaws::pool_twice, crate::proofs::GlobalLaws::keeps_twice, type_graph::proofs::GrowthLaws::grows_twice))]
+#[tactic(auto, using(crate::proofs::GlobalLaws::declared_there, crate::proofs::GlobalLaws::declared_later, crate::proofs::GlobalLaws::no_globals, crate::proofs::GlobalLaws::globals_pushed, crate::proofs::GlobalLaws::objects_start, crate::proofs::GlobalLaws::objects_next, crate::proofs::GlobalLaws::objects_fail, crate::proofs::GlobalLaws::objects_end, crate::proofs::PoolLaws::pool_same, crate::proofs::PoolLaws::pool_twice, crate::proofs::GlobalLaws::keeps_twice, type_graph::proofs::GrowthLaws::grows_twice))]
 pub(crate) fn read_objects<'w, 'a>(
     r: &mut Reader,
     pool: &mut NamePool,
@@ -401,7 +402,7 @@ pub(crate) fn read_objects<'w, 'a>(
     ensures gives { Gives (λ x. (globals_of r.new.graph.nodes pool.new x.0.items, all_lines x.1.now)) result (objects_left (env_in r.old) left (declarations_of r.old.graph.nodes declarations.now) (all_lines lines.now)) }
     ensures known { IfOk result (λ x. GlobalsKnown r.new.graph pool.new x.0.items) }
     ensures each { IfOk result (λ x. length x.0.items ≡ length declarations.now) }
-    ensures pool { PoolGrows pool.old pool.new }
+    ensures pool { KeepsNames pool.old pool.new }
     ensures same { OnOk result (r.new.graph.nodes ≡ r.old.graph.nodes) }
     ensures grows { Grows r.old.graph r.new.graph }
     ensures keeps { KeepsAggregates r.old.graph r.new.graph }

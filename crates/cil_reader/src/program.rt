@@ -1,4 +1,4 @@
-ghost use Rattle.std.specs.Prelude.{◌≡◌, ◌++◌, true, false, [], length, IfOk, IfErr, OnOk};
+ghost use Rattle.std.specs.Prelude.{◌≡◌, ◌++◌, true, false, [], length, IfOk, IfErr};
 ghost use Rattle.std.specs.List.{list_all};
 ghost use Rattle.type_graph.specs.Arena.{IsArena};
 ghost use Rattle.type_graph.specs.Growth.{Grows, KeepsAggregates};
@@ -11,8 +11,9 @@ ghost use Rattle.cil_reader.specs.declared.stop.Stop.TheVariants.{WantOfMemory};
 ghost use Rattle.cil_reader.specs.Said.{all_lines};
 ghost use Rattle.cil_reader.specs.Gives.{Gives};
 ghost use Rattle.cil_reader.specs.Settings.{env_in};
+ghost use Rattle.cil_reader.specs.Pools.{KeepsNames};
 ghost use Rattle.cil_reader.specs.Aggregates.{aggregates_in};
-ghost use Rattle.cil_reader.specs.Globals.{EachDeclared, PoolGrows, declarations_of, globals_of};
+ghost use Rattle.cil_reader.specs.Globals.{EachDeclared, declarations_of, globals_of};
 ghost use Rattle.cil_reader.specs.Defined.{defined_read, globals_read, Refuses};
 ghost use Rattle.cil_reader.specs.Stops.{StopsAt};
 
@@ -65,7 +66,7 @@ fn nothing_known(alloc: Global) -> Known
 }
 
 /// The globals that are declared so, with the objects and the bodies that lines define; no other line stands there.
-#[tactic(auto, using(type_graph::proofs::GrowthLaws::grows_twice, crate::proofs::BodyLaws::pool_twice, crate::proofs::GlobalLaws::declared_later, crate::proofs::ProgramLaws::defined_fails))]
+#[tactic(auto, using(type_graph::proofs::GrowthLaws::grows_twice, crate::proofs::PoolLaws::pool_twice, crate::proofs::GlobalLaws::declared_later, crate::proofs::ProgramLaws::defined_fails))]
 fn define_globals(
     r: &mut Reader,
     pool: &mut NamePool,
@@ -77,7 +78,7 @@ fn define_globals(
     ensures gives { Gives (λ xs. globals_of r.new.graph.nodes pool.new xs.items) result (defined_read (env_in r.old) left (declarations_of r.old.graph.nodes declarations.now) (all_lines lines.now)) }
     ensures grows { Grows r.old.graph r.new.graph }
     ensures keeps { KeepsAggregates r.old.graph r.new.graph }
-    ensures pool { OnOk result (PoolGrows pool.old pool.new) }
+    ensures pool { KeepsNames pool.old pool.new }
     ensures adds { IfOk result (λ xs. AddsParts r.old.graph r.new.graph (defined_types (globals_of r.new.graph.nodes pool.new xs.items))) }
 {
     let (mut globals, rest) = read_objects(r, pool, left, declarations, lines)?;
@@ -89,7 +90,7 @@ fn define_globals(
 }
 
 /// The globals of a program, to the end of its text.
-#[tactic(auto, using(type_graph::proofs::GrowthLaws::grows_twice, crate::proofs::GlobalLaws::declared_later, crate::proofs::ProgramLaws::globals_give, crate::proofs::ProgramLaws::globals_alike, crate::proofs::ProgramLaws::globals_fail, crate::proofs::NeededLaws::globals_added))]
+#[tactic(auto, using(type_graph::proofs::GrowthLaws::grows_twice, crate::proofs::GlobalLaws::declared_later, crate::proofs::ProgramLaws::globals_give, crate::proofs::ProgramLaws::globals_alike, crate::proofs::ProgramLaws::globals_fail, crate::proofs::NeededLaws::globals_added, crate::proofs::PoolLaws::pool_same))]
 fn read_globals(
     r: &mut Reader,
     pool: &mut NamePool,
@@ -99,7 +100,7 @@ fn read_globals(
     ensures gives { Gives (λ xs. globals_of r.new.graph.nodes pool.new xs.items) result (globals_read (env_in r.old) left (all_lines lines.now)) }
     ensures grows { Grows r.old.graph r.new.graph }
     ensures keeps { KeepsAggregates r.old.graph r.new.graph }
-    ensures pool { OnOk result (PoolGrows pool.old pool.new) }
+    ensures pool { KeepsNames pool.old pool.new }
     ensures adds { IfOk result (λ xs. AddsParts r.old.graph r.new.graph (declared_types (globals_of r.new.graph.nodes pool.new xs.items) ++ defined_types (globals_of r.new.graph.nodes pool.new xs.items))) }
 {
     let (declarations, rest) = read_declarations(r, left, lines)?;
@@ -109,12 +110,13 @@ fn read_globals(
 }
 
 /// The tree that the lines of a text say, whether or not it is a program's and the text is its own.
-#[tactic(auto, using(crate::proofs::MemberLaws::new_known, crate::proofs::ProgramLaws::blank, crate::proofs::ProgramLaws::aggregates_stay, crate::proofs::NeededLaws::tree_needed, crate::proofs::NeededLaws::members_stay))]
+#[tactic(auto, using(crate::proofs::MemberLaws::new_known, crate::proofs::ProgramLaws::blank, crate::proofs::ProgramLaws::aggregates_stay, crate::proofs::NeededLaws::tree_needed, crate::proofs::NeededLaws::members_stay, crate::proofs::PoolLaws::pool_same, crate::proofs::PoolLaws::pool_twice))]
 fn read_tree(alloc: Global, bytes: &[u8], pool: &mut NamePool) -> Result<CilUnit, Stop>
     ensures gives { Gives (λ u. (aggregates_in u.graph pool.new, globals_of u.graph.nodes pool.new u.globals.items)) result (read_text 4294967295 bytes.now) }
     ensures needed { IfOk result (λ u. HasNeeded (program_of pool.new u)) }
     ensures unqualified { IfOk result (λ u. list_all members_are_unqualified u.graph.aggs ≡ true) }
     ensures arena { IfOk result (λ u. IsArena u.graph) }
+    ensures pool { KeepsNames pool.old pool.new }
 {
     let lines = lines_of(alloc, bytes)?;
     let mut r = Reader::new(TypeGraph::new(alloc), nothing_known(alloc));
@@ -147,6 +149,7 @@ fn is_text(unit: &CilUnit, names: &NamePool, bytes: &[u8]) -> Result<bool, Stop>
 fn read_text(alloc: Global, bytes: &[u8], pool: &mut NamePool) -> Result<CilUnit, Stop>
     ensures text { IfOk result (λ u. IsTextOf bytes.now (program_of pool.new u)) }
     ensures refused { Refuses bytes.now result }
+    ensures pool { KeepsNames pool.old pool.new }
 {
     let unit = read_tree(alloc, bytes, pool)?;
     if !is_text(&unit, pool, bytes)? {
@@ -159,10 +162,12 @@ fn read_text(alloc: Global, bytes: &[u8], pool: &mut NamePool) -> Result<CilUnit
 ///
 /// NotCil comes exactly for bytes that are the text of no well-formed program, where memory suffices; it names the
 /// place of the first line that is not laid out as a text has its lines, or the end. Memory comes only for want of
-/// memory. The pool gets the names that stand in the text.
+/// memory. The pool gets the names that stand in the text; those that it had keep their numbers, whatever is
+/// answered.
 pub fn read(alloc: Global, bytes: &[u8], pool: &mut NamePool) -> Result<CilUnit, ReadStop>
     ensures text { IfOk result (λ u. IsTextOf bytes.now (program_of pool.new u)) }
     ensures place { StopsAt bytes.now result }
+    ensures pool { KeepsNames pool.old pool.new }
 {
     match read_text(alloc, bytes, pool) {
         Ok(unit) => Ok(unit),

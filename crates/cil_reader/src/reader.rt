@@ -17,9 +17,10 @@ ghost use Rattle.cil_reader.specs.Gives.{Gives};
 ghost use Rattle.cil_reader.specs.Layers.{named_of};
 ghost use Rattle.cil_reader.specs.Settings.{type_in, TypeBelow, env_in, locals_of, with_globals, with_locals, outside};
 ghost use Rattle.cil_reader.specs.Parts.{HostKnown};
+ghost use Rattle.cil_reader.specs.Pools.{KeepsNames};
 ghost use Rattle.cil_reader.specs.Images.{scalar_of};
 ghost use Rattle.cil_reader.specs.Fresh.{with_new};
-ghost use Rattle.cil_reader.specs.Members.{AreThere, KeepsNames};
+ghost use Rattle.cil_reader.specs.Members.{AreThere};
 ghost use Rattle.cil_reader.specs.Aggregates.{AddsTag, completed, with_fields, is_number};
 
 use crate::declarators::{Named, read_decl};
@@ -257,7 +258,7 @@ impl Reader {
     }
 
     /// Adds an incomplete aggregate with a tag of its own.
-    #[tactic(auto, using(crate::proofs::SettingsLaws::known_kept, crate::proofs::SettingsLaws::setting_tags, crate::proofs::MemberLaws::tag_known, crate::proofs::MemberLaws::tag_same, crate::proofs::MemberLaws::keeps_interned, crate::proofs::MemberLaws::keeps_same, crate::proofs::AggregateLaws::adds_tag, crate::proofs::AggregateLaws::tag_members))]
+    #[tactic(auto, using(crate::proofs::SettingsLaws::known_kept, crate::proofs::SettingsLaws::setting_tags, crate::proofs::MemberLaws::tag_known, crate::proofs::MemberLaws::tag_same, crate::proofs::PoolLaws::pool_asked, crate::proofs::PoolLaws::pool_by, crate::proofs::AggregateLaws::adds_tag, crate::proofs::AggregateLaws::tag_members))]
     pub(crate) fn add_aggregate(
         &mut self,
         pool: &mut NamePool,

@@ -1,6 +1,7 @@
 use Rattle.std.proofs.Common.{◌≡◌, [], length}
 use Rattle.cil_reader.specs.Said.{all_lines}
-use Rattle.cil_reader.specs.Members.{AreThere, KeepsNames, MembersKnown, members_in, enumerators_from, enumerators_on}
+use Rattle.cil_reader.specs.Pools.{KeepsNames}
+use Rattle.cil_reader.specs.Members.{AreThere, MembersKnown, members_in, enumerators_from, enumerators_on}
 use Rattle.cil_reader.proofs.aggregates.read_enumerators.Given as goal
 
 abbrev pub invariant-loop-more : goal.invariant-loop-more

@@ -5,8 +5,9 @@ use Rattle.cil_reader.specs.Gives.{Fails}
 use Rattle.cil_reader.specs.Said.{all_lines}
 use Rattle.cil_reader.specs.Settings.{env_in}
 use Rattle.cil_reader.specs.Members.{members_in, members_from, member_more, next_line}
-use Rattle.cil_reader.proofs.MemberLaws.{keeps_twice, no_fields, members_next, members_fail, stops_so}
+use Rattle.cil_reader.proofs.MemberLaws.{no_fields, members_next, members_fail, stops_so}
 use Rattle.cil_reader.proofs.AddedMembers.{fields_on}
+use Rattle.cil_reader.proofs.PoolLaws.{pool_twice}
 use Rattle.cil_reader.proofs.aggregates.read_members.Goals as goal
 
 pub loop-more-preserved : goal.loop-more-preserved
@@ -15,7 +16,7 @@ loop-more-preserved c = (
   grows_twice c.args.r.now.graph c.loop-more.r.graph c.next_member-in-loop-more.new.r.graph c.loop-more.invariant.1 c.next_member-in-loop-more.ensures.grows,
   (c.next_member-in-loop-more.ensures.keeps.0 ∙ c.loop-more.invariant.2.0, c.next_member-in-loop-more.ensures.keeps.1 ∙ c.loop-more.invariant.2.1),
   c.next_member-in-loop-more.ensures.env ∙ c.loop-more.invariant.3,
-  keeps_twice c.args.pool.now c.loop-more.pool c.next_member-in-loop-more.new.pool c.loop-more.invariant.4 c.next_member-in-loop-more.ensures.pool,
+  pool_twice c.args.pool.now c.loop-more.pool c.next_member-in-loop-more.new.pool c.loop-more.invariant.4 c.next_member-in-loop-more.ensures.pool,
   members_next c.args.r.now c.loop-more.r c.args.left c.loop-more.pool c.loop-more.fields.members.items c.loop-more.fields.names c.loop-more.more c.in_ok-again.again
       (members_in c.next_member-in-loop-more.new.r.graph.nodes c.next_member-in-loop-more.new.pool c.in_ok-again.all.members.items) (all_lines c.loop-more.rest.now) (all_lines c.in_ok-again.behind.now)
       (members_from (read_member (env_in c.args.r.now).tags c.args.left) [] (all_lines c.args.lines.now)) c.loop-more.invariant.0 c.loop-more.invariant.3 c.loop-more-test.true c.in_ok-again.ensures.gives c.loop-more.invariant.5,

@@ -4,8 +4,9 @@ use Rattle.cil_text.specs.ReadAggregates.{read_member}
 use Rattle.cil_reader.specs.Said.{all_lines}
 use Rattle.cil_text.specs.TypesOf.{AddsParts}
 use Rattle.cil_reader.specs.Settings.{env_in}
+use Rattle.cil_reader.specs.Pools.{KeepsNames}
 use Rattle.cil_reader.specs.Aggregates.{types_at}
-use Rattle.cil_reader.specs.Members.{KeepsNames, FieldsKnown, members_in, members_from, members_on}
+use Rattle.cil_reader.specs.Members.{FieldsKnown, members_in, members_from, members_on}
 use Rattle.cil_reader.proofs.aggregates.read_members.Given as goal
 
 abbrev pub invariant-loop-more : goal.invariant-loop-more

@@ -6,6 +6,7 @@ use Rattle.cil_reader.specs.Settings.{env_in}
 use Rattle.cil_reader.specs.Aggregates.{aggregates_in, tag_at, one_struct, tagged_structs}
 use Rattle.cil_reader.proofs.MemberLaws.{stops_so}
 use Rattle.cil_reader.proofs.AggregateLaws.{count_in, structs_open, structs_plain, structs_next, structs_fail, structs_end}
+use Rattle.cil_reader.proofs.PoolLaws.{pool_twice}
 use Rattle.cil_reader.proofs.AddedMembers.{added_twice}
 use Rattle.cil_reader.proofs.aggregates.read_structs.Goals as goal
 
@@ -23,6 +24,7 @@ loop-a-preserved c =
       structs_next c.loop-a.r c.read_struct.new.r c.loop-a.pool c.read_struct.new.pool c.args.left c.loop-a.a (all_lines c.loop-a.rest.now) (all_lines c.in_ok-rest-2.rest.now) whole there c.in_ok-rest-2.ensures.tags c.in_ok-rest-2.ensures.gives
           c.in_ok-rest-2.ensures.rest c.loop-a.invariant.4,
       added_twice c.args.r.now.graph c.loop-a.r.graph c.read_struct.new.r.graph c.args.pool.now c.loop-a.pool c.read_struct.new.pool c.loop-a.invariant.5 c.in_ok-rest-2.ensures.adds,
+      pool_twice c.args.pool.now c.loop-a.pool c.read_struct.new.pool c.loop-a.invariant.6 c.read_struct.ensures.pool,
     )
 
 pub returns-in_err-rest-2-clause-gives : goal.returns-in_err-rest-2-clause-gives

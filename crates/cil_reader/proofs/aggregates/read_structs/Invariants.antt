@@ -2,6 +2,7 @@ use Rattle.std.proofs.Common.{◌≡◌, length, map, take, drop}
 use Rattle.cil_text.specs.ReadAggregates.{read_member}
 use Rattle.cil_reader.specs.Said.{all_lines}
 use Rattle.cil_reader.specs.Settings.{env_in}
+use Rattle.cil_reader.specs.Pools.{KeepsNames}
 use Rattle.cil_reader.specs.Aggregates.{Holds, AggregatesAdded, AreOpen, ArePlain, aggregates_in, tag_back, structs_behind, tagged_structs}
 use Rattle.cil_reader.proofs.aggregates.read_structs.Given as goal
 
@@ -11,3 +12,4 @@ invariant-loop-a l =
     Holds l.r l.pool l.a × AreOpen (drop l.a xs) × ArePlain (drop l.a xs) × (l.count ≡ length l.r.graph.aggs)
     × (structs_behind (read_member (env_in l.r).tags l.left) (take l.a xs) (map tag_back (drop l.a xs)) (all_lines l.rest) ≡ tagged_structs l.left l.first (aggregates_in l.fn.r.graph l.fn.pool) (all_lines l.lines))
     × AggregatesAdded l.fn.r.graph l.r.graph l.fn.pool l.pool
+    × KeepsNames l.fn.pool l.pool

@@ -5,9 +5,10 @@ use Rattle.cil_text.specs.ReadTypes.{read_decl}
 use Rattle.cil_reader.specs.Said.{all_said}
 use Rattle.cil_reader.specs.Instructions.{is_end}
 use Rattle.cil_reader.specs.Settings.{env_in, locals_of}
-use Rattle.cil_reader.proofs.BodyLaws.{pool_same, locals_same, locals_later}
+use Rattle.cil_reader.proofs.BodyLaws.{locals_same, locals_later}
 use Rattle.cil_reader.proofs.FunctionLaws.{one_taken}
 use Rattle.cil_reader.proofs.AddedBodies.{local_adds}
+use Rattle.cil_reader.proofs.PoolLaws.{pool_same}
 use Rattle.cil_reader.proofs.bodies.one_local.Goals as goal
 
 pub with_local-requires-clause-known : goal.with_local-requires-clause-known

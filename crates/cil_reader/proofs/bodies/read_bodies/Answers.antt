@@ -11,9 +11,9 @@ use Rattle.cil_reader.specs.Settings.{env_in, outside}
 use Rattle.cil_reader.specs.Globals.{globals_of, behind_line}
 use Rattle.cil_reader.specs.Bodies.{texts_of, next_names, BodyKnown}
 use Rattle.cil_reader.proofs.GlobalLaws.{keeps_twice}
-use Rattle.cil_reader.proofs.BodyLaws.{pool_twice}
 use Rattle.cil_reader.proofs.FunctionLaws.{globals_later, none_all, some_all, some_known, fail_all, bodies_end, bodied_global, given_back}
 use Rattle.cil_reader.proofs.AddedBodies.{none_adds, some_adds}
+use Rattle.cil_reader.proofs.PoolLaws.{pool_twice}
 use Rattle.cil_reader.proofs.bodies.read_bodies.Goals.{in-None, in-Some+in_ok-header-in-Some}
 use Rattle.cil_reader.proofs.bodies.read_bodies.Goals as goal
 
@@ -28,7 +28,7 @@ loop-i-preserved c =
     let less : c.loop-i.i < length c.args.declarations.now = omega arith in
     let grows = grows_twice e g h inv.0 c.own_body.ensures.grows in
     let keeps = keeps_twice e g h inv.1 c.own_body.ensures.keeps in
-    let pool = pool_twice c.args.pool.now p q inv.3 c.in_ok-own_body.ensures.pool in
+    let pool = pool_twice c.args.pool.now p q inv.3 c.own_body.ensures.pool in
     let lent : c.deref.result.now ≡ c.loop-i.header.items = search rules in
     let names = ap texts_of lent ∙ inv.6 in
     elim c.match-branch-3.branch [
@@ -39,11 +39,11 @@ loop-i-preserved c =
             c.own_body.ensures.env ∙ inv.2,
             pool,
             inv.4,
-            globals_later g h p q c.loop-i.globals c.own_body.ensures.grows c.in_ok-own_body.ensures.pool inv.5,
+            globals_later g h p q c.loop-i.globals c.own_body.ensures.grows c.own_body.ensures.pool inv.5,
             inv.6,
             none_all e g h p q (outside (env_in c.args.r.now)) (outside (env_in c.loop-i.r)) c.args.left c.args.declarations.now c.loop-i.i _ c.loop-i.globals (all_lines c.loop-i.rest.now) (texts_of c.deref.result.now) _ _ c.in_ok-own_body.field-0 less inv.4 inv.0 c.requires.there
-                c.own_body.ensures.grows c.in_ok-own_body.ensures.pool inv.5 names inv.2 w.in-None.is c.in_ok-own_body.ensures.gives inv.7,
-            none_adds e g h p q c.loop-i.globals c.loop-i.i c.in_ok-own_body.field-0 c.own_body.ensures.grows c.in_ok-own_body.ensures.pool inv.5 w.in-None.is inv.8 c.in_ok-own_body.ensures.adds,
+                c.own_body.ensures.grows c.own_body.ensures.pool inv.5 names inv.2 w.in-None.is c.in_ok-own_body.ensures.gives inv.7,
+            none_adds e g h p q c.loop-i.globals c.loop-i.i c.in_ok-own_body.field-0 c.own_body.ensures.grows c.own_body.ensures.pool inv.5 w.in-None.is inv.8 c.in_ok-own_body.ensures.adds,
           )
       | in-Some+in_ok-header-in-Some w ↦
           let y = w.index-globals-i.result in
@@ -60,13 +60,13 @@ loop-i-preserved c =
             c.own_body.ensures.env ∙ inv.2,
             pool,
             c.match-branch-3.auto.globals ∙ inv.4,
-            some_known g h p q c.loop-i.globals c.match-branch-3.globals c.loop-i.i y b c.own_body.ensures.grows c.in_ok-own_body.ensures.pool inv.5 known globals,
+            some_known g h p q c.loop-i.globals c.match-branch-3.globals c.loop-i.i y b c.own_body.ensures.grows c.own_body.ensures.pool inv.5 known globals,
             ap (λ (v : Vec (Bor (List ℕ)) Global). texts_of v.items) w.header-is ∙ given_back (next_names (all_lines w.behind_line-rest.result.now)) (texts_of w.in_ok-header-in-Some.header.items) w.in_ok-header-in-Some.ensures
                 ∙ ap (λ (v : Bor (List (Vec Word Global))). next_names (all_lines v.now)) (sym w.rest-is),
             some_all e g h p q (outside (env_in c.args.r.now)) (outside (env_in c.loop-i.r)) c.args.left c.args.declarations.now c.loop-i.i _ c.loop-i.globals c.match-branch-3.globals y b count (all_lines c.loop-i.rest.now) (all_lines c.match-branch-3.rest.now) (texts_of c.deref.result.now) _
-                (λ k. behind_line (all_lines (drop k (drop 1 c.loop-i.rest.now)))) c.in_ok-own_body.field-0 less inv.4 inv.0 c.requires.there c.own_body.ensures.grows c.in_ok-own_body.ensures.pool inv.5 names inv.2 is c.in_ok-own_body.ensures.gives globals
+                (λ k. behind_line (all_lines (drop k (drop 1 c.loop-i.rest.now)))) c.in_ok-own_body.field-0 less inv.4 inv.0 c.requires.there c.own_body.ensures.grows c.own_body.ensures.pool inv.5 names inv.2 is c.in_ok-own_body.ensures.gives globals
                 (ap (λ (v : Bor (List (Vec Word Global))). all_lines v.now) w.rest-is ∙ later) inv.7,
-            some_adds e g h p q c.loop-i.globals c.match-branch-3.globals c.loop-i.i y b count c.in_ok-own_body.field-0 (omega (arith, less, inv.4)) c.own_body.ensures.grows c.in_ok-own_body.ensures.pool inv.5 is globals inv.8 c.in_ok-own_body.ensures.adds,
+            some_adds e g h p q c.loop-i.globals c.match-branch-3.globals c.loop-i.i y b count c.in_ok-own_body.field-0 (omega (arith, less, inv.4)) c.own_body.ensures.grows c.own_body.ensures.pool inv.5 is globals inv.8 c.in_ok-own_body.ensures.adds,
           )
     ]
 

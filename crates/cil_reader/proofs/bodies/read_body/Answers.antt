@@ -13,9 +13,10 @@ use Rattle.cil_text.specs.TypesOf.{AddsParts, types_in_stmts}
 use Rattle.cil_reader.specs.Said.{all_lines}
 use Rattle.cil_reader.specs.Settings.{env_in, locals_of, with_locals, outside}
 use Rattle.cil_reader.specs.Bodies.{texts_of, whole_stmts}
-use Rattle.cil_reader.proofs.BodyLaws.{pool_twice, texts_later}
+use Rattle.cil_reader.proofs.BodyLaws.{texts_later}
 use Rattle.cil_reader.proofs.FunctionLaws.{body_gives, body_labels_fail, body_seen, body_known, fails_by}
 use Rattle.cil_reader.proofs.AddedBodies.{body_adds}
+use Rattle.cil_reader.proofs.PoolLaws.{pool_twice}
 use Rattle.cil_reader.proofs.bodies.read_body.Goals as goal
 
 pub returns-clause-gives : goal.returns-clause-gives
@@ -26,14 +27,14 @@ returns-clause-gives c =
     body_gives (env_in c.args.r.now) c.args.left (shape c.args.r.now.graph.nodes c.args.ty.0) (texts_of c.args.params.now) c.in_ok-labels.labels.texts (all_lines c.args.lines.now) (all_lines c.in_ok-locals.rest.now)
     (locals_of c.args.r.now.graph.nodes c.in_ok-first.first.names) ls (stmts_of c.read_stmts.new.r.graph.nodes c.in_ok-stmts.stmts.items) c.in_ok-first.ensures.gives c.in_ok-locals.ensures.gives c.in_ok-labels.ensures.gives stmts
     ∙ body_seen c.read_locals.new.r.graph c.read_stmts.new.r.graph c.read_locals.new.pool c.numbers_of.new.pool (record { params = c.in_ok-params.params; locals = c.in_ok-locals.locals.all; labels = c.in_ok-labels.labels.names; stmts = c.in_ok-stmts.stmts }) c.in_ok-locals.locals (texts_of c.args.params.now) c.in_ok-labels.labels.texts ls (stmts_of c.read_stmts.new.r.graph.nodes c.in_ok-stmts.stmts.items)
-    (subst (λ (k : Graph). Grows k c.read_stmts.new.r.graph) c.set_locals.ensures.graph c.read_stmts.ensures.grows) (pool_twice c.read_locals.new.pool c.labels_in.new.pool c.numbers_of.new.pool c.in_ok-labels.ensures.pool c.in_ok-params.ensures.pool)
-    c.in_ok-locals.ensures.known refl refl c.in_ok-params.ensures.known (texts_later c.labels_in.new.pool c.numbers_of.new.pool c.in_ok-labels.labels.names.items c.in_ok-labels.labels.texts c.in_ok-labels.ensures.known c.in_ok-params.ensures.pool) refl
+    (subst (λ (k : Graph). Grows k c.read_stmts.new.r.graph) c.set_locals.ensures.graph c.read_stmts.ensures.grows) (pool_twice c.read_locals.new.pool c.labels_in.new.pool c.numbers_of.new.pool c.labels_in.ensures.pool c.numbers_of.ensures.pool)
+    c.in_ok-locals.ensures.known refl refl c.in_ok-params.ensures.known (texts_later c.labels_in.new.pool c.numbers_of.new.pool c.in_ok-labels.labels.names.items c.in_ok-labels.labels.texts c.in_ok-labels.ensures.known c.numbers_of.ensures.pool) refl
 
 pub returns-clause-known : goal.returns-clause-known
 returns-clause-known c =
     body_known c.read_locals.new.r.graph c.read_stmts.new.r.graph c.read_locals.new.pool c.numbers_of.new.pool (record { params = c.in_ok-params.params; locals = c.in_ok-locals.locals.all; labels = c.in_ok-labels.labels.names; stmts = c.in_ok-stmts.stmts }) c.in_ok-locals.locals (texts_of c.args.params.now) c.in_ok-labels.labels.texts
-    (subst (λ (k : Graph). Grows k c.read_stmts.new.r.graph) c.set_locals.ensures.graph c.read_stmts.ensures.grows) (pool_twice c.read_locals.new.pool c.labels_in.new.pool c.numbers_of.new.pool c.in_ok-labels.ensures.pool c.in_ok-params.ensures.pool)
-    c.in_ok-locals.ensures.known refl c.in_ok-params.ensures.known (texts_later c.labels_in.new.pool c.numbers_of.new.pool c.in_ok-labels.labels.names.items c.in_ok-labels.labels.texts c.in_ok-labels.ensures.known c.in_ok-params.ensures.pool)
+    (subst (λ (k : Graph). Grows k c.read_stmts.new.r.graph) c.set_locals.ensures.graph c.read_stmts.ensures.grows) (pool_twice c.read_locals.new.pool c.labels_in.new.pool c.numbers_of.new.pool c.labels_in.ensures.pool c.numbers_of.ensures.pool)
+    c.in_ok-locals.ensures.known refl c.in_ok-params.ensures.known (texts_later c.labels_in.new.pool c.numbers_of.new.pool c.in_ok-labels.labels.names.items c.in_ok-labels.labels.texts c.in_ok-labels.ensures.known c.numbers_of.ensures.pool)
     c.in_ok-stmts.ensures.known
 
 pub returns-clause-env : goal.returns-clause-env
@@ -56,5 +57,5 @@ returns-clause-adds c =
     let e = c.read_locals.new.r.graph in
     let g = c.read_stmts.new.r.graph in
     body_adds c.args.r.now.graph e g c.read_locals.new.pool c.numbers_of.new.pool (record { params = c.in_ok-params.params; locals = c.in_ok-locals.locals.all; labels = c.in_ok-labels.labels.names; stmts = c.in_ok-stmts.stmts }) c.in_ok-locals.locals
-    (subst (λ (k : Graph). Grows k g) c.set_locals.ensures.graph c.read_stmts.ensures.grows) (pool_twice c.read_locals.new.pool c.labels_in.new.pool c.numbers_of.new.pool c.in_ok-labels.ensures.pool c.in_ok-params.ensures.pool) c.in_ok-locals.ensures.known refl
+    (subst (λ (k : Graph). Grows k g) c.set_locals.ensures.graph c.read_stmts.ensures.grows) (pool_twice c.read_locals.new.pool c.labels_in.new.pool c.numbers_of.new.pool c.labels_in.ensures.pool c.numbers_of.ensures.pool) c.in_ok-locals.ensures.known refl
     c.in_ok-locals.ensures.adds (subst (λ (k : Graph). AddsParts k g (types_in_stmts (stmts_of g.nodes c.in_ok-stmts.stmts.items))) c.set_locals.ensures.graph c.in_ok-stmts.ensures.adds)

@@ -8,9 +8,9 @@ use Rattle.cil_reader.specs.Said.{all_said, all_lines}
 use Rattle.cil_reader.specs.Settings.{env_in, locals_of}
 use Rattle.cil_reader.specs.Bodies.{local_behind, locals_behind}
 use Rattle.cil_reader.proofs.GlobalLaws.{keeps_twice}
-use Rattle.cil_reader.proofs.BodyLaws.{pool_twice}
 use Rattle.cil_reader.proofs.FunctionLaws.{locals_step, apart_next}
 use Rattle.cil_reader.proofs.AddedBodies.{locals_add}
+use Rattle.cil_reader.proofs.PoolLaws.{pool_twice}
 use Rattle.cil_reader.proofs.bodies.read_locals.Goals as goal
 
 pub loop-i-preserved : goal.loop-i-preserved
@@ -27,7 +27,7 @@ loop-i-preserved c =
       keeps_twice c.args.r.now.graph g h inv.1 c.one_local.ensures.keeps,
       c.one_local.ensures.env ∙ inv.2,
       c.in_ok-locals.ensures.known,
-      pool_twice c.args.pool.now c.loop-i.pool c.one_local.new.pool inv.4 c.in_ok-locals.ensures.pool,
+      pool_twice c.args.pool.now c.loop-i.pool c.one_local.new.pool inv.4 c.one_local.ensures.pool,
       apart_next ls ms (option_and_then local_of (read_decl (env_in c.loop-i.r).tags c.args.left (all_said (get_or c.args.lines.now c.loop-i.i c.index-lines-i.result).items))) inv.5 one,
       locals_step (env_in c.args.r.now) (env_in c.loop-i.r) c.args.left ls ms c.args.lines.now c.loop-i.i c.index-lines-i.result
           (option_map (locals_behind (locals_of c.args.r.now.graph.nodes c.args.params.names)) (read_locals (env_in c.args.r.now).tags c.args.left (all_lines c.args.lines.now))) less inv.2 base one inv.6,

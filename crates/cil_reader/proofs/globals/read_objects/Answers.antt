@@ -3,7 +3,8 @@ use Rattle.type_graph.proofs.GrowthLaws.{grows_twice}
 use Rattle.cil_reader.specs.Said.{all_lines}
 use Rattle.cil_reader.specs.Settings.{env_in}
 use Rattle.cil_reader.specs.Globals.{globals_of}
-use Rattle.cil_reader.proofs.GlobalLaws.{declared_later, keeps_twice, pool_twice, globals_pushed, objects_next, objects_stop, objects_end}
+use Rattle.cil_reader.proofs.GlobalLaws.{declared_later, keeps_twice, globals_pushed, objects_next, objects_stop, objects_end}
+use Rattle.cil_reader.proofs.PoolLaws.{pool_twice}
 use Rattle.cil_reader.proofs.globals.read_objects.Goals as goal
 
 pub returns-in_err-global-clause-gives : goal.returns-in_err-global-clause-gives

@@ -43,7 +43,7 @@ returns-clause-gives c =
     let graph : c.into_graph-graph.result ≡ s.graph = search rules in
     let lines = ap all_lines c.deref.ensures.value ∙ c.in_ok-lines.ensures in
     let told = text_gives (env_in r) 4294967295 (words_in c.args.bytes.now) (all_lines c.deref.result.now) (all_lines c.in_ok-rest.rest.now) (aggregates_in r.graph p) (aggregates_in s.graph q) (globals_of s.graph.nodes q xs) lines
-    c.in_ok-rest.ensures.gives c.in_ok-rest.ensures.tags c.in_ok-rest.ensures.members c.in_ok-globals.ensures.gives (aggregates_stay r.graph s.graph p q c.in_ok-rest.ensures.known c.read_globals.ensures.grows c.read_globals.ensures.keeps c.in_ok-globals.ensures.pool) in
+    c.in_ok-rest.ensures.gives c.in_ok-rest.ensures.tags c.in_ok-rest.ensures.members c.in_ok-globals.ensures.gives (aggregates_stay r.graph s.graph p q c.in_ok-rest.ensures.known c.read_globals.ensures.grows c.read_globals.ensures.keeps c.read_globals.ensures.pool) in
     told ∙ ap (λ (g : Graph). Some (aggregates_in g q, globals_of g.nodes q xs)) (sym graph)
 
 pub returns-clause-needed : goal.returns-clause-needed
@@ -56,4 +56,4 @@ returns-clause-needed c =
     let graph : c.into_graph-graph.result ≡ s.graph = search rules in
     let none : f.nodes ≡ [] = search rules in
     tree_needed f r.graph s.graph p q (record { graph = c.into_graph-graph.result; globals = c.in_ok-globals.globals }) none c.in_ok-rest.ensures.adds c.read_globals.ensures.grows
-    (aggregates_stay r.graph s.graph p q c.in_ok-rest.ensures.known c.read_globals.ensures.grows c.read_globals.ensures.keeps c.in_ok-globals.ensures.pool) c.in_ok-globals.ensures.adds graph
+    (aggregates_stay r.graph s.graph p q c.in_ok-rest.ensures.known c.read_globals.ensures.grows c.read_globals.ensures.keeps c.read_globals.ensures.pool) c.in_ok-globals.ensures.adds graph
