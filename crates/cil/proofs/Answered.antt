@@ -9,11 +9,15 @@ use Rattle.cil_meaning.specs.Program.{Exp}
 use Rattle.cil_meaning.specs.Meaning.{RunCil}
 use Rattle.cil_meaning.specs.Text.{IsTextOf}
 use Rattle.cil_meaning.proofs.ReadBack.{same_program}
-use Rattle.cil.specs.Execute.{IsNoText, IsRunAnswer, RanAs, RunSays, Tells}
+use Rattle.cil_tree.specs.LaidOut.{bad_place}
+use Rattle.cil_reader.specs.Stops.{IsNoText}
+use Rattle.cil.specs.Execute.{IsOtherText, IsRunAnswer, RanAs, RunSays, Tells}
 use Rattle.cil.specs.Lowering.{Merges}
 use Rattle.cil.specs.Command.{steps_asked}
 use Rattle.cil.specs.Merge.{unit_asked, IsMergeAnswer, IsRefused, IsRefusedLike, IfRefused, not_built}
-use Rattle.cil.specs.Messages.{HasFiles, AreNames, Begins, names_asked, line_of}
+use Rattle.cil.specs.Messages.{HasFiles, AreNames, names_asked, line_of}
+use Rattle.cil.proofs.SmallPrograms.{whole_program}
+use Rattle.cil.proofs.SmallTexts.{is_whole_text}
 use Rattle.cil.proofs.Units.{not_both, like_refusal}
 use Rattle.cil.specs.declared.status.Status.{Status}
 use Rattle.cil.specs.declared.status.Status.TheVariants.{Done, Exited, StillRunning, WentUndefined, Usage, Refused, NotCil, ReadFault, WriteFault, Memory}
@@ -92,25 +96,42 @@ runs_as bytes steps (Exited s) files kind read says p is calm = inl (told_of byt
 runs_as bytes steps StillRunning files kind read says p is calm = inl (told_of bytes steps StillRunning p says is)
 runs_as bytes steps WentUndefined files kind read says p is calm = inl (told_of bytes steps WentUndefined p says is)
 runs_as bytes steps Usage files kind read says p is calm = absurd kind
-runs_as bytes steps (Refused r) files kind read says p is calm = absurd (says p is)
-runs_as bytes steps (NotCil k) files kind read says p is calm = absurd kind
+runs_as bytes steps (Refused r) files kind read says p is calm = absurd (says.other p is)
+runs_as bytes steps (NotCil k) files kind read says p is calm = absurd (says.1 (whole_program p) (is_whole_text bytes p is))
 runs_as bytes steps ReadFault files kind read says p is calm = absurd (calm (read refl))
 runs_as bytes steps WriteFault files kind read says p is calm = absurd kind
 runs_as bytes steps Memory files kind read says p is calm = inr refl
 
--- of other bytes
-no_text_as : (bytes : List ℕ) (steps : ℕ) (status : Status) (files : Type 0) → IsRunAnswer status → (status ≡ ReadFault → files) → RunSays bytes steps status
-    → IsNoText bytes → ¬ files → (status ≡ Refused not_built) ⊎ (status ≡ Memory)
-no_text_as bytes steps Done files kind read says none calm = absurd kind
-no_text_as bytes steps (Exited s) files kind read says none calm = absurd (none says.program says.text)
-no_text_as bytes steps StillRunning files kind read says none calm = absurd (none says.program says.text)
-no_text_as bytes steps WentUndefined files kind read says none calm = absurd (none says.program says.text)
-no_text_as bytes steps Usage files kind read says none calm = absurd kind
-no_text_as bytes steps (Refused r) files kind read says none calm = inl (ap Refused kind)
-no_text_as bytes steps (NotCil k) files kind read says none calm = absurd kind
-no_text_as bytes steps ReadFault files kind read says none calm = absurd (calm (read refl))
-no_text_as bytes steps WriteFault files kind read says none calm = absurd kind
-no_text_as bytes steps Memory files kind read says none calm = inr refl
+-- of another text
+other_text_as : (bytes : List ℕ) (steps : ℕ) (status : Status) (files : Type 0) → IsRunAnswer status → (status ≡ ReadFault → files) → RunSays bytes steps status
+    → IsOtherText bytes → ¬ files → (status ≡ Refused not_built) ⊎ (status ≡ Memory)
+other_text_as bytes steps Done files kind read says is calm = absurd kind
+other_text_as bytes steps (Exited s) files kind read says is calm = absurd (is.other says.program says.text)
+other_text_as bytes steps StillRunning files kind read says is calm = absurd (is.other says.program says.text)
+other_text_as bytes steps WentUndefined files kind read says is calm = absurd (is.other says.program says.text)
+other_text_as bytes steps Usage files kind read says is calm = absurd kind
+other_text_as bytes steps (Refused r) files kind read says is calm = inl (ap Refused kind)
+other_text_as bytes steps (NotCil k) files kind read says is calm = absurd (says.1 is.program is.text)
+other_text_as bytes steps ReadFault files kind read says is calm = absurd (calm (read refl))
+other_text_as bytes steps WriteFault files kind read says is calm = absurd kind
+other_text_as bytes steps Memory files kind read says is calm = inr refl
+
+-- of other bytes: a text of the form is one of the whole language
+no_ran : (bytes : List ℕ) (steps : ℕ) (status : Status) → RanAs bytes steps status → ¬ (IsNoText bytes)
+no_ran bytes steps status ran none = none (whole_program ran.program) (is_whole_text bytes ran.program ran.text)
+
+not_cil_as : (bytes : List ℕ) (steps : ℕ) (status : Status) (files : Type 0) → IsRunAnswer status → (status ≡ ReadFault → files) → RunSays bytes steps status
+    → IsNoText bytes → ¬ files → (status ≡ NotCil (bad_place bytes)) ⊎ (status ≡ Memory)
+not_cil_as bytes steps Done files kind read says none calm = absurd kind
+not_cil_as bytes steps (Exited s) files kind read says none calm = absurd (no_ran bytes steps (Exited s) says none)
+not_cil_as bytes steps StillRunning files kind read says none calm = absurd (no_ran bytes steps StillRunning says none)
+not_cil_as bytes steps WentUndefined files kind read says none calm = absurd (no_ran bytes steps WentUndefined says none)
+not_cil_as bytes steps Usage files kind read says none calm = absurd kind
+not_cil_as bytes steps (Refused r) files kind read says none calm = absurd (none says.program says.text)
+not_cil_as bytes steps (NotCil k) files kind read says none calm = inl (ap NotCil says.0)
+not_cil_as bytes steps ReadFault files kind read says none calm = absurd (calm (read refl))
+not_cil_as bytes steps WriteFault files kind read says none calm = absurd kind
+not_cil_as bytes steps Memory files kind read says none calm = inr refl
 
 pub runs_by : (asked : Option (List ℕ)) (steps : ℕ) (status : Status) (files : Type 0) → IsRunAnswer status → (status ≡ ReadFault → files)
     → IfSome asked (λ bytes. RunSays bytes steps status)
@@ -118,11 +139,17 @@ pub runs_by : (asked : Option (List ℕ)) (steps : ℕ) (status : Status) (files
 runs_by None steps status files kind read says = tt
 runs_by (Some bytes) steps status files kind read says = runs_as bytes steps status files kind read says
 
-pub no_text_by : (asked : Option (List ℕ)) (steps : ℕ) (status : Status) (files : Type 0) → IsRunAnswer status → (status ≡ ReadFault → files)
+pub other_text_by : (asked : Option (List ℕ)) (steps : ℕ) (status : Status) (files : Type 0) → IsRunAnswer status → (status ≡ ReadFault → files)
     → IfSome asked (λ bytes. RunSays bytes steps status)
-    → IfSome asked (λ bytes. IsNoText bytes → ¬ files → (status ≡ Refused not_built) ⊎ (status ≡ Memory))
-no_text_by None steps status files kind read says = tt
-no_text_by (Some bytes) steps status files kind read says = no_text_as bytes steps status files kind read says
+    → IfSome asked (λ bytes. IsOtherText bytes → ¬ files → (status ≡ Refused not_built) ⊎ (status ≡ Memory))
+other_text_by None steps status files kind read says = tt
+other_text_by (Some bytes) steps status files kind read says = other_text_as bytes steps status files kind read says
+
+pub not_cil_by : (asked : Option (List ℕ)) (steps : ℕ) (status : Status) (files : Type 0) → IsRunAnswer status → (status ≡ ReadFault → files)
+    → IfSome asked (λ bytes. RunSays bytes steps status)
+    → IfSome asked (λ bytes. IsNoText bytes → ¬ files → (status ≡ NotCil (bad_place bytes)) ⊎ (status ≡ Memory))
+not_cil_by None steps status files kind read says = tt
+not_cil_by (Some bytes) steps status files kind read says = not_cil_as bytes steps status files kind read says
 
 -- the place of a refusal of `run` names the pool's first name, which is there
 refused_files : (refusal : Refusal) (names : List (List ℕ)) (name : List ℕ) → refusal ≡ not_built → names ≡ name ∷ [] → HasFiles (length names) (Refused refusal)

@@ -1,5 +1,5 @@
 -- The text that a unit is merged to is not much longer than the unit: each digit of a constant becomes at most eight bytes of the text.
-use Rattle.std.proofs.Common.{◌≡◌, ℕ, ◌+◌, ◌-◌, ◌*◌, ◌≤◌, List, [], ◌∷◌, ◌++◌, length, take, drop, map, codes, decimal, refl, ap, arith, length-append}
+use Rattle.std.proofs.Common.{◌≡◌, ℕ, ◌+◌, ◌-◌, ◌*◌, ◌≤◌, List, [], ◌∷◌, ◌++◌, length, drop, codes, decimal, refl, ap, arith, length-append}
 use Rattle.std.proofs.lemmas.Fmt.{decimal_nonempty}
 use Rattle.std.proofs.lemmas.List.{length-take}
 use Rattle.cil_base.specs.declared.operators.BinOp.{BinOp}

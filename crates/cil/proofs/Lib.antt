@@ -3,10 +3,13 @@ pub mod Bounds
 pub mod Candidates
 pub mod Fronts
 pub mod Lengths
+pub mod LongTexts
 pub mod Numbers
 pub mod Merging
 pub mod Pieces
 pub mod Printing
+pub mod SmallPrograms
+pub mod SmallTexts
 pub mod SmallUnits
 pub mod Units
 pub mod Words

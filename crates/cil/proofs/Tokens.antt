@@ -1,5 +1,5 @@
 -- Device: the tokens from one on, over lists alone.
-use Rattle.std.proofs.Common.{◌≡◌, refl, sym, ap, subst, ◌∙◌, ℕ, zero, suc, ◌+◌, ◌<◌, ◌≤◌, List, [], ◌∷◌, length, drop, slice_get, Option, Some, None, option_map, option_and_then, arith}
+use Rattle.std.proofs.Common.{◌≡◌, sym, ap, subst, ◌∙◌, ℕ, zero, suc, ◌+◌, ◌≤◌, List, [], ◌∷◌, length, drop, slice_get, Option, Some, None, option_map, option_and_then, arith}
 use Rattle.cil_base.specs.declared.tokens.Token.{Token}
 use Rattle.c_lexer.specs.declared.entries.Entry.{Entry}
 use Rattle.c_lexer.specs.Lexed.{Lexed, token_at, text_at, text_of}

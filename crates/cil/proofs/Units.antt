@@ -18,7 +18,7 @@ use Rattle.c_lexer.specs.Lexed.{Lexed, Gives, Grows, IfAnswered, IfRefused as If
 use Rattle.c_lexer.specs.Tokens.{Answer, IsAnswer, Whole, Refused}
 use Rattle.cil.specs.Messages.{Begins}
 use Rattle.c_lexer.proofs.Answered.{same_answer}
-use Rattle.c_meaning.specs.SourceFile.{SourceFile, IsLexed, HasTokens, Spelled, spelled_in}
+use Rattle.c_meaning.specs.SourceFile.{SourceFile, IsLexed, HasTokens, spelled_in}
 use Rattle.c_meaning.specs.Grammar.{Expression, IsUnit}
 use Rattle.c_meaning.specs.Reading.{reading}
 use Rattle.c_meaning.proofs.Units.{unit_reads}
@@ -31,7 +31,7 @@ use Rattle.cil.specs.Lowering.{Merges}
 use Rattle.cil_base.specs.declared.faults.Fault.{Fault}
 use Rattle.cil_base.specs.declared.faults.Fault.TheVariants.{Lexical, Excluded, Syntax, Constraint, Limit, Duplicate, Incompatible, NotBuilt}
 use Rattle.cil.specs.Grammatical.{AreTokens, IsGrammatical}
-use Rattle.cil.specs.Merge.{IsMergeFault, HasOther, IsFrontOf, IsNoUnit, IsRefused, Large, OfToken, OfGrammar, NotOfForm, IsLike, IfRefused, not_built, too_large}
+use Rattle.cil.specs.Merge.{IsMergeFault, HasOther, IsFrontOf, IsRefused, Large, OfToken, OfGrammar, NotOfForm, IsLike, IfRefused, not_built, too_large}
 use Rattle.cil.specs.Merged.{file_in, IsAlone, IsMergeRefusal}
 use Rattle.cil.proofs.SmallUnits.{small_is_grammatical}
 use Rattle.cil.specs.declared.status.Status.{Status}

@@ -7,6 +7,10 @@ use Rattle.cil_base.specs.declared.runs.Outcome.TheVariants.{Exit, Running, Unde
 use Rattle.cil_meaning.specs.Program.{Exp}
 use Rattle.cil_meaning.specs.Meaning.{RunCil}
 use Rattle.cil_meaning.specs.Text.{IsTextOf}
+use Rattle.cil_tree.specs.Tree.{Program}
+use Rattle.cil_tree.specs.Programs as whole
+use Rattle.cil_tree.specs.LaidOut.{bad_place}
+use Rattle.cil_reader.specs.Stops.{IsNoText}
 use Rattle.outside.specs.Named.{Told}
 use Rattle.cil.specs.Command.{run_file}
 use Rattle.cil.specs.Merge.{bytes_under, not_built}
@@ -18,8 +22,14 @@ abbrev pub text_asked : Option Told → List (List ℕ) → Option (List ℕ)
 text_asked told words = option_and_then (bytes_under told) (run_file words)
 
 -- the bytes are no text of a program of the form
-abbrev pub IsNoText : List ℕ → Type 0
-IsNoText bytes = (p : Exp) → ¬ (IsTextOf bytes p)
+abbrev pub IsNotOfForm : List ℕ → Type 0
+IsNotOfForm bytes = (p : Exp) → ¬ (IsTextOf bytes p)
+
+-- the bytes are the text of a program of the whole language, and of none of the form
+pub record IsOtherText (bytes : List ℕ) : Type 0 where
+  pub program : Program
+  pub text : whole.IsTextOf bytes program
+  pub other : IsNotOfForm bytes
 
 -- the status that tells an outcome. Programs of the form write nothing
 abbrev pub Tells : Status → Outcome → Type 0
@@ -39,7 +49,8 @@ abbrev pub RunSays : List ℕ → ℕ → Status → Type 0
 RunSays bytes steps (Exited status) = RanAs bytes steps (Exited status)
 RunSays bytes steps StillRunning = RanAs bytes steps StillRunning
 RunSays bytes steps WentUndefined = RanAs bytes steps WentUndefined
-RunSays bytes steps (Refused refusal) = IsNoText bytes
+RunSays bytes steps (Refused refusal) = IsOtherText bytes
+RunSays bytes steps (NotCil byte) = (byte ≡ bad_place bytes) × IsNoText bytes
 RunSays bytes steps _ = Unit {0}
 
 -- the statuses that `run` answers
@@ -50,7 +61,7 @@ IsRunAnswer StillRunning = Unit {0}
 IsRunAnswer WentUndefined = Unit {0}
 IsRunAnswer Usage = ⊥
 IsRunAnswer (Refused refusal) = refusal ≡ not_built
-IsRunAnswer (NotCil byte) = ⊥
+IsRunAnswer (NotCil byte) = Unit {0}
 IsRunAnswer ReadFault = Unit {0}
 IsRunAnswer WriteFault = ⊥
 IsRunAnswer Memory = Unit {0}

@@ -1,6 +1,7 @@
 pub mod Answers
 pub mod Command
 pub mod Execute
+pub mod Found
 pub mod Grammatical
 pub mod Lowering
 pub mod Merge

@@ -5,32 +5,19 @@ ghost use Rattle.cil_meaning.specs.View.{exp_of};
 ghost use Rattle.outside.specs.Counts.{Rose};
 ghost use Rattle.outside.specs.Named.{find_file, names_of};
 ghost use Rattle.cil.specs.Merge.{bytes_under};
-ghost use Rattle.cil.specs.Execute.{IsNoText, IsRunAnswer, RunSays};
+ghost use Rattle.cil.specs.Execute.{IsRunAnswer, RunSays};
 
 use crate::file::{read_file, refused_first};
-use crate::program_reader::read_program;
 use crate::status::Status;
-use cil_base::{Fault, Memory, NameId, NamePool};
+use crate::text_reader::{Found, read_text};
+use cil_base::{Fault, NameId, NamePool};
 use cil_meaning::Exp;
 use cil_run::{Machine, RunEnd};
 use outside::{Files, ReadStop, Sink, Source};
 use std::alloc::Global;
 
-// The greatest number of bytes in a CIL text.
-const TEXT_LIMIT: usize = 268_435_456;
-
-// One more: so many bytes show that a file is too large.
+// One byte more than a CIL text may have: so many bytes show that a file is too large.
 const READ_LIMIT: usize = 268_435_457;
-
-// The program whose text the bytes are, or none where they are no CIL text of the form.
-fn program_of(alloc: Global, bytes: &[u8]) -> Result<Option<Exp>, Memory>
-    ensures { IfOk result (λ found. MatchOption found (IsNoText bytes.now) (λ e. IsTextOf bytes.now (exp_of e))) }
-{
-    if bytes.len() > TEXT_LIMIT {
-        return Ok(None);
-    }
-    read_program(alloc, bytes)
-}
 
 // Runs a program with its argument words and answers how that ended.
 fn run_program<I: Source, O: Sink>(
@@ -80,17 +67,17 @@ fn run_text<I: Source, O: Sink>(
     ensures input { input.new ≡ input.old }
     ensures out { out.new ≡ out.old }
 {
-    let Ok(found) = program_of(alloc, bytes) else {
-        return Status::Memory;
-    };
-    let Some(program) = found else {
-        return Status::Refused(refused_first(Fault::NotBuilt, file));
-    };
-    run_program(program, names, words, steps, input, out)
+    match read_text(alloc, bytes) {
+        Ok(Found::Form(program)) => run_program(program, names, words, steps, input, out),
+        Ok(Found::Other) => Status::Refused(refused_first(Fault::NotBuilt, file)),
+        Ok(Found::NoText(byte)) => Status::NotCil(byte),
+        Err(_) => Status::Memory,
+    }
 }
 
 /// Runs the text of the file of that name, which becomes the first name of the pool, with its argument words
 /// and so many steps. Own.
+#[tactic(auto, using(crate::proofs::LongTexts::says_asked))]
 pub fn execute<F: Files, I: Source, O: Sink>(
     alloc: Global,
     name: &str,

@@ -20,6 +20,7 @@ mod status;
 mod tests;
 #[cfg(test)]
 mod tests_reader;
+mod text_reader;
 mod top;
 
 use cil_base::NamePool;

@@ -19,6 +19,10 @@ const USAGE: &str =
 
 const NOT_BUILT: &str = "cil: a.c:1: not built\n";
 
+// A CIL text with what programs of the form have not.
+const LOOP_TEXT: &str =
+    "static int x ;\nint main ( void ) ;\nint main ( void ) {\n  int y ;\n  y = ( x + 1 ) ;\n  while ( 1 ) {\n    return y ;\n  }\n}\n";
+
 const SYNTAX: &str = "cil: a.c:1: syntax fault, stopped at a.c:1\n";
 
 // What a command answered: its exit status, what it wrote and what it told.
@@ -395,7 +399,7 @@ fn runs() -> &'static [(&'static [&'static str], &'static str, u8, &'static str)
             2,
             "",
         ),
-        (&["run", "a.c"], SUM, 65, NOT_BUILT),
+        (&["run", "a.c"], LOOP_TEXT, 65, NOT_BUILT),
         (&["run", "a.c"], "", 65, NOT_BUILT),
         (&["run", "b.c"], SUM_TEXT, 74, "cil: read fault\n"),
     ]
@@ -412,6 +416,97 @@ fn runs_texts_of_programs_and_refuses_others(rt: HostRuntime) -> Result<(), Fail
             "{words:?} {text}"
         );
         assert_eq!(rt; answer.told.as_slice(), told.as_bytes(), "{words:?} {text}");
+    }
+    Ok(())
+}
+
+// Bytes that are no CIL text, and the place that is told: that of the first line that no text lays out so, or the end.
+fn no_texts() -> &'static [(&'static str, usize)] {
+    &[
+        (SUM, 0),
+        // a line without a token behind a text
+        (
+            "int main ( void ) ;\nint main ( void ) {\n  return ( 2 + 3 ) ;\n}\n\n",
+            63,
+        ),
+        // a type, a name and a declaration that are missing
+        (
+            "int main ( voit ) ;\nint main ( void ) {\n  return ( 2 + 3 ) ;\n}\n",
+            63,
+        ),
+        (
+            "int main ( void ) ;\nint main ( void ) {\n  return ( 2 + x ) ;\n}\n",
+            63,
+        ),
+        ("int main ( void ) {\n  return ( 2 + 3 ) ;\n}\n", 43),
+        // a constant that int has not, and one with a zero before it
+        (
+            "int main ( void ) ;\nint main ( void ) {\n  return 2147483648 ;\n}\n",
+            64,
+        ),
+        (
+            "int main ( void ) ;\nint main ( void ) {\n  return 02 ;\n}\n",
+            56,
+        ),
+        // blanks that are missing, or too many
+        (
+            "int main ( void ) ;\nint main ( void ) {\n  return (2 + 3 ) ;\n}\n",
+            40,
+        ),
+        (
+            "int main ( void ) ;\nint main ( void ) {\n   return ( 2 + 3 ) ;\n}\n",
+            40,
+        ),
+        (" int main ( void ) ;\n", 0),
+        ("int main ( void ) ; \n", 0),
+        // a brace that closes nothing
+        ("int main ( void ) ;\n}\n", 20),
+    ]
+}
+
+#[test]
+fn tells_where_bytes_are_no_text(rt: HostRuntime) -> Result<(), Fail> {
+    let alloc = rt.alloc();
+    for (text, place) in no_texts() {
+        let answer = answer_to(alloc, &["run", "a.c"], text.as_bytes(), &[], &[], &[])?;
+        let line = format!(in alloc; "cil: not CIL at byte {place}\n")?;
+        assert_eq!(rt; answer.status, 65, "{text}");
+        assert_eq!(rt; answer.written.as_slice(), b"".as_slice(), "{text}");
+        assert_eq!(rt; answer.told.as_slice(), line.as_bytes(), "{text}");
+    }
+    Ok(())
+}
+
+// The line that tells of the sum's text cut after so many bytes: without a byte, and with the declaration of main alone, it is
+// still a CIL text; any other is refused where the line begins that is cut, or at the end.
+fn told_of_cut(alloc: Global, count: usize) -> Result<String, Fail> {
+    if count == 0 || count == 20 {
+        return Ok(String::from_str(alloc, NOT_BUILT)?);
+    }
+    let place = if count < 20 {
+        0
+    } else if count < 40 {
+        20
+    } else if count < 61 {
+        40
+    } else {
+        61
+    };
+    Ok(format!(in alloc; "cil: not CIL at byte {place}\n")?)
+}
+
+#[test]
+fn tells_where_a_text_is_cut(rt: HostRuntime) -> Result<(), Fail> {
+    let alloc = rt.alloc();
+    for count in 0..SUM_TEXT.len() {
+        let text = SUM_TEXT
+            .as_bytes()
+            .get(..count)
+            .ok_or("a count past the text")?;
+        let answer = answer_to(alloc, &["run", "a.c"], text, &[], &[], &[])?;
+        let line = told_of_cut(alloc, count)?;
+        assert_eq!(rt; answer.status, 65, "{count}");
+        assert_eq!(rt; answer.told.as_slice(), line.as_bytes(), "{count}");
     }
     Ok(())
 }

@@ -4,6 +4,8 @@ ghost use Rattle.c_meaning.specs.Grammar.{Expression, IsUnit};
 ghost use Rattle.cil_meaning.specs.Program.{Exp};
 ghost use Rattle.cil_meaning.specs.Meaning.{RunCil};
 ghost use Rattle.cil_meaning.specs.Text.{Text, IsTextOf};
+ghost use Rattle.cil_tree.specs.LaidOut.{bad_place};
+ghost use Rattle.cil_reader.specs.Stops.{IsNoText};
 ghost use Rattle.outside.specs.Counts.{Rose};
 ghost use Rattle.outside.specs.Moves.{Began, Wrote};
 ghost use Rattle.outside.specs.Named.{find_file, names_of};
@@ -12,7 +14,7 @@ ghost use Rattle.cil_base.specs.declared.runs.Env.{Env};
 ghost use Rattle.cil_base.specs.declared.faults.Refusal.{Refusal};
 ghost use Rattle.cil.specs.Answers.{IsAnswerTo};
 ghost use Rattle.cil.specs.Command.{command_of, file_of, bound_of, steps_asked};
-ghost use Rattle.cil.specs.Execute.{text_asked, IsNoText, IsRunAnswer, RunSays, Tells};
+ghost use Rattle.cil.specs.Execute.{text_asked, IsOtherText, IsRunAnswer, RunSays, Tells};
 ghost use Rattle.cil.specs.Lowering.{Merges};
 ghost use Rattle.cil.specs.Merge.{unit_asked, bytes_under, IsMergeAnswer, IsRefused, IsRefusedLike, IfRefused, not_built};
 ghost use Rattle.cil.specs.Messages.{line_of, AreNames, IsQuiet, HasFiles};
@@ -38,8 +40,9 @@ use std::alloc::Global;
 /// Then, as in each other case but `Done` and `WriteFault`, out took nothing.
 ///
 /// `run [--steps N] FILE [ARG...]` reads the file as a CIL text and runs its program: it is `Exited`, `StillRunning` or
-/// `WentUndefined` as the program's run in every environment is, bounded by N steps. It is `Refused` exactly where no call on the
-/// files failed and the bytes are no text of a program of the form.
+/// `WentUndefined` as the program's run in every environment is, bounded by N steps. Where no call on the files failed it is `NotCil`
+/// exactly where the bytes are the text of no CIL program, at the place that is defined for them, and `Refused` exactly where they are
+/// the text of a CIL program, but of none of the form.
 ///
 /// `Usage` comes exactly where the words are no command; `ReadFault` and `WriteFault` only where a call on files or on out failed,
 /// and every such failure is told; `Memory` wherever memory is wanting. Each status but `Done` and `Exited` is told by one line on
@@ -67,7 +70,8 @@ pub fn cil<F: Files, I: Source, O: Sink, E: Sink>(
     // run
     ensures ran { IfSome (text_asked (F.told files.old) (map string_bytes words.now)) (λ bytes. RunSays bytes (steps_asked (map string_bytes words.now)) result) }
     ensures runs { IfSome (text_asked (F.told files.old) (map string_bytes words.now)) (λ bytes. (p : Exp) → IsTextOf bytes p → ¬ (Rose (F.faults files.old) (F.faults files.new)) → ((env : Env) → Tells result (RunCil p env (steps_asked (map string_bytes words.now)))) ⊎ (result ≡ Status.Memory)) }
-    ensures no_text { IfSome (text_asked (F.told files.old) (map string_bytes words.now)) (λ bytes. IsNoText bytes → ¬ (Rose (F.faults files.old) (F.faults files.new)) → (result ≡ Status.Refused not_built) ⊎ (result ≡ Status.Memory)) }
+    ensures other_text { IfSome (text_asked (F.told files.old) (map string_bytes words.now)) (λ bytes. IsOtherText bytes → ¬ (Rose (F.faults files.old) (F.faults files.new)) → (result ≡ Status.Refused not_built) ⊎ (result ≡ Status.Memory)) }
+    ensures not_cil { IfSome (text_asked (F.told files.old) (map string_bytes words.now)) (λ bytes. IsNoText bytes → ¬ (Rose (F.faults files.old) (F.faults files.new)) → (result ≡ Status.NotCil (bad_place bytes)) ⊎ (result ≡ Status.Memory)) }
 
     ensures read { result ≡ Status.ReadFault → Rose (F.faults files.old) (F.faults files.new) }
     ensures read_told { result ≢ Status.ReadFault → F.faults files.new ≡ F.faults files.old }
@@ -125,7 +129,8 @@ fn run_command<F: Files, I: Source, O: Sink>(
     ensures refuses { IfSome (unit_asked (F.told files.old) (map string_bytes words.now)) (λ unit. (refusal : Refusal) (names : List (List ℕ)) → IsRefused unit refusal names → ¬ (Rose (F.faults files.old) (F.faults files.new)) → IsRefusedLike result refusal ⊎ (result ≡ Status.Memory)) }
     ensures refused { IfSome (unit_asked (F.told files.old) (map string_bytes words.now)) (λ unit. IfRefused result (λ refusal. (others : List (List ℕ)) × IsRefused unit refusal others)) }
     ensures runs { IfSome (text_asked (F.told files.old) (map string_bytes words.now)) (λ bytes. (p : Exp) → IsTextOf bytes p → ¬ (Rose (F.faults files.old) (F.faults files.new)) → ((env : Env) → Tells result (RunCil p env (steps_asked (map string_bytes words.now)))) ⊎ (result ≡ Status.Memory)) }
-    ensures no_text { IfSome (text_asked (F.told files.old) (map string_bytes words.now)) (λ bytes. IsNoText bytes → ¬ (Rose (F.faults files.old) (F.faults files.new)) → (result ≡ Status.Refused not_built) ⊎ (result ≡ Status.Memory)) }
+    ensures other_text { IfSome (text_asked (F.told files.old) (map string_bytes words.now)) (λ bytes. IsOtherText bytes → ¬ (Rose (F.faults files.old) (F.faults files.new)) → (result ≡ Status.Refused not_built) ⊎ (result ≡ Status.Memory)) }
+    ensures not_cil { IfSome (text_asked (F.told files.old) (map string_bytes words.now)) (λ bytes. IsNoText bytes → ¬ (Rose (F.faults files.old) (F.faults files.new)) → (result ≡ Status.NotCil (bad_place bytes)) ⊎ (result ≡ Status.Memory)) }
     ensures ran { IfSome (text_asked (F.told files.old) (map string_bytes words.now)) (λ bytes. RunSays bytes (steps_asked (map string_bytes words.now)) result) }
     ensures read { result ≡ Status.ReadFault → Rose (F.faults files.old) (F.faults files.new) }
     ensures read_told { result ≢ Status.ReadFault → F.faults files.new ≡ F.faults files.old }
@@ -202,7 +207,8 @@ fn run_words<F: Files, I: Source, O: Sink>(
     ensures names { result ≢ Status.Memory → AreNames (F.told files.old) (map string_bytes words.now) result names.new }
     ensures files { HasFiles (length names.new) result }
     ensures runs { IfSome (text_asked (F.told files.old) (map string_bytes words.now)) (λ bytes. (p : Exp) → IsTextOf bytes p → ¬ (Rose (F.faults files.old) (F.faults files.new)) → ((env : Env) → Tells result (RunCil p env (steps_asked (map string_bytes words.now)))) ⊎ (result ≡ Status.Memory)) }
-    ensures no_text { IfSome (text_asked (F.told files.old) (map string_bytes words.now)) (λ bytes. IsNoText bytes → ¬ (Rose (F.faults files.old) (F.faults files.new)) → (result ≡ Status.Refused not_built) ⊎ (result ≡ Status.Memory)) }
+    ensures other_text { IfSome (text_asked (F.told files.old) (map string_bytes words.now)) (λ bytes. IsOtherText bytes → ¬ (Rose (F.faults files.old) (F.faults files.new)) → (result ≡ Status.Refused not_built) ⊎ (result ≡ Status.Memory)) }
+    ensures not_cil { IfSome (text_asked (F.told files.old) (map string_bytes words.now)) (λ bytes. IsNoText bytes → ¬ (Rose (F.faults files.old) (F.faults files.new)) → (result ≡ Status.NotCil (bad_place bytes)) ⊎ (result ≡ Status.Memory)) }
     ensures ran { IfSome (text_asked (F.told files.old) (map string_bytes words.now)) (λ bytes. RunSays bytes (steps_asked (map string_bytes words.now)) result) }
     ensures read { result ≡ Status.ReadFault → Rose (F.faults files.old) (F.faults files.new) }
     ensures read_told { result ≢ Status.ReadFault → F.faults files.new ≡ F.faults files.old }

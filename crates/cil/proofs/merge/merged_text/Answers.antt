@@ -1,10 +1,10 @@
-use Rattle.std.proofs.Common.{◌≡◌, ◌<◌, length, ap, sym, subst, ◌∙◌, Some, None, option_map}
+use Rattle.std.proofs.Common.{◌≡◌, ◌<◌, length, ap, sym, subst, ◌∙◌, Some, None}
 use Rattle.c_meaning.specs.View.{expression_of}
 use Rattle.c_meaning.specs.Reading.{reading}
 use Rattle.c_meaning.specs.SourceFile.{spelled_in}
 use Rattle.cil_meaning.specs.Text.{Text}
 use Rattle.cil.specs.Lowering.{lowered}
-use Rattle.cil.specs.Merge.{IsRefused, not_built}
+use Rattle.cil.specs.Merge.{IsRefused}
 use Rattle.cil.specs.Merged.{file_in, IsMergeRefusal}
 use Rattle.cil.proofs.Merging.{lowered-Merges}
 use Rattle.cil.proofs.Units.{found_unit, found_none, first_within, not_built_is}

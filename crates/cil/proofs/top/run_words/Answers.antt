@@ -4,7 +4,7 @@ use Rattle.std.specs.String.{string_bytes}
 use Rattle.cil.specs.Command.{file_of, steps_asked}
 use Rattle.cil.specs.Execute.{text_asked}
 use Rattle.cil.specs.Merge.{bytes_under}
-use Rattle.cil.proofs.Answered.{runs_by, no_text_by, run_files}
+use Rattle.cil.proofs.Answered.{runs_by, other_text_by, not_cil_by, run_files}
 use Rattle.cil.proofs.Words.{text_asked_is, run_file_is, steps_asked_is, if_some_by, ran_by, run_names}
 use Rattle.cil.proofs.top.run_words.Goals as goal
 
@@ -36,9 +36,14 @@ returns-clause-runs g c =
     runs_by (text_asked (g.F.Files.told c.args.files.now) (map string_bytes c.args.words.now)) (steps_asked (map string_bytes c.args.words.now)) c.execute.result _
     c.execute.ensures.kind c.execute.ensures.read (returns-clause-ran g c)
 
-pub returns-clause-no_text : goal.returns-clause-no_text
-returns-clause-no_text g c =
-    no_text_by (text_asked (g.F.Files.told c.args.files.now) (map string_bytes c.args.words.now)) (steps_asked (map string_bytes c.args.words.now)) c.execute.result _
+pub returns-clause-other_text : goal.returns-clause-other_text
+returns-clause-other_text g c =
+    other_text_by (text_asked (g.F.Files.told c.args.files.now) (map string_bytes c.args.words.now)) (steps_asked (map string_bytes c.args.words.now)) c.execute.result _
+    c.execute.ensures.kind c.execute.ensures.read (returns-clause-ran g c)
+
+pub returns-clause-not_cil : goal.returns-clause-not_cil
+returns-clause-not_cil g c =
+    not_cil_by (text_asked (g.F.Files.told c.args.files.now) (map string_bytes c.args.words.now)) (steps_asked (map string_bytes c.args.words.now)) c.execute.result _
     c.execute.ensures.kind c.execute.ensures.read (returns-clause-ran g c)
 
 pub returns-clause-files : goal.returns-clause-files
