@@ -2,7 +2,7 @@
 PREFIX = /usr/local
 PROGRAM = crates/cil/out/cil
 
-.PHONY: first test install check-docs bench bench-lex bench-parse bench-types bench-memory program
+.PHONY: first test install check-docs bench bench-lex bench-parse bench-types bench-memory bench-text program
 
 # Proves the program and builds it.
 program:
@@ -34,6 +34,10 @@ bench-parse: program
 
 bench-types:
 	bench/types.sh
+
+bench-text:
+	cd crates/text_bench && rt run >/dev/null
+	bench/text.sh
 
 bench-memory:
 	cd crates/memory_bench && rt run -- small 0 >/dev/null
