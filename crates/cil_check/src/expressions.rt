@@ -82,7 +82,7 @@ pub(crate) fn number_at(g: &TypeGraph, t: TypeId) -> Option<TypeId>
 }
 
 /// The type of a global.
-pub(crate) fn global_type(s: &Scope, number: EntityId) -> Option<TypeId>
+pub fn global_type(s: &Scope, number: EntityId) -> Option<TypeId>
     ensures told { at s.now.unit.now.graph result ≡ global_type (seen_scope s.now).program number.0 }
     ensures there { IfSome result (λ t. t.0 < length s.now.unit.now.graph.nodes) }
 {
@@ -91,7 +91,7 @@ pub(crate) fn global_type(s: &Scope, number: EntityId) -> Option<TypeId>
 }
 
 /// The type of a local.
-fn local_type(s: &Scope, number: LocalId) -> Option<TypeId>
+pub fn local_type(s: &Scope, number: LocalId) -> Option<TypeId>
     ensures told { at s.now.unit.now.graph result ≡ local_type (seen_scope s.now).locals number.0 }
     ensures there { IfSome result (λ t. t.0 < length s.now.unit.now.graph.nodes) }
 {

@@ -26,5 +26,12 @@ mod switches;
 mod types;
 mod words;
 
+pub use expressions::{global_type, local_type};
 pub use globals::check;
+pub use operators::{
+    address, binary, cast, constant, element, element_of, is_scalar, is_void, member, names_enum,
+    pointed, read, start, unary,
+};
+pub use scope::Scope;
+pub use seen::{Seen, see, type_at};
 pub use types::types_are_well_formed;

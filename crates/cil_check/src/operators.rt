@@ -13,7 +13,7 @@ use cil_base::{AggId, BinOp, IntKind, TypeId, UnOp, wrap};
 use type_graph::{AggKind, Member, Node, QualType, Quals, TypeGraph};
 
 /// Whether a kind is int or wider (C11 6.3.1.1p2).
-pub(crate) fn is_wide(kind: IntKind) -> bool
+pub fn is_wide(kind: IntKind) -> bool
     ensures { result ≡ is_wide kind }
 {
     kind.rank() >= IntKind::Int.rank()
@@ -21,14 +21,14 @@ pub(crate) fn is_wide(kind: IntKind) -> bool
 
 /// Whether the kind has the number as a value: where its conversion leaves it as it is.
 #[tactic(auto, using(crate::proofs::SeenLaws::fits_is))]
-pub(crate) fn fits(kind: IntKind, v: i128) -> bool
+pub fn fits(kind: IntKind, v: i128) -> bool
     ensures { result ≡ fits kind v }
 {
     wrap(kind, v) == v
 }
 
 /// Whether an aggregate of the graph is an enum.
-pub(crate) fn names_enum(g: &TypeGraph, a: AggId) -> bool
+pub fn names_enum(g: &TypeGraph, a: AggId) -> bool
     requires { a.0 < length g.now.aggs }
     ensures { result ≡ names_enum g.now a.0 }
 {
@@ -39,7 +39,7 @@ pub(crate) fn names_enum(g: &TypeGraph, a: AggId) -> bool
 }
 
 /// Whether the type is scalar (C11 6.2.5p21).
-pub(crate) fn is_scalar(g: &TypeGraph, t: Seen) -> bool
+pub fn is_scalar(g: &TypeGraph, t: Seen) -> bool
     requires { IsThere g.now t }
     ensures { result ≡ is_scalar g.now (seen_shape g.now t) }
 {
@@ -61,7 +61,7 @@ fn is_enum_type(g: &TypeGraph, t: TypeId) -> bool
 }
 
 /// Whether the type is void.
-pub(crate) fn is_void(g: &TypeGraph, t: TypeId) -> bool
+pub fn is_void(g: &TypeGraph, t: TypeId) -> bool
     requires { t.0 < length g.now.nodes }
     ensures { result ≡ is_void (shape g.now.nodes t.0) }
 {
@@ -72,7 +72,7 @@ pub(crate) fn is_void(g: &TypeGraph, t: TypeId) -> bool
 }
 
 /// Whether the type is an array type.
-pub(crate) fn is_array(g: &TypeGraph, t: TypeId) -> bool
+pub fn is_array(g: &TypeGraph, t: TypeId) -> bool
     requires { t.0 < length g.now.nodes }
     ensures { result ≡ is_array (shape g.now.nodes t.0) }
 {
@@ -83,7 +83,7 @@ pub(crate) fn is_array(g: &TypeGraph, t: TypeId) -> bool
 }
 
 /// Whether the type is a function type.
-pub(crate) fn is_function(g: &TypeGraph, t: TypeId) -> bool
+pub fn is_function(g: &TypeGraph, t: TypeId) -> bool
     requires { t.0 < length g.now.nodes }
     ensures { result ≡ is_function (shape g.now.nodes t.0) }
 {
@@ -107,7 +107,7 @@ fn unqualified(of: TypeId) -> QualType
 }
 
 /// The type of a constant (C11 6.4.4.1): a kind of the data model, int or wider, that has its value.
-pub(crate) fn constant(g: &TypeGraph, kind: IntKind, value: u64) -> Option<Seen>
+pub fn constant(g: &TypeGraph, kind: IntKind, value: u64) -> Option<Seen>
     ensures told { told g.now result ≡ constant_type (bare g.now) kind (pos value) }
     ensures there { IfSome result (IsThere g.now) }
 {
@@ -119,7 +119,7 @@ pub(crate) fn constant(g: &TypeGraph, kind: IntKind, value: u64) -> Option<Seen>
 }
 
 /// The type of the value of a place: that of the place, which is complete and no array (C11 6.3.2.1p2).
-pub(crate) fn read(g: &TypeGraph, place: TypeId) -> Option<Seen>
+pub fn read(g: &TypeGraph, place: TypeId) -> Option<Seen>
     requires { place.0 < length g.now.nodes }
     ensures told { told g.now result ≡ read_type (bare g.now) (shape g.now.nodes place.0) }
     ensures there { IfSome result (IsThere g.now) }
@@ -132,7 +132,7 @@ pub(crate) fn read(g: &TypeGraph, place: TypeId) -> Option<Seen>
 }
 
 /// The type of the address of a place, which is not void (C11 6.5.3.2p3).
-pub(crate) fn address(g: &TypeGraph, place: TypeId) -> Option<Seen>
+pub fn address(g: &TypeGraph, place: TypeId) -> Option<Seen>
     requires { place.0 < length g.now.nodes }
     ensures told { told g.now result ≡ address_type (shape g.now.nodes place.0) }
     ensures there { IfSome result (IsThere g.now) }
@@ -145,7 +145,7 @@ pub(crate) fn address(g: &TypeGraph, place: TypeId) -> Option<Seen>
 }
 
 /// The type of the address of an array's first element (C11 6.3.2.1p3).
-pub(crate) fn start(g: &TypeGraph, place: TypeId) -> Option<Seen>
+pub fn start(g: &TypeGraph, place: TypeId) -> Option<Seen>
     requires { place.0 < length g.now.nodes }
     ensures told { told g.now result ≡ start_type (shape g.now.nodes place.0) }
     ensures there { IfSome result (IsThere g.now) }
@@ -157,7 +157,7 @@ pub(crate) fn start(g: &TypeGraph, place: TypeId) -> Option<Seen>
 }
 
 /// The type of `op e` (C11 6.5.3.3).
-pub(crate) fn unary(g: &TypeGraph, op: UnOp, operand: Seen) -> Option<Seen>
+pub fn unary(g: &TypeGraph, op: UnOp, operand: Seen) -> Option<Seen>
     requires { IsThere g.now operand }
     ensures told { told g.now result ≡ unary_type (bare g.now) op (seen_shape g.now operand) }
     ensures there { IfSome result (IsThere g.now) }
@@ -339,7 +339,7 @@ fn same_pointers(g: &TypeGraph, op: BinOp, p: QualType, q: QualType) -> Option<S
 }
 
 /// The type of a binary operator: over integers, over a pointer and an integer, or over two pointers.
-pub(crate) fn binary(g: &TypeGraph, op: BinOp, left: Seen, right: Seen) -> Option<Seen>
+pub fn binary(g: &TypeGraph, op: BinOp, left: Seen, right: Seen) -> Option<Seen>
     requires left { IsThere g.now left }
     requires right { IsThere g.now right }
     ensures told { told g.now result ≡ binary_type (bare g.now) op (seen_shape g.now left) (seen_shape g.now right) }
@@ -356,7 +356,7 @@ pub(crate) fn binary(g: &TypeGraph, op: BinOp, left: Seen, right: Seen) -> Optio
 }
 
 /// Whether a type that is seen is void.
-pub(crate) fn is_void_type(g: &TypeGraph, t: Seen) -> bool
+pub fn is_void_type(g: &TypeGraph, t: Seen) -> bool
     requires { IsThere g.now t }
     ensures { result ≡ is_void (seen_shape g.now t) }
 {
@@ -367,7 +367,7 @@ pub(crate) fn is_void_type(g: &TypeGraph, t: Seen) -> bool
 }
 
 /// The type of a conversion (C11 6.5.4p2).
-pub(crate) fn cast(g: &TypeGraph, to: Seen, operand: Seen) -> Option<Seen>
+pub fn cast(g: &TypeGraph, to: Seen, operand: Seen) -> Option<Seen>
     requires to { IsThere g.now to }
     requires operand { IsThere g.now operand }
     ensures told { told g.now result ≡ cast_type (bare g.now) (seen_shape g.now to) (seen_shape g.now operand) }
@@ -381,7 +381,7 @@ pub(crate) fn cast(g: &TypeGraph, to: Seen, operand: Seen) -> Option<Seen>
 }
 
 /// What a pointer points to (C11 6.5.3.2p4).
-pub(crate) fn pointed(g: &TypeGraph, pointer: Seen) -> Option<TypeId>
+pub fn pointed(g: &TypeGraph, pointer: Seen) -> Option<TypeId>
     requires { IsThere g.now pointer }
     ensures told { at g.now result ≡ pointed (seen_shape g.now pointer) }
     ensures there { IfSome result (λ t. t.0 < length g.now.nodes) }
@@ -393,7 +393,7 @@ pub(crate) fn pointed(g: &TypeGraph, pointer: Seen) -> Option<TypeId>
 }
 
 /// The type of an element that an index leads to (C11 6.5.2.1).
-pub(crate) fn element(g: &TypeGraph, array: TypeId, index: Seen) -> Option<TypeId>
+pub fn element(g: &TypeGraph, array: TypeId, index: Seen) -> Option<TypeId>
     requires array { array.0 < length g.now.nodes }
     requires index { IsThere g.now index }
     ensures told { at g.now result ≡ element_type (shape g.now.nodes array.0) (seen_shape g.now index) }
@@ -417,7 +417,7 @@ fn is_index(t: Seen) -> bool
 }
 
 /// The type of an array's elements.
-pub(crate) fn element_of(g: &TypeGraph, array: TypeId) -> Option<TypeId>
+pub fn element_of(g: &TypeGraph, array: TypeId) -> Option<TypeId>
     requires { array.0 < length g.now.nodes }
     ensures told { at g.now result ≡ element_of (shape g.now.nodes array.0) }
     ensures there { IfSome result (λ t. t.0 < length g.now.nodes) }
@@ -429,7 +429,7 @@ pub(crate) fn element_of(g: &TypeGraph, array: TypeId) -> Option<TypeId>
 }
 
 /// The type of a member of a complete struct or union (C11 6.5.2.3).
-pub(crate) fn member(g: &TypeGraph, t: TypeId, number: u32) -> Option<TypeId>
+pub fn member(g: &TypeGraph, t: TypeId, number: u32) -> Option<TypeId>
     requires { t.0 < length g.now.nodes }
     ensures told { at g.now result ≡ member_type g.now (shape g.now.nodes t.0) number }
     ensures there { IfSome result (λ t. t.0 < length g.now.nodes) }

@@ -3,8 +3,8 @@ use cil_tree::{Body, CilUnit};
 
 /// What the statements of a function speak of: its program, with the texts of names, and its body.
 #[derive(Clone, Copy)]
-pub(crate) struct Scope<'a> {
-    pub(crate) unit: &'a CilUnit,
-    pub(crate) names: &'a NamePool,
-    pub(crate) body: &'a Body,
+pub struct Scope<'a> {
+    pub unit: &'a CilUnit,
+    pub names: &'a NamePool,
+    pub body: &'a Body,
 }

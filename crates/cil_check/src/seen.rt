@@ -10,7 +10,7 @@ use type_graph::{Node, QualType, Quals, TypeGraph};
 
 /// A type that an expression or a place has, as far as rules look at it. Kinds and pointers are always seen as such.
 #[derive(Clone, Copy, Debug, PartialEq, Eq)]
-pub(crate) enum Seen {
+pub enum Seen {
     /// An integer type.
     Int(IntKind),
     /// A pointer. The graph has what it points to, but maybe not the pointer.
@@ -20,7 +20,7 @@ pub(crate) enum Seen {
 }
 
 /// A type of the graph, as it is seen.
-pub(crate) fn see(g: &TypeGraph, t: TypeId) -> Seen
+pub fn see(g: &TypeGraph, t: TypeId) -> Seen
     requires { t.0 < length g.now.nodes }
     ensures shape { seen_shape g.now result ≡ shape g.now.nodes t.0 }
     ensures there { IsThere g.now result }
@@ -33,7 +33,7 @@ pub(crate) fn see(g: &TypeGraph, t: TypeId) -> Seen
 }
 
 /// The type with a number, if the graph has it.
-pub(crate) fn type_at(g: &TypeGraph, t: TypeId) -> Option<Seen>
+pub fn type_at(g: &TypeGraph, t: TypeId) -> Option<Seen>
     ensures told { told g.now result ≡ type_at g.now.nodes t }
     ensures there { IfSome result (IsThere g.now) }
 {
@@ -41,14 +41,14 @@ pub(crate) fn type_at(g: &TypeGraph, t: TypeId) -> Option<Seen>
 }
 
 /// Whether two kinds are one.
-pub(crate) fn same_kind(k: IntKind, l: IntKind) -> bool
+pub fn same_kind(k: IntKind, l: IntKind) -> bool
     ensures { result ≡ same_kind k l }
 {
     k == l
 }
 
 /// Whether two numbers are those of one type. Types of one shape have one number.
-pub(crate) fn same_number(g: &TypeGraph, s: TypeId, t: TypeId) -> bool
+pub fn same_number(g: &TypeGraph, s: TypeId, t: TypeId) -> bool
     requires left { s.0 < length g.now.nodes }
     requires right { t.0 < length g.now.nodes }
     ensures { result ≡ same_shape (shape g.now.nodes s.0) (shape g.now.nodes t.0) }
@@ -57,7 +57,7 @@ pub(crate) fn same_number(g: &TypeGraph, s: TypeId, t: TypeId) -> bool
 }
 
 /// Whether qualifiers are the same.
-pub(crate) fn same_quals(p: Quals, q: Quals) -> bool
+pub fn same_quals(p: Quals, q: Quals) -> bool
     ensures { result ≡ same_quals p q }
 {
     p == q
@@ -73,7 +73,7 @@ fn same_pointer(g: &TypeGraph, p: QualType, q: QualType) -> bool
 }
 
 /// Whether two types are one: kinds and pointers by their parts, others by their numbers.
-pub(crate) fn is_same(g: &TypeGraph, a: Seen, b: Seen) -> bool
+pub fn is_same(g: &TypeGraph, a: Seen, b: Seen) -> bool
     requires left { IsThere g.now a }
     requires right { IsThere g.now b }
     ensures { result ≡ same_shape (seen_shape g.now a) (seen_shape g.now b) }

@@ -1,0 +1,10 @@
+pub mod OperandLaws
+pub mod CallMeanings
+pub mod StepMeanings
+pub mod StepTypings
+pub mod Loads
+pub mod Running
+pub mod Takes
+pub mod ArgumentTypes
+pub mod ProgramTypes
+pub mod Fitting

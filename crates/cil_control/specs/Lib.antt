@@ -1,0 +1,4 @@
+pub mod Remains
+pub mod Flat
+pub mod Courses
+pub mod Leading

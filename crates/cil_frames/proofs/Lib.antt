@@ -1,0 +1,10 @@
+pub mod Leads
+pub mod Going
+pub mod Beginnings
+pub mod Activating
+pub mod Passed
+pub mod Unwinding
+pub mod Turns
+pub mod Growing
+pub mod Loaded
+pub mod Keeping

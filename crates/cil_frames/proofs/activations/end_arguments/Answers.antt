@@ -1,0 +1,9 @@
+use Rattle.std.proofs.Common.{◌+◌, arith}
+use Rattle.cil_frames.proofs.Activating.{numbers_next, numbers_end}
+use Rattle.cil_frames.proofs.activations.end_arguments.Goals as goal
+
+pub loop-i-preserved : goal.loop-i-preserved
+loop-i-preserved c = numbers_next c.args.mem.now c.loop-i.mem c.end.new.self c.args.act c.args.arguments c.loop-i.i (c.loop-i.i + 1) c.loop-i-test.true (omega arith) c.loop-i.invariant c.end.ensures
+
+pub returns : goal.returns
+returns c = numbers_end c.args.mem.now c.loop-i.mem c.args.act c.args.arguments c.loop-i.i c.loop-i-test.false c.loop-i.invariant

@@ -1,0 +1,7 @@
+pub mod TermSteps
+pub mod Differences
+pub mod Meanings
+pub mod Parts
+pub mod Typings
+pub mod Sizes
+pub mod Assignments

@@ -1,0 +1,12 @@
+-- Answers: a place of a type, and of one of none.
+use Rattle.std.proofs.Common.{◌≡◌}
+use Rattle.cil_tree.specs.Tree as plain
+use Rattle.cil_check.specs.Seen.{seen_scope}
+use Rattle.cil_machine.proofs.Typings.{no_start, typed_start}
+use Rattle.cil_machine.proofs.resolution.start.Goals as goal
+
+pub returns-in-None : goal.returns-in-None
+returns-in-None c = λ p is. c.untyped.ensures (plain.StartOf p) (no_start (seen_scope c.args.s.now.scope) c.args.s.now.entities.now p c.args.place is c.in-None.is)
+
+pub returns-in-Some : goal.returns-in-Some
+returns-in-Some c = λ p is. typed_start (seen_scope c.args.s.now.scope) c.args.s.now.entities.now p c.args.place c.in-Some.t c.start.result is c.in-Some.is c.start.ensures.told c.start.ensures.there

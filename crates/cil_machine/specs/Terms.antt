@@ -1,0 +1,102 @@
+-- Device: what resolved expressions and places give in a memory. A term is asked for a value of a scalar.
+use Rattle.std.specs.Prelude.{ℕ, Bool, true, false, not, if◌then◌else◌, Option, Some, None, option_map, ℤ, pos}
+use Rattle.std.specs.Ordering.{int_eq}
+use Rattle.cil_base.specs.declared.kinds.Abi.{Abi}
+use Rattle.cil_base.specs.declared.kinds.IntKind.{IntKind}
+use Rattle.cil_base.specs.declared.operators.BinOp.{BinOp}
+use Rattle.cil_base.specs.declared.operators.BinOp.TheVariants.{Shl, Shr}
+use Rattle.cil_base.specs.declared.operators.UnOp.{UnOp}
+use Rattle.cil_base.specs.Integer.{wrapped, long_of}
+use Rattle.cil_base.specs.Arithmetic.{told}
+use Rattle.byte_mem.specs.declared.pointers.ObjName.{ObjName}
+use Rattle.byte_mem.specs.declared.pointers.ObjName.TheVariants.{Entity, Local}
+use Rattle.byte_mem.specs.declared.values.Scalar.{Scalar}
+use Rattle.byte_mem.specs.declared.values.Scalar.TheVariants.{Int as OfKind, Ptr as OfPointer}
+use Rattle.byte_mem.specs.declared.values.Value.{Value}
+use Rattle.byte_mem.specs.declared.values.Value.TheVariants.{Int, Ptr}
+use Rattle.byte_mem.specs.Steps.{◌>>=◌, only_if}
+use Rattle.byte_mem.specs.Scalar.{kind_of}
+use Rattle.byte_mem.specs.Memory.{Memory, load}
+use Rattle.byte_mem.specs.Operator.{converted, place_of, pointer_in, truth, compared, pointer_sum, pointer_less, pointer_difference, member_place, element_place, computed, unary, number_in}
+use Rattle.cil_tree.specs.Typing.{same_kind}
+use Rattle.cil_machine.specs.declared.terms.Term.{Term, Number, Load, Not', Unary', Arithmetic', Shift', Compare', Sum', Less', Difference', Relation', Convert', Address, Wrong as NoTerm}
+use Rattle.cil_machine.specs.declared.terms.Spot.{Spot, Entity as Global, Local as Own, At', Member', Element', Wrong as NoSpot}
+
+-- the number as a value of the scalar, none where it is not one of its kind
+abbrev pub number : Abi → Scalar → ℤ → Option Value
+number abi s n = only_if (int_eq (wrapped (kind_of abi s) n) n) (Int n)
+
+abbrev pub number_from : Abi → Scalar → Option ℤ → Option Value
+number_from abi s n = n >>= number abi s
+
+-- 1 or 0 for a test
+abbrev pub told_from : Abi → Scalar → Option Bool → Option Value
+told_from abi s holds = holds >>= λ h. number abi s (told h)
+
+abbrev pub pointer_at : ObjName → Value
+pointer_at name = Ptr (record { name = name; offset = pos 0 })
+
+abbrev pub shifted : Bool → IntKind → Value → Value → Option Value
+shifted true kind v w = computed Shl kind v w
+shifted false kind v w = computed Shr kind v w
+
+-- the value of a scalar at a place
+abbrev pub loaded : Abi → Memory → Scalar → Value → Option Value
+loaded abi m s place = pointer_in place >>= λ at. load abi m at s
+
+-- the number that a comparison gives
+abbrev pub compared_number : BinOp → IntKind → Value → Value → Option ℤ
+compared_number op kind v w = computed op kind v w >>= number_in
+
+-- `op v`, asked for a value of the scalar
+abbrev pub unary_at : Scalar → UnOp → Value → Option Value
+unary_at (OfKind kind) op v = unary op kind v
+unary_at OfPointer op v = None
+
+abbrev pub arithmetic_at : Scalar → BinOp → Value → Value → Option Value
+arithmetic_at (OfKind kind) op v w = computed op kind v w
+arithmetic_at OfPointer op v w = None
+
+abbrev pub shifted_at : Scalar → Bool → Value → Value → Option Value
+shifted_at (OfKind kind) left v w = shifted left kind v w
+shifted_at OfPointer left v w = None
+
+-- what is a pointer, asked for a value of the scalar
+abbrev pub pointer_for : Scalar → Option Value → Option Value
+pointer_for (OfKind kind) v = None
+pointer_for OfPointer v = v
+
+-- a difference is of the kind long (own; C11 6.5.6p9)
+abbrev pub difference_for : Abi → Scalar → Option Value → Option Value
+difference_for abi (OfKind kind) v = if same_kind kind (long_of abi) then v else None
+difference_for abi OfPointer v = None
+
+abbrev pub difference_at : Abi → Scalar → Memory → Value → Value → ℕ → Option Value
+difference_at abi s m v w size = difference_for abi s (pointer_difference m v w size)
+
+abbrev mutual
+  -- the value of a term, for an activation, as a value of the scalar
+  pub term_value : Abi → Memory → ℕ → Scalar → Term → Option Value
+  term_value abi m act s (Number n) = number abi s (pos n)
+  term_value abi m act s (Load p) = spot_place abi m act p >>= loaded abi m s
+  term_value abi m act s (Not' t p e) = term_value abi m act t e >>= λ v. told_from abi s (option_map not (truth m t v))
+  term_value abi m act s (Unary' op p e) = term_value abi m act s e >>= unary_at s op
+  term_value abi m act s (Arithmetic' op p e q f) = term_value abi m act s e >>= λ v. term_value abi m act s f >>= arithmetic_at s op v
+  term_value abi m act s (Shift' left by p e q f) = term_value abi m act s e >>= λ v. term_value abi m act (OfKind by) f >>= shifted_at s left v
+  term_value abi m act s (Compare' op kind p e q f) = term_value abi m act (OfKind kind) e >>= λ v. term_value abi m act (OfKind kind) f >>= λ w. number_from abi s (compared_number op kind v w)
+  term_value abi m act s (Sum' size kind p e q f) = term_value abi m act OfPointer e >>= λ v. term_value abi m act (OfKind kind) f >>= λ i. pointer_for s (pointer_sum m v i size)
+  term_value abi m act s (Less' size kind p e q f) = term_value abi m act OfPointer e >>= λ v. term_value abi m act (OfKind kind) f >>= λ i. pointer_for s (pointer_less m v i size)
+  term_value abi m act s (Difference' size p e q f) = term_value abi m act OfPointer e >>= λ v. term_value abi m act OfPointer f >>= λ w. difference_at abi s m v w size
+  term_value abi m act s (Relation' op p e q f) = term_value abi m act OfPointer e >>= λ v. term_value abi m act OfPointer f >>= λ w. told_from abi s (compared m op v w)
+  term_value abi m act s (Convert' t p e) = term_value abi m act t e >>= λ v. Some (converted abi s v)
+  term_value abi m act s (Address p) = pointer_for s (spot_place abi m act p)
+  term_value abi m act s NoTerm = None
+
+  -- the place that a resolved place is
+  pub spot_place : Abi → Memory → ℕ → Spot → Option Value
+  spot_place abi m act (Global e) = Some (pointer_at (Entity e))
+  spot_place abi m act (Own l) = Some (pointer_at (Local act l))
+  spot_place abi m act (At' p e) = term_value abi m act OfPointer e >>= place_of
+  spot_place abi m act (Member' offset p whole) = spot_place abi m act whole >>= λ v. member_place m v offset
+  spot_place abi m act (Element' size kind p whole q e) = spot_place abi m act whole >>= λ v. term_value abi m act (OfKind kind) e >>= λ i. element_place m v i size
+  spot_place abi m act NoSpot = None

@@ -1,0 +1,100 @@
+-- Device: a loaded machine is fresh.
+use Rattle.std.proofs.Common.{◌≡◌, ℕ, zero, suc, ◌+◌, List, [], ◌∷◌, Option, Some, None, option_map, length, map, slice_get, String, Global, refl, sym, ap, ◌∙◌, subst, arith}
+use Rattle.std.specs.String.{string_bytes}
+use Rattle.type_graph.specs.Arena.{Graph}
+use Rattle.layout_lp64.specs.Tables.{IsLeastTooBig}
+use Rattle.cil_base.specs.declared.kinds.Abi.{Abi}
+use Rattle.byte_mem.specs.declared.pointers.ObjName.TheVariants.{Heap}
+use Rattle.byte_mem.specs.declared.stores.Store.{Store}
+use Rattle.byte_mem.specs.Object.{Held}
+use Rattle.byte_mem.specs.Memory.{Memory, live_size}
+use Rattle.byte_mem.specs.Store.{memory}
+use Rattle.host_calls.specs.Counted.{IsCounted}
+use Rattle.execution.specs.Calls as meaning
+use Rattle.execution.specs.Calls.{Enter, Meaning, Object, Code, Host, Linked}
+use Rattle.cil_tree.specs.Tree.{Program}
+use Rattle.cil_tree.specs.WellFormedTypes.{TypesAreSmall}
+use Rattle.cil_semantics.specs.Laws.{calls_in}
+use Rattle.cil_frames.specs.declared.frames.Function.{Function}
+use Rattle.cil_frames.specs.declared.frames.Entity.{Entity}
+use Rattle.cil_frames.specs.declared.frames.Entity.TheVariants.{Data as OfData, Program as OfProgram, Host as OfHost}
+use Rattle.cil_frames.specs.Frames.{Courses, AllLead, IsFunction, IsEntity, IsTable, IsMachine}
+use Rattle.cil_streams.specs.Held.{StreamsState, fresh, host_part}
+use Rattle.cil_start.specs.declared.entities.Definer.{Definer}
+use Rattle.cil_start.specs.Entities.{linked_alone}
+use Rattle.cil_start.specs.Starts.{Starts}
+use Rattle.cil_start.specs.declared.mains.Main.{Main}
+use Rattle.cil_start.specs.Mains.{BeginsWith}
+use Rattle.cil_table.specs.Courses.{courses_in}
+use Rattle.cil_table.specs.Entries.{IsLoadedTable}
+use Rattle.cil_turns.specs.Standing.{IsFresh as IsNew}
+use Rattle.cil_runner.specs.declared.machine.Machine.{Machine}
+use Rattle.cil_runner.specs.Machine.{Loads}
+use Rattle.cil_runner.specs.Beginning.{IsThere, IsFresh}
+
+pub none_too_big : (g : Graph) (t : ℕ) → TypesAreSmall g → IsLeastTooBig g t → ⊥
+none_too_big g t small big = omega (arith, small t big.large big.is, big.size)
+
+-- the entry of a function that is meant is that function, loaded
+pub record IsLoadedAs (abi : Abi) (enter : Enter) (at : Courses) (table : List (Option Entity)) (n j : ℕ) (f : meaning.Function) : Type 0 where
+  pub code : Function
+  pub there : slice_get table n ≡ Some (Some (OfProgram code))
+  pub is : IsFunction abi enter (at j) f code
+
+entry_loaded : (abi : Abi) (enter : Enter) (at : Courses) (link : Linked) (e : Option Entity) (table : List (Option Entity)) (j : ℕ) (f : meaning.Function) → IsEntity abi enter (at j) (Some (Code f)) e → IsLoadedAs abi enter at (e ∷ table) 0 j f
+entry_loaded abi enter at link None table j f h = absurd h
+entry_loaded abi enter at link (Some OfData) table j f h = absurd h
+entry_loaded abi enter at link (Some (OfProgram g)) table j f h = record { code = g; there = refl; is = h }
+entry_loaded abi enter at link (Some (OfHost name)) table j f h = absurd h
+
+pub function_loaded : (abi : Abi) (enter : Enter) (at : Courses) (link : Linked) (table : List (Option Entity)) (i n : ℕ) (f : meaning.Function) → IsTable abi enter at i link table → slice_get link n ≡ Some (Some (Code f)) → IsLoadedAs abi enter at table n (i + n) f
+function_loaded abi enter at [] table i n f t there = absurd (cc)
+function_loaded abi enter at (m ∷ link) [] i n f t there = absurd t
+function_loaded abi enter at (m ∷ link) (e ∷ table) i zero f t there =
+    let same : m ≡ Some (Code f) = ap (λ o. elim o [ None ↦ m | Some x ↦ x ]) there in
+    let here : i ≡ i + 0 = omega arith in
+    entry_loaded abi enter at link e table (i + 0) f (subst (λ j. IsEntity abi enter (at j) (Some (Code f)) e) here (subst (λ m. IsEntity abi enter (at i) m e) same t.0))
+function_loaded abi enter at (m ∷ link) (e ∷ table) i (suc n) f t there =
+    let r = function_loaded abi enter at link table (suc i) n f t.1 there in
+    let along : suc i + n ≡ i + suc n = omega arith in
+    record { code = r.code; there = r.there; is = subst (λ j. IsFunction abi enter (at j) f r.code) along r.is }
+
+-- what a program begins with is loaded in its table
+pub main_there : (p : Program) (abi : Abi) (at : Courses) (table : List (Option Entity)) (o : Option Main) → IsMachine abi (linked_alone p) (calls_in (p ∷ [])) at table → BeginsWith p o → IsThere table o
+main_there p abi at table None machine h = tt
+main_there p abi at table (Some m) machine h =
+    let r = function_loaded abi (calls_in (p ∷ [])) at (linked_alone p) table 0 m.entity h.function machine.entries h.means in
+    record { code = r.code; running = r.there; there = r.is.there }
+
+no_heap : (m n : Memory) (i : ℕ) → m ≡ n → n (Heap i) ≡ None → live_size m (Heap i) ≡ None
+no_heap m n i e none = ap (λ m. live_size m (Heap i)) e ∙ ap (λ o. option_map (λ (h : Held). length h.bytes) o) none
+
+-- nothing was allocated before a run
+counted_at_start : (s : Store) (p : Program) (words : List (List ℕ)) (held : StreamsState) → Starts s p words → held ≡ fresh → IsCounted (host_part (memory s) held)
+counted_at_start s p words held h e =
+    subst (λ held. IsCounted (host_part (memory s) held)) (sym e) (record { live = refl; fresh = λ i above. no_heap (memory s) _ i (h.memory [] 0) refl })
+
+as_many : (words : List (String Global)) → length words ≡ length (map string_bytes words)
+as_many [] = refl
+as_many (w ∷ words) = ap suc (as_many words)
+
+-- a machine whose parts are loaded stands before the first step
+pub machine_loads : (m : Machine) (p : Program) (words : List (String Global)) (definers : List Definer) (s : Store) (held : StreamsState) → IsLoadedTable p definers m.table.items → Starts s p (map string_bytes words) → m.run.mem ≡ s → held ≡ fresh → m.run.streams ≡ held
+    → BeginsWith p m.main → m.words ≡ length words → Loads m p (map string_bytes words)
+machine_loads m p words definers s held table start mem new streams main count = record {
+  at = courses_in p definers;
+  table = table;
+  store = subst (λ s. Starts s p (map string_bytes words)) (sym mem) start;
+  streams = streams ∙ new;
+  main = main;
+  count = count ∙ as_many words;
+}
+
+pub machine_is_fresh : (m : Machine) (p : Program) (words : List (List ℕ)) → Loads m p words → AllLead m.table.items → IsNew m.run → m.used ≡ 0 → IsFresh m
+machine_is_fresh m p words loads leads new used = record {
+  leads = leads;
+  main = main_there p p.graph.abi loads.at m.table.items m.main loads.table loads.main;
+  run = new;
+  counted = counted_at_start m.run.mem p words m.run.streams loads.store loads.streams;
+  used = used;
+}

@@ -1,0 +1,67 @@
+-- Device: what the result of a program's run says of its outcome.
+use Rattle.std.proofs.Common.{◌≡◌, ℕ, ◌-◌, ◌∷◌, List, [], Option, Some, None, option_map, true, false, refl, sym, ap, ◌∙◌, subst}
+use Rattle.cil_base.specs.declared.runs.Outcome.{Outcome}
+use Rattle.cil_base.specs.Outcome.{output as written, IsPrefix}
+use Rattle.byte_mem.specs.declared.values.Value.TheVariants.{Int, Ptr, Unknown, Part}
+use Rattle.execution.specs.States.{Result, Goes, Exits, Running, Undefined, last, output}
+use Rattle.execution.specs.Data.{Datum, Single, Bytes}
+use Rattle.execution.specs.Runs.{status_of, outcome_of, outcome_in, result_linked, spent_until}
+use Rattle.execution.specs.Linking.{linked, main_entity}
+use Rattle.execution.specs.Laws.{HasEnded, IsLeastBound}
+use Rattle.execution.proofs.RunLaws.{spends_least}
+use Rattle.cil_tree.specs.Tree.{Program}
+use Rattle.cil_semantics.specs.Runs.{linkables, RunCil, UnitsSpent, FindsEnd}
+use Rattle.cil_semantics.proofs.ProgramLaws.{programs_tame}
+use Rattle.cil_runner.specs.Outcomes.{EndsAs, GoesOn, HasWritten}
+
+-- an outcome has the output of its result
+status_output : (d : Datum) (out : List ℕ) → written (status_of d out) ≡ out
+status_output (Single (Int v)) out = refl
+status_output (Single (Ptr p)) out = refl
+status_output (Single Unknown) out = refl
+status_output (Single (Part p k)) out = refl
+status_output (Bytes bytes) out = refl
+
+outcome_output : (r : Result Datum) → written (outcome_of r) ≡ output r
+outcome_output (Goes d s) = status_output d s.out
+outcome_output (Exits status s) = refl
+outcome_output (Running s) = refl
+outcome_output (Undefined s) = refl
+
+-- the result of the run of a program alone
+abbrev pub result_of : Program → List (List ℕ) → List ℕ → ℕ → Option (Result Datum)
+result_of p words input steps = result_linked (linked (linkables p ∷ [])) (main_entity (linkables p ∷ [])) words input steps
+
+module _ (p : Program) (words : List (List ℕ)) (input : List ℕ) (steps : ℕ) where
+  units_are : (o : Option (Result Datum)) → result_of p words input steps ≡ o → UnitsSpent (p ∷ []) words input steps ≡ spent_until steps (option_map last o)
+  units_are o e = ap (λ o. spent_until steps (option_map last o)) e
+
+  outcome_is : (o : Option (Result Datum)) → result_of p words input steps ≡ o → RunCil (p ∷ []) words input steps ≡ outcome_in o
+  outcome_is o e = ap outcome_in e
+
+  ended : (used : ℕ) (x : Outcome) → RunCil (p ∷ []) words input steps ≡ x → used ≡ UnitsSpent (p ∷ []) words input steps → HasEnded x → EndsAs p words input steps used x
+  ended used x outcome spent h = record {
+    outcome = outcome;
+    spent = spent;
+    least = subst (IsLeastBound (RunCil (p ∷ []) words input) steps) (sym spent) (spends_least (linkables p ∷ []) (programs_tame (p ∷ [])) words input steps (subst HasEnded (sym outcome) h));
+  }
+
+  module _ (r : Result Datum) (is : result_of p words input steps ≡ Some r) where
+    spent_is : (left : ℕ) → (last r).left ≡ left → steps - left ≡ UnitsSpent (p ∷ []) words input steps
+    spent_is left e = sym (units_are (Some r) is ∙ ap (λ n. steps - n) e)
+
+    pub ends_as : (left : ℕ) (x : Outcome) → outcome_of r ≡ x → (last r).left ≡ left → HasEnded x → EndsAs p words input steps (steps - left) x
+    ends_as left x o l h = ended (steps - left) x (outcome_is (Some r) is ∙ o) (spent_is left l) h
+
+    pub goes_on : (left : ℕ) (x : Outcome) → outcome_of r ≡ x → (last r).left ≡ left → GoesOn p words input steps (steps - left) x
+    goes_on left x o l = record { outcome = outcome_is (Some r) is ∙ o; spent = spent_is left l }
+
+    pub has_written : (text : List ℕ) → IsPrefix text (output r) → HasWritten p words input steps text
+    has_written text h = subst (IsPrefix text) (sym (ap written (outcome_is (Some r) is) ∙ outcome_output r)) h
+
+    pub finds_end : (last r).at_end ≡ true → FindsEnd (p ∷ []) words input steps ≡ true
+    finds_end e = ap (λ o. elim (option_map last o) [ None ↦ false | Some s ↦ s.at_end ]) is ∙ e
+
+  -- without a main a run is undefined, with no output
+  pub undefined_without : result_of p words input steps ≡ None → EndsAs p words input steps 0 (outcome_in None)
+  undefined_without e = ended 0 (outcome_in None) (outcome_is None e) (sym (units_are None e)) tt

@@ -1,0 +1,132 @@
+ghost use Rattle.std.specs.Prelude.{◌≡◌, ◌≤◌, ℕ, List, Some, IfOk, map};
+ghost use Rattle.std.specs.String.{string_bytes};
+ghost use Rattle.outside.specs.Counts.{KeepsLimit};
+ghost use Rattle.cil_tree.specs.Tree.{Program};
+ghost use Rattle.cil_tree.specs.View.{program_of};
+ghost use Rattle.cil_tree.specs.Programs.{IsProgram};
+ghost use Rattle.cil_turns.specs.Ends.{CountsReads, CountsWrites};
+ghost use Rattle.cil_runner.specs.Machine.{Loads, RunsAs};
+ghost use Rattle.cil_runner.specs.Beginning.{IsFresh};
+
+use crate::arguments::call_of_main;
+use crate::loading::layouts_of;
+use cil_base::{Memory, NamePool};
+use cil_frames::Entity;
+use cil_start::{Loaded, Main, definers_of, entities_of, main_of, start};
+use cil_streams::Streams;
+use cil_table::load_table;
+use cil_tree::CilUnit;
+use cil_turns::{Run, RunEnd, run_call};
+use outside::{Sink, Source};
+use std::alloc::Global;
+
+/// A machine, which runs one program once.
+#[derive(Drop)]
+pub struct Machine {
+    alloc: Global,
+    /// What each entity of the run is to calls.
+    table: Vec<Option<Entity>>,
+    /// Memory, input and output, and the units that are left.
+    run: Run,
+    /// The function that the run begins with.
+    main: Option<Main>,
+    /// The number of argument words.
+    words: usize,
+    /// The units that the run spent.
+    used: u64,
+}
+
+impl Machine {
+    /// A machine that stands before the first step of a well-formed program, which is run alone with these argument
+    /// words, the first of which names it (C11 5.1.2.2.1p2). `names` are the texts of the program's names.
+    ///
+    /// Memory comes for want of memory, and where a number would not fit.
+    pub fn load(
+        alloc: Global,
+        u: &CilUnit,
+        names: &NamePool,
+        args: &[String],
+    ) -> Result<Machine, Memory>
+        requires { IsProgram (program_of names.now u.now) }
+        ensures loads { IfOk result (λ m. Loads m (program_of names.now u.now) (map string_bytes args.now)) }
+        ensures fresh { IfOk result IsFresh }
+    {
+        let layouts = layouts_of(alloc, &u.graph)?;
+        let entities = entities_of(alloc, u, names)?;
+        let definers = definers_of(alloc, u, names)?;
+        let l = Loaded {
+            unit: u,
+            names,
+            layouts: &layouts,
+            entities: &entities,
+        };
+        let table = load_table(alloc, &l, &definers)?;
+        let mem = start(alloc, &l, &definers, args)?;
+        let streams = Streams::new(alloc)?;
+        Ok(Machine {
+            alloc,
+            table,
+            run: Run::new(alloc, mem, streams, 0),
+            main: main_of(u, names, &entities),
+            words: args.len(),
+            used: 0,
+        })
+    }
+
+    /// Runs the program, which may spend at most `steps` units: each entry of a function of the program spends one, and
+    /// so does each turn of a loop and each jump back (own). It reads `input` where the program asks for a byte and none
+    /// is at hand, and `out` gets all output, unless a write fails.
+    ///
+    /// Undefined also where the program has no main (own). After WriteFault and Memory the sink got a front of the output,
+    /// and after ReadFault one of the output of the run that finds the end of the input there.
+    pub fn run<S: Source, O: Sink>(&mut self, steps: u64, input: &mut S, out: &mut O) -> RunEnd
+        requires { IsFresh self.old }
+        ensures runs { (p : Program) (words : List (List ℕ)) → Loads self.old p words
+            → RunsAs result p words steps self.new.used (S.left input.old) (S.left input.new) (O.taken out.old) (O.taken out.new) }
+        ensures within { self.new.used ≤ steps }
+        ensures reads { CountsReads result (S.faults input.old) (S.faults input.new) }
+        ensures writes { CountsWrites result (O.faults out.old) (O.faults out.new) }
+        ensures read_limit { KeepsLimit (S.faults input.old) (S.faults input.new) }
+        ensures write_limit { KeepsLimit (O.faults out.old) (O.faults out.new) }
+    {
+        match self.main {
+            None => RunEnd::Undefined,
+            Some(main) => self.run_main(main, steps, input, out),
+        }
+    }
+
+    /// Runs the program from its main on.
+    fn run_main<S: Source, O: Sink>(
+        &mut self,
+        main: Main,
+        steps: u64,
+        input: &mut S,
+        out: &mut O,
+    ) -> RunEnd
+        requires fresh { IsFresh self.old }
+        requires main { self.old.main ≡ Some main }
+        ensures runs { (p : Program) (words : List (List ℕ)) → Loads self.old p words
+            → RunsAs result p words steps self.new.used (S.left input.old) (S.left input.new) (O.taken out.old) (O.taken out.new) }
+        ensures within { self.new.used ≤ steps }
+        ensures reads { CountsReads result (S.faults input.old) (S.faults input.new) }
+        ensures writes { CountsWrites result (O.faults out.old) (O.faults out.new) }
+        ensures read_limit { KeepsLimit (S.faults input.old) (S.faults input.new) }
+        ensures write_limit { KeepsLimit (O.faults out.old) (O.faults out.new) }
+    {
+        let Ok(first) = call_of_main(self.alloc, main, self.words) else {
+            return RunEnd::Memory;
+        };
+        self.run.left = steps;
+        let end = run_call(&self.table, &mut self.run, &first, input, out);
+        self.used = steps - self.run.left;
+        end
+    }
+
+    /// The units that the run spent; none before it. After a fault or want of memory all that is promised of them is the
+    /// bound.
+    pub fn used(&self) -> u64
+        ensures { result ≡ self.now.used }
+    {
+        self.used
+    }
+}

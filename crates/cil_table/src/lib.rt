@@ -1,0 +1,13 @@
+//! The table that a machine runs a program on: what each entity of the run is to calls, with the program's functions
+//! loaded.
+//!
+//! Its public contract says that the table of a well-formed program that is run alone is what the linked program means,
+//! and that its functions run from step to step; want of memory is the one other answer.
+//!
+//! The rules come from C11 5.1.2.2.3p1, 6.2.2p2, 6.2.4p5 and 6.9.1.
+#![tactic(auto)]
+
+mod functions;
+mod table;
+
+pub use table::load_table;

@@ -1,0 +1,10 @@
+pub mod KindLemmas
+pub mod Scalars
+pub mod Moves
+pub mod Wholes
+pub mod Heap
+pub mod Begins
+pub mod Returns
+pub mod HostTurns
+pub mod Courses
+pub mod Finishing

@@ -1,0 +1,4 @@
+pub mod Ends
+pub mod Standing
+pub mod Moving
+pub mod Turning
