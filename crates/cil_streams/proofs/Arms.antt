@@ -6,7 +6,6 @@ use Rattle.byte_mem.specs.declared.values.Scalar.{Scalar}
 use Rattle.byte_mem.specs.declared.values.Value as values
 use Rattle.byte_mem.specs.Memory.{Memory}
 use Rattle.host_calls.specs.declared.names.HostName.{HostName}
-use Rattle.host_calls.specs.declared.names.HostName.TheVariants.{Getchar}
 use Rattle.host_calls.specs.declared.calls.Io.{Io}
 use Rattle.host_calls.specs.declared.calls.HostResult.{HostResult}
 use Rattle.host_calls.specs.declared.calls.HostResult.TheVariants.{Value as Gives, Exit as Ends, Undefined, NeedsInput}
@@ -14,7 +13,7 @@ use Rattle.host_calls.specs.Host.{HostState, host}
 use Rattle.host_calls.specs.Counted.{IsCounted, state}
 use Rattle.cil_streams.specs.declared.ends.HostEnd.{HostEnd}
 use Rattle.cil_streams.specs.declared.ends.HostEnd.TheVariants as answers
-use Rattle.cil_streams.specs.Held.{AheadState, StreamsState, Asks, held_by, host_part}
+use Rattle.cil_streams.specs.Held.{AheadState, StreamsState, IsUsedUp, Asks, held_by, host_part}
 use Rattle.cil_streams.specs.HostAnswers.{Answers}
 use Rattle.cil_streams.specs.Fetching.{Spills, Fetches}
 use Rattle.cil_streams.proofs.Means.{Holds, leaves_too, asks, none_wrote, value_answers, exit_answers, write_fault_answers, undefined_answers, memory_answers}
@@ -103,18 +102,21 @@ module _ (abi : Abi) (name : HostName) (wanted : Option Scalar) (args : List (Sc
   input_arm end held' left left' taken taken' e x =
       let row = asks m (held_by io ahead) abi wanted args name (state m' io') (host_is abi name wanted args m m' io io' ahead none NeedsInput e) in
       let same = input_same e in
-      fetch_answers abi name wanted args m m' (held_by io ahead) held' left left' taken taken' row.0 row.2 end same.0 (rw same.2 at x)
-
-  pub input_getchar : host abi name wanted args (state m io) ≡ (NeedsInput, state m' io') → name ≡ Getchar
-  input_getchar e = (asks m (held_by io ahead) abi wanted args name (state m' io') (host_is abi name wanted args m m' io io' ahead none NeedsInput e)).0
+      fetch_answers abi name wanted args m m' (held_by io ahead) held' left left' taken taken' row.0 row.2 (row.3, row.4) end same.0 (rw same.2 at x)
 
   -- the source is asked by a getchar
-  pub input_asks : (A W : Type 0) → host abi name wanted args (state m io) ≡ (NeedsInput, state m' io') → A ⊎ (Asks Getchar (held_by io' ahead) × W) → A ⊎ (Asks name (held_by io ahead) × W)
-  input_asks A W e x = rw (input_getchar e) (rw (input_same e).2 at x)
+  getchar_asks : host abi name wanted args (state m io) ≡ (NeedsInput, state m' io') → IsUsedUp (held_by io' ahead) → Asks name wanted args (held_by io ahead)
+  getchar_asks e x =
+      let row = asks m (held_by io ahead) abi wanted args name (state m' io') (host_is abi name wanted args m m' io io' ahead none NeedsInput e) in
+      record { getchar = row.0; result = row.3; arguments = row.4; used_up = rw (input_same e).2 at x }
 
-  pub input_back : (A B : Type 0) → host abi name wanted args (state m io) ≡ (NeedsInput, state m' io') → A ⊎ Asks Getchar (held_by io' ahead) → A ⊎ (Asks name (held_by io ahead) ⊎ B)
+  pub input_asks : (A W : Type 0) → host abi name wanted args (state m io) ≡ (NeedsInput, state m' io') → A ⊎ (IsUsedUp (held_by io' ahead) × W) → A ⊎ (Asks name wanted args (held_by io ahead) × W)
+  input_asks A W e (inl same) = inl same
+  input_asks A W e (inr x) = inr (getchar_asks e x.0, x.1)
+
+  pub input_back : (A B : Type 0) → host abi name wanted args (state m io) ≡ (NeedsInput, state m' io') → A ⊎ IsUsedUp (held_by io' ahead) → A ⊎ (Asks name wanted args (held_by io ahead) ⊎ B)
   input_back A B e (inl same) = inl same
-  input_back A B e (inr x) = inr (inl (rw (input_getchar e) (rw (input_same e).2 at x)))
+  input_back A B e (inr x) = inr (inl (getchar_asks e x))
 
 -- the invariant of streams holds where they are the same
 pub still_holds : (m m' : Memory) (io io' : Io) (ahead : AheadState) (n : ℕ) → (m' ≡ m) × (io'.ready ≡ None) × (held_by io' ahead ≡ held_by io ahead) → length io.out < n → (io'.ready ≡ None) × (length io'.out < n)

@@ -1,5 +1,5 @@
 -- The ways in which a getchar over a source ends.
-use Rattle.std.proofs.Common.{◌≡◌, ℕ, Bool, true, false, List, [], ◌∷◌, ◌++◌, Option, Ok, Err, refl, ap, sym, ◌∙◌}
+use Rattle.std.proofs.Common.{◌≡◌, ℕ, inl, inr, Bool, true, false, List, [], ◌∷◌, ◌++◌, Option, Ok, Err, refl, ap, sym, ◌∙◌}
 use Rattle.std.proofs.lemmas.List.{append-nil}
 use Rattle.byte_mem.specs.declared.values.Value as values
 use Rattle.host_calls.specs.declared.calls.Io.{Io}
@@ -33,6 +33,7 @@ module _ (io : Io) (ahead : AheadState) where
     read = none_read left left refl;
     sends = none_wrote taken taken refl;
     split = refl;
+    asked = inl (refl, ended);
     stays = λ e. (ended ∙ e, refl);
     finds = λ more e. absurd (not_both ahead'.ended (ended ∙ more) e);
     live = refl;
@@ -48,6 +49,7 @@ module _ (io : Io) (ahead : AheadState) where
       read = none_read left left refl;
       sends = began;
       split = sym (ap (λ (i : Io). io.out ++ i.out) same ∙ append-nil io.out);
+      asked = inl (refl, refl);
       stays = λ e. (e, refl);
       finds = λ more e. absurd (not_both ahead.ended more e);
       live = ap (λ (i : Io). i.live) same;
@@ -55,9 +57,9 @@ module _ (io : Io) (ahead : AheadState) where
       gives = ap (λ (i : Io). i.out) same;
     }
 
-    pub not_read : {A E : Type 0} (e : E) (ahead' : AheadState) (left left' taken taken' : Option (List ℕ)) → ahead.unread ≡ [] → Fills {A = A} {E = E} (Err e) ahead ahead' left left' → Wrote taken taken' io.out
+    pub not_read : {A E : Type 0} (e : E) (ahead' : AheadState) (left left' taken taken' : Option (List ℕ)) → ahead.unread ≡ [] → ahead.ended ≡ false → Fills {A = A} {E = E} (Err e) ahead ahead' left left' → Wrote taken taken' io.out
         → Fetches ReadFault (held_by io ahead) (held_by io' ahead') left left' taken taken'
-    not_read e ahead' left left' taken taken' none fills wrote =
+    not_read e ahead' left left' taken taken' none more fills wrote =
         let stays : ahead'.ended ≡ ahead.ended = ap (λ (a : AheadState). a.ended) fills.failed in
         let unread : ahead'.unread ≡ [] = ap (λ (a : AheadState). a.unread) fills.failed ∙ none in
         let got : fills.got ≡ [] = sym fills.now ∙ unread in
@@ -67,11 +69,12 @@ module _ (io : Io) (ahead : AheadState) where
           read = fills.read;
           sends = wrote;
           split = sym (ap (λ (i : Io). io.out ++ i.out) same ∙ append-nil io.out);
+          asked = inl (got, stays);
           stays = λ e. (stays ∙ e, got);
           finds = λ more e. absurd (not_both ahead'.ended (stays ∙ more) e);
           live = ap (λ (i : Io). i.live) same;
           heap = ap (λ (i : Io). i.heap) same;
-          gives = (ap (λ bytes. bytes ++ fills.got) none ∙ got, unread, ap (λ (i : Io). i.out) same);
+          gives = (ap (λ bytes. bytes ++ fills.got) none ∙ got, unread, ap (λ (i : Io). i.out) same, stays ∙ more);
         }
 
     pub taken_of_read : {A E : Type 0} (x : A) (v : values.Value) (ahead₁ ahead' : AheadState) (left left' taken taken' : Option (List ℕ)) → ahead.unread ≡ [] → ahead.ended ≡ false
@@ -86,6 +89,11 @@ module _ (io : Io) (ahead : AheadState) where
           read = fills.read;
           sends = wrote;
           split = sym (ap (λ (i : Io). io.out ++ i.out) same ∙ append-nil io.out);
+          asked = inr (record {
+            used_up = record { none = none; more = more };
+            few = fills.few;
+            some = λ empty. ended ∙ (fills.filled ∙ ap ended_by empty);
+          });
           stays = λ e. absurd (not_both ahead.ended more e);
           finds = λ more e. fills.finds (sym ended ∙ e);
           live = ap (λ (i : Io). i.live) same;

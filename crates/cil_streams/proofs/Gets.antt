@@ -1,22 +1,24 @@
 -- A getchar over a source answers as the meaning's does.
-use Rattle.std.proofs.Common.{◌≡◌, ℕ, Bool, true, List, [], ◌∷◌, ◌++◌, Option, Some, refl, ap, sym, ◌∙◌, append_assoc}
+use Rattle.std.proofs.Common.{◌≡◌, ◌⊎◌, inl, inr, ℕ, Bool, true, List, [], ◌∷◌, ◌++◌, Option, Some, refl, ap, sym, ◌∙◌, append_assoc}
 use Rattle.std.proofs.lemmas.List.{append-nil}
 use Rattle.cil_base.specs.declared.kinds.Abi.{Abi}
+use Rattle.cil_base.specs.declared.kinds.IntKind.TheVariants.{Int as int}
 use Rattle.byte_mem.specs.declared.values.Scalar.{Scalar}
+use Rattle.byte_mem.specs.declared.values.Scalar.TheVariants.{Int as OfKind}
 use Rattle.byte_mem.specs.declared.values.Value as values
 use Rattle.byte_mem.specs.Memory.{Memory}
 use Rattle.host_calls.specs.declared.names.HostName.{HostName}
 use Rattle.host_calls.specs.declared.names.HostName.TheVariants.{Getchar}
 use Rattle.host_calls.specs.Host.{HostState, getchar, host}
-use Rattle.execution.specs.States.{State, Goes, output}
-use Rattle.execution.specs.Data.{Single}
+use Rattle.execution.specs.States.{State, Result, Goes, last, output}
+use Rattle.execution.specs.Data.{Datum, Single}
 use Rattle.execution.specs.Calls.{Call, ready, behind_first, host_state, host_outcome, scalar_result, scalar_arguments, host_called}
 use Rattle.cil_streams.specs.declared.ends.HostEnd.{HostEnd}
 use Rattle.cil_streams.specs.declared.ends.HostEnd.TheVariants.{Value, Exit, Undefined, ReadFault, WriteFault, Memory as WantOfMemory}
-use Rattle.cil_streams.specs.Held.{StreamsState}
+use Rattle.cil_streams.specs.Held.{StreamsState, IsUsedUp}
 use Rattle.cil_streams.specs.Following.{Matches, Leads}
-use Rattle.cil_streams.specs.HostAnswers.{Answers, Means}
-use Rattle.cil_streams.specs.Fetching.{character, ended_after, Fetches}
+use Rattle.cil_streams.specs.HostAnswers.{Answers, Means, WasNeeded}
+use Rattle.cil_streams.specs.Fetching.{character, ended_after, Fetches, WasAsked}
 use Rattle.cil_streams.proofs.Means.{called_is}
 
 -- the state behind a getchar
@@ -80,7 +82,7 @@ input_is : (s : State) (m : Memory) (held : StreamsState) (written got tail byte
 input_is s m held written got tail bytes both x = x.input ∙ sym (append_assoc held.unread got tail) ∙ ap (λ front. front ++ tail) both
 
 module _ (abi : Abi) (name : HostName) (wanted : Option Scalar) (args : List (Scalar × values.Value)) (m m' : Memory) (held held' : StreamsState) (left left' taken taken' : Option (List ℕ))
-    (is_getchar : name ≡ Getchar) (row : (k : HostState) → host abi name wanted args k ≡ getchar k k.ready) where
+    (is_getchar : name ≡ Getchar) (row : (k : HostState) → host abi name wanted args k ≡ getchar k k.ready) (kinds : (wanted ≡ Some (OfKind int)) × (args ≡ [])) where
   value_means : (v : values.Value) (x : Fetches (Value v) held held' left left' taken taken') (s : State) (c : Call) (written tail : List ℕ) → c.abi ≡ abi → scalar_result c.result ≡ Some wanted → scalar_arguments c.arguments ≡ Some args
       → (held'.ended ≡ true → tail ≡ []) → Matches s m held written (x.got ++ tail) → Means (Value v) (host_called name c s) s m held' written x.sent tail
   value_means v x s c written tail same result arguments end y =
@@ -91,27 +93,53 @@ module _ (abi : Abi) (name : HostName) (wanted : Option Scalar) (args : List (Sc
         leads abi wanted args m held held' s written x.sent x.got tail (held.unread ++ x.got) refl none y x.gives.1 x.gives.2 x.split x.live x.heap end,
       )
 
+  -- where nothing waits behind it, all output was sent
+  sent_all : (sent : List ℕ) → held.waiting ≡ sent ++ held'.waiting → held'.waiting ≡ [] → (s : State) (c : Call) (written tail : List ℕ) → c.abi ≡ abi → scalar_result c.result ≡ Some wanted → scalar_arguments c.arguments ≡ Some args
+      → Matches s m held written tail → output (host_called name c s) ≡ written ++ sent
+  unfolding got_from
+  sent_all sent split none s c written tail same result arguments y =
+      ap output (getchar_is abi wanted args m held held' name is_getchar row s c same result arguments)
+      ∙ y.out ∙ ap (λ bytes. written ++ bytes) (split ∙ ap (λ bytes. sent ++ bytes) none ∙ append-nil sent)
+
   read_fault_means : (x : Fetches ReadFault held held' left left' taken taken') (s : State) (c : Call) (written tail : List ℕ) → c.abi ≡ abi → scalar_result c.result ≡ Some wanted → scalar_arguments c.arguments ≡ Some args
       → Matches s m held written (x.got ++ tail) → Means ReadFault (host_called name c s) s m held' written x.sent tail
-  read_fault_means x s c written tail same result arguments y = λ none. (
-    got_from s s.input,
-    getchar_is abi wanted args m held held' name is_getchar row s c same result arguments
-        ∙ ap (λ (w : values.Value). Goes (Single w) (got_from s s.input)) (ap character (input_is s m held written x.got tail [] x.gives.0 y ∙ none)),
-    x.gives.2,
-    leads abi wanted args m held (record held' { ended = true }) s written x.sent x.got tail [] x.gives.0 (λ empty. none) y x.gives.1 refl x.split x.live x.heap (λ ended. none),
+  unfolding got_from
+  read_fault_means x s c written tail same result arguments y = (
+    sent_all x.sent x.split x.gives.2 s c written (x.got ++ tail) same result arguments y,
+    λ none. (
+      got_from s s.input,
+      getchar_is abi wanted args m held held' name is_getchar row s c same result arguments
+          ∙ ap (λ (w : values.Value). Goes (Single w) (got_from s s.input)) (ap character (input_is s m held written x.got tail [] x.gives.0 y ∙ none)),
+      x.gives.2,
+      leads abi wanted args m held (record held' { ended = true }) s written x.sent x.got tail [] x.gives.0 (λ empty. none) y x.gives.1 refl x.split x.live x.heap (λ ended. none),
+    ),
   )
 
   write_fault_means : (x : Fetches WriteFault held held' left left' taken taken') (s : State) (c : Call) (written tail : List ℕ) → c.abi ≡ abi → scalar_result c.result ≡ Some wanted → scalar_arguments c.arguments ≡ Some args
       → Matches s m held written (x.got ++ tail) → Means WriteFault (host_called name c s) s m held' written x.sent tail
+  write_fault_means x s c written tail same result arguments y = sent_all x.sent x.split x.gives s c written (x.got ++ tail) same result arguments y
+
+  -- where nothing is left of the input, the call finds its end
+  end_found : IsUsedUp held → (s : State) (c : Call) (written : List ℕ) → c.abi ≡ abi → scalar_result c.result ≡ Some wanted → scalar_arguments c.arguments ≡ Some args → Matches s m held written [] → (last (host_called name c s)).at_end ≡ true
   unfolding got_from
-  write_fault_means x s c written tail same result arguments y =
-      ap output (getchar_is abi wanted args m held held' name is_getchar row s c same result arguments)
-      ∙ y.out ∙ ap (λ bytes. written ++ bytes) (x.split ∙ ap (λ bytes. x.sent ++ bytes) x.gives ∙ append-nil x.sent)
+  end_found used_up s c written same result arguments y =
+      ap (λ (r : Result Datum). (last r).at_end) (getchar_is abi wanted args m held held' name is_getchar row s c same result arguments)
+      ∙ ended_where_none s.input s.at_end (y.input ∙ ap (λ bytes. bytes ++ []) used_up.none)
+
+  -- what was read was needed
+  needed : (got : List ℕ) → ((got ≡ []) × (held'.ended ≡ held.ended)) ⊎ WasAsked held held' got → ((got ≡ []) × (held'.ended ≡ held.ended)) ⊎ WasNeeded abi name wanted args m held held' got
+  needed got (inl none) = inl none
+  needed got (inr x) = inr (record {
+    asks = record { getchar = is_getchar; result = kinds.0; arguments = kinds.1; used_up = x.used_up };
+    few = x.few;
+    some = x.some;
+    finds = end_found x.used_up;
+  })
 
   end_answers : (end : HostEnd) → Fetches end held held' left left' taken taken' → Answers end abi name wanted args m m held held' left left' taken taken'
-  end_answers (Value v) x = record { got = x.got; sent = x.sent; read = x.read; sends = x.sends; stays = x.stays; finds = x.finds; means = value_means v x }
-  end_answers ReadFault x = record { got = x.got; sent = x.sent; read = x.read; sends = x.sends; stays = x.stays; finds = x.finds; means = λ s c written tail same result arguments end y. read_fault_means x s c written tail same result arguments y }
-  end_answers WriteFault x = record { got = x.got; sent = x.sent; read = x.read; sends = x.sends; stays = x.stays; finds = x.finds; means = λ s c written tail same result arguments end y. write_fault_means x s c written tail same result arguments y }
+  end_answers (Value v) x = record { got = x.got; sent = x.sent; read = x.read; sends = x.sends; needed = needed x.got x.asked; stays = x.stays; stops = λ fault. absurd (cc); finds = x.finds; means = value_means v x }
+  end_answers ReadFault x = record { got = x.got; sent = x.sent; read = x.read; sends = x.sends; needed = needed x.got x.asked; stays = x.stays; stops = λ fault. x.gives.3; finds = x.finds; means = λ s c written tail same result arguments end y. read_fault_means x s c written tail same result arguments y }
+  end_answers WriteFault x = record { got = x.got; sent = x.sent; read = x.read; sends = x.sends; needed = needed x.got x.asked; stays = x.stays; stops = λ fault. absurd (cc); finds = x.finds; means = λ s c written tail same result arguments end y. write_fault_means x s c written tail same result arguments y }
   end_answers (Exit status) x = absurd x.gives
   end_answers Undefined x = absurd x.gives
   end_answers WantOfMemory x = absurd x.gives

@@ -1,16 +1,20 @@
 -- A call of the host over streams answers as the meaning does.
-use Rattle.std.proofs.Common.{◌≡◌, ℕ, Bool, true, false, ◌&&◌, List, [], ◌∷◌, ◌++◌, Option, Some, None, refl, ap, sym, subst, ◌∙◌, append_assoc}
+use Rattle.std.proofs.Common.{◌≡◌, ℕ, nat_eq, inl, Bool, true, false, ◌&&◌, List, [], ◌∷◌, ◌++◌, Option, Some, None, refl, ap, sym, subst, ◌∙◌, append_assoc}
 use Rattle.std.specs.Prelude.{if◌then◌else◌}
+use Rattle.std.proofs.lemmas.Bool.{and_parts}
 use Rattle.std.proofs.lemmas.List.{append-nil}
 use Rattle.cil_base.specs.declared.kinds.Abi.{Abi}
+use Rattle.cil_base.specs.declared.kinds.IntKind.{IntKind}
+use Rattle.cil_base.specs.declared.kinds.IntKind.TheVariants.{Int as int}
 use Rattle.byte_mem.specs.declared.values.Scalar.{Scalar}
+use Rattle.byte_mem.specs.declared.values.Scalar.TheVariants.{Int as OfKind, Ptr as OfPointer}
 use Rattle.byte_mem.specs.declared.values.Value as values
 use Rattle.byte_mem.specs.Memory.{Memory}
 use Rattle.host_calls.specs.declared.names.HostName.{HostName}
 use Rattle.host_calls.specs.declared.names.HostName.TheVariants.{Getchar, Putchar, Exit, Abort, Malloc, Free, Memset}
 use Rattle.host_calls.specs.declared.calls.HostResult.{HostResult}
 use Rattle.host_calls.specs.declared.calls.HostResult.TheVariants.{Value as Gives, Exit as Ends, Undefined, NeedsInput}
-use Rattle.host_calls.specs.Host.{HostState, Outcome, undefined, getchar, result_of, parameters_of, same_result, have_kinds, host}
+use Rattle.host_calls.specs.Host.{HostState, Outcome, undefined, getchar, result_of, parameters_of, kind_number, same_result, have_kinds, host}
 use Rattle.outside.specs.Moves.{Wrote, Began, WasRead}
 use Rattle.execution.specs.States.{State, output}
 use Rattle.execution.specs.Calls.{Call, ready, input_after, at_end_after, host_state, after_host, host_outcome, scalar_result, scalar_arguments, host_called}
@@ -46,9 +50,22 @@ module _ (h : HostState) (r : HostResult) (k : HostState) where
   if_undefined true e defined = subst IsDefined (sym (ap (λ (o : Outcome). o.0) e)) defined
   if_undefined false e defined = subst IsDefined (sym (ap (λ (o : Outcome). o.0) e)) defined
 
-if_asks : (h k : HostState) (b : Bool) → (if b then (NeedsInput, h) else undefined h) ≡ (NeedsInput, k) → (k ≡ h) × ((s : HostState) → (if b then getchar s s.ready else undefined s) ≡ getchar s s.ready)
-if_asks h k true e = (sym (ap (λ (o : Outcome). o.1) e), λ s. refl)
+if_asks : (h k : HostState) (b : Bool) → (if b then (NeedsInput, h) else undefined h) ≡ (NeedsInput, k) → (k ≡ h) × ((s : HostState) → (if b then getchar s s.ready else undefined s) ≡ getchar s s.ready) × (b ≡ true)
+if_asks h k true e = (sym (ap (λ (o : Outcome). o.1) e), λ s. refl, refl)
 if_asks h k false e = absurd (subst IsAnswer (ap (λ (o : Outcome). o.0) e) tt)
+
+only_int : (kind : IntKind) → nat_eq 6 (kind_number kind) ≡ true → kind ≡ int
+only_int int same = refl
+only_int _ same = absurd (cc)
+
+only_result : (wanted : Option Scalar) → same_result (Some (OfKind int)) wanted ≡ true → wanted ≡ Some (OfKind int)
+only_result None same = absurd (cc)
+only_result (Some OfPointer) same = absurd (cc)
+only_result (Some (OfKind kind)) same = ap (λ k. Some (OfKind k)) (only_int kind same)
+
+no_arguments : (args : List (Scalar × values.Value)) → have_kinds [] args ≡ true → args ≡ []
+no_arguments [] same = refl
+no_arguments (a ∷ args) same = absurd (cc)
 
 -- the kinds of a call are those of the row
 fits : Abi → HostName → Option Scalar → List (Scalar × values.Value) → Bool
@@ -94,9 +111,12 @@ module _ (m : Memory) (held : StreamsState) (abi : Abi) (wanted : Option Scalar)
 
   -- what asks for input is a getchar of the row's kinds, and nothing has changed
   pub asks : (name : HostName) (k : HostState) → host abi name wanted args (host_part m held) ≡ (NeedsInput, k)
-      → (name ≡ Getchar) × (k ≡ host_part m held) × ((s : HostState) → host abi name wanted args s ≡ getchar s s.ready)
+      → (name ≡ Getchar) × (k ≡ host_part m held) × ((s : HostState) → host abi name wanted args s ≡ getchar s s.ready) × (wanted ≡ Some (OfKind int)) × (args ≡ [])
   unfolding fits
-  asks Getchar k e = let both = if_asks (host_part m held) k (fits abi Getchar wanted args) e in (refl, both.0, both.1)
+  asks Getchar k e =
+      let both = if_asks (host_part m held) k (fits abi Getchar wanted args) e in
+      let kinds = and_parts (same_result (Some (OfKind int)) wanted) (have_kinds [] args) both.2 in
+      (refl, both.0, both.1, only_result wanted kinds.0, no_arguments args kinds.1)
   asks Putchar k e = absurd (quiet_leaves Putchar NeedsInput k tt e)
   asks Exit k e = absurd (quiet_leaves Exit NeedsInput k tt e)
   asks Abort k e = absurd (quiet_leaves Abort NeedsInput k tt e)
@@ -172,7 +192,9 @@ module _ (abi : Abi) (name : HostName) (wanted : Option Scalar) (args : List (Sc
     sent = sent;
     read = none_read left left' same;
     sends = wrote;
+    needed = inl (refl, y.ended);
     stays = λ ended. (y.ended ∙ ended, refl);
+    stops = λ fault. absurd (cc);
     finds = λ more ended. absurd (cc (y.ended, more, ended));
     means = λ s c written tail abis result arguments end x. (
       after_host name s (moved written (ready s.input) k),
@@ -188,7 +210,9 @@ module _ (abi : Abi) (name : HostName) (wanted : Option Scalar) (args : List (Sc
     sent = sent;
     read = none_read left left' same;
     sends = wrote;
+    needed = inl (refl, y.ended);
     stays = λ ended. (y.ended ∙ ended, refl);
+    stops = λ fault. absurd (cc);
     finds = λ more ended. absurd (cc (y.ended, more, ended));
     means = λ s c written tail abis result arguments end x. (
       after_host name s (moved written (ready s.input) k),
@@ -205,7 +229,9 @@ module _ (abi : Abi) (name : HostName) (wanted : Option Scalar) (args : List (Sc
     sent = sent;
     read = none_read left left' same;
     sends = began;
+    needed = inl (refl, y.ended);
     stays = λ ended. (y.ended ∙ ended, refl);
+    stops = λ fault. absurd (cc);
     finds = λ more ended. absurd (cc (y.ended, more, ended));
     means = λ s c written tail abis result arguments end x.
         ap output (outcome_is (Gives v) k e tt s c written tail abis result arguments x)
@@ -224,7 +250,9 @@ module _ (abi : Abi) (name : HostName) (wanted : Option Scalar) (args : List (Sc
     sent = [];
     read = none_read left left' left_same;
     sends = none_wrote taken taken' taken_same;
+    needed = inl (refl, ap (λ (h : StreamsState). h.ended) same);
     stays = λ ended. (ap (λ (h : StreamsState). h.ended) same ∙ ended, refl);
+    stops = λ fault. absurd (cc);
     finds = λ more ended. absurd (cc (ap (λ (h : StreamsState). h.ended) same, more, ended));
     means = λ s c written tail abis result arguments end x. (
       outcome_is abi name wanted args m m' held held' [] left left' taken taken' Undefined k e tt s c written tail abis result arguments x,
@@ -239,7 +267,9 @@ module _ (abi : Abi) (name : HostName) (wanted : Option Scalar) (args : List (Sc
     sent = [];
     read = none_read left left' left_same;
     sends = none_wrote taken taken' taken_same;
+    needed = inl (refl, ap (λ (h : StreamsState). h.ended) same);
     stays = λ ended. (ap (λ (h : StreamsState). h.ended) same ∙ ended, refl);
+    stops = λ fault. absurd (cc);
     finds = λ more ended. absurd (cc (ap (λ (h : StreamsState). h.ended) same, more, ended));
     means = λ s c written tail abis result arguments end x. rw (same, append-nil written) x.out;
   }

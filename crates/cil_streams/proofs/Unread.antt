@@ -28,7 +28,7 @@ pub fill_fails : {A E : Type 0} (result : Result A E) (ahead ahead' : AheadState
     → Fills result ahead ahead' left left'
 fill_fails (Ok x) ahead ahead' left left' is none none' ended same = absurd (cc)
 fill_fails (Err e) ahead ahead' left left' is none none' ended same =
-    record { got = []; read = none_read left left' same; now = none'; filled = tt; failed = same_ahead ahead' ahead (none' ∙ sym none) ended; finds = λ found. tt }
+    record { got = []; read = none_read left left' same; few = omega arith; now = none'; filled = tt; failed = same_ahead ahead' ahead (none' ∙ sym none) ended; finds = λ found. tt }
 
 -- the front of a buffer that was filled
 front_is : (n : ℕ) (bytes rest : List ℕ) → n ≤ length bytes → take n (take n bytes ++ rest) ≡ take n bytes
@@ -48,15 +48,16 @@ ends (suc n) [] fits = absurd (omega arith)
 ends (suc n) (b ∷ bytes) fits = eqb-suc-zero n
 
 -- a read gave n bytes
-pub fill_gives : {A E : Type 0} (x : A) (ahead : AheadState) (left left' : Option (List ℕ)) (buf buf' : List ℕ) (n : ℕ) → Reads left left' buf buf' n → length buf' ≡ length buf → 0 < length buf
+pub fill_gives : {A E : Type 0} (x : A) (ahead : AheadState) (left left' : Option (List ℕ)) (buf buf' : List ℕ) (n : ℕ) → Reads left left' buf buf' n → length buf' ≡ length buf → length buf ≡ 4096
     → Fills {A = A} {E = E} (Ok x) ahead (record { unread = drop 0 (take n buf'); ended = nat_eq n 0 }) left left'
-fill_gives x ahead left left' buf buf' n r same some = record {
+fill_gives x ahead left left' buf buf' n r same size = record {
   got = take n buf';
   read = was_read left left' buf buf' n r;
+  few = omega (arith, length-take n buf', r.fits);
   now = refl;
   filled = ends n buf' (omega (arith, r.fits));
   failed = tt;
-  finds = λ found. ended_is left left' buf buf' n r some found;
+  finds = λ found. ended_is left left' buf buf' n r (omega (arith, size)) found;
 }
   where
     ended_is : (left left' : Option (List ℕ)) (buf buf' : List ℕ) (n : ℕ) → Reads left left' buf buf' n → 0 < length buf → nat_eq n 0 ≡ true → IfSome left' (λ bytes. bytes ≡ [])

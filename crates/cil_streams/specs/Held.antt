@@ -1,5 +1,9 @@
 -- Definition: what streams hold between two calls of the host (own).
-use Rattle.std.specs.Prelude.{◌≡◌, ℕ, Bool, false, List, [], None}
+use Rattle.std.specs.Prelude.{◌≡◌, ℕ, Bool, false, List, [], Option, Some, None}
+use Rattle.cil_base.specs.declared.kinds.IntKind.TheVariants.{Int as int}
+use Rattle.byte_mem.specs.declared.values.Scalar.{Scalar}
+use Rattle.byte_mem.specs.declared.values.Scalar.TheVariants.{Int as OfKind}
+use Rattle.byte_mem.specs.declared.values.Value.{Value}
 use Rattle.byte_mem.specs.Memory.{Memory}
 use Rattle.host_calls.specs.declared.names.HostName.{HostName}
 use Rattle.host_calls.specs.declared.names.HostName.TheVariants.{Getchar}
@@ -31,8 +35,14 @@ fresh = record { unread = []; ended = false; waiting = []; live = 0; heap = 0 }
 abbrev pub host_part : Memory → StreamsState → HostState
 host_part m held = record { memory = m; ready = None; out = held.waiting; live = held.live; heap = held.heap }
 
--- a call asks the source for bytes: it wants one, none is at hand, and the source has not given its end
-pub record Asks (name : HostName) (held : StreamsState) : Type 0 where
-  pub getchar : name ≡ Getchar
+-- no byte is at hand, and the source has not given its end
+pub record IsUsedUp (held : StreamsState) : Type 0 where
   pub none : held.unread ≡ []
   pub more : held.ended ≡ false
+
+-- a call asks the source for bytes: it is a getchar, with a result of kind int and no arguments (C11 7.21.7.6p1), and no byte is at hand
+pub record Asks (name : HostName) (wanted : Option Scalar) (args : List (Scalar × Value)) (held : StreamsState) : Type 0 where
+  pub getchar : name ≡ Getchar
+  pub result : wanted ≡ Some (OfKind int)
+  pub arguments : args ≡ []
+  pub used_up : IsUsedUp held

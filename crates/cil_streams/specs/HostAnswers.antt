@@ -1,5 +1,5 @@
 -- Definition: what a call of the host over a source and a sink answers, and how its answer is that of the meaning, which has all input at hand and keeps all output.
-use Rattle.std.specs.Prelude.{◌≡◌, ℕ, ◌≤◌, true, false, List, [], ◌++◌, Option, Some, IfSome, negsuc}
+use Rattle.std.specs.Prelude.{◌≡◌, ℕ, ◌≤◌, ◌⊎◌, true, false, List, [], ◌++◌, length, Option, Some, IfSome, negsuc}
 use Rattle.cil_base.specs.declared.kinds.Abi.{Abi}
 use Rattle.byte_mem.specs.declared.values.Scalar.{Scalar}
 use Rattle.byte_mem.specs.declared.values.Value as values
@@ -8,12 +8,12 @@ use Rattle.byte_mem.specs.Memory.{Memory}
 use Rattle.host_calls.specs.declared.names.HostName.{HostName}
 use Rattle.outside.specs.Counts.{Rose}
 use Rattle.outside.specs.Moves.{Wrote, Began, WasRead}
-use Rattle.execution.specs.States.{State, Result, Goes, Exits, Undefined as Broken, output}
+use Rattle.execution.specs.States.{State, Result, Goes, Exits, Undefined as Broken, last, output}
 use Rattle.execution.specs.Data.{Datum, Single}
 use Rattle.execution.specs.Calls.{Call, scalar_result, scalar_arguments, host_called}
 use Rattle.cil_streams.specs.declared.ends.HostEnd.{HostEnd}
 use Rattle.cil_streams.specs.declared.ends.HostEnd.TheVariants.{Value, Exit, Undefined, ReadFault, WriteFault, Memory as WantOfMemory}
-use Rattle.cil_streams.specs.Held.{StreamsState}
+use Rattle.cil_streams.specs.Held.{StreamsState, Asks}
 use Rattle.cil_streams.specs.Following.{Matches, Leads}
 
 -- the sink took all that was sent, or, where it failed, a front of that
@@ -43,13 +43,21 @@ Means (Value v) r s m held written sent tail = (t : State) × (r ≡ Goes (Singl
 Means (Exit status) r s m held written sent tail = (t : State) × (r ≡ Exits status t) × Leads s t m held (written ++ sent) tail
 -- the call is undefined, and the state as before
 Means Undefined r s m held written sent tail = (r ≡ Broken s) × Matches s m held (written ++ sent) tail
--- a source that had nothing more to give would have been found at its end, behind all output
+-- what was sent is the output to the end of the call; and a source that had nothing more to give would have been found at its end
 Means ReadFault r s m held written sent tail =
-    tail ≡ [] → (t : State) × (r ≡ Goes (Single (Int (negsuc 0))) t) × (held.waiting ≡ []) × Leads s t m (record held { ended = true }) (written ++ sent) tail
+    (output r ≡ written ++ sent) × (tail ≡ [] → (t : State) × (r ≡ Goes (Single (Int (negsuc 0))) t) × (held.waiting ≡ []) × Leads s t m (record held { ended = true }) (written ++ sent) tail)
 -- what was sent is the output to its end
 Means WriteFault r s m held written sent tail = output r ≡ written ++ sent
 -- what was sent and what waits is the output so far
 Means WantOfMemory r s m held written sent tail = s.out ≡ (written ++ sent) ++ held.waiting
+
+-- what a call read of the source, at most 4,096 bytes or its end, was needed: a source that had nothing to give would have been found at its end
+pub record WasNeeded (abi : Abi) (name : HostName) (wanted : Option Scalar) (args : List (Scalar × values.Value)) (m : Memory) (held held' : StreamsState) (got : List ℕ) : Type 0 where
+  pub asks : Asks name wanted args held
+  pub few : length got ≤ 4096
+  pub some : got ≡ [] → held'.ended ≡ true
+  pub finds : (s : State) (c : Call) (written : List ℕ) → c.abi ≡ abi → scalar_result c.result ≡ Some wanted → scalar_arguments c.arguments ≡ Some args
+      → Matches s m held written [] → (last (host_called name c s)).at_end ≡ true
 
 -- a call of the host over a source, of which `left` is left, and a sink, which has taken `taken`; the accented ones are behind the call
 pub record Answers (end : HostEnd) (abi : Abi) (name : HostName) (wanted : Option Scalar) (args : List (Scalar × values.Value)) (m m' : Memory) (held held' : StreamsState) (left left' taken taken' : Option (List ℕ)) : Type 0 where
@@ -58,8 +66,11 @@ pub record Answers (end : HostEnd) (abi : Abi) (name : HostName) (wanted : Optio
   pub sent : List ℕ
   pub read : WasRead left left' got
   pub sends : Sends end taken taken' sent
-  -- a source that has given its end is asked no more
+  -- nothing was read, or what was read was needed
+  pub needed : ((got ≡ []) × (held'.ended ≡ held.ended)) ⊎ WasNeeded abi name wanted args m held held' got
+  -- a source that has given its end is asked no more, so that no read of it fails
   pub stays : held.ended ≡ true → (held'.ended ≡ true) × (got ≡ [])
+  pub stops : end ≡ ReadFault → held'.ended ≡ false
   -- it gives its end only where nothing is left
   pub finds : held.ended ≡ false → held'.ended ≡ true → IfSome left' (λ bytes. bytes ≡ [])
   -- whatever the source has still to give, nothing where it has given its end

@@ -1,4 +1,4 @@
-ghost use Rattle.std.specs.Prelude.{◌≡◌, ◌<◌, ◌≤◌, ◌↔◌, [], take, drop, length, vec_len, false, IsTrue, IfOk, OnErr};
+ghost use Rattle.std.specs.Prelude.{◌≡◌, ◌≤◌, ◌↔◌, [], take, drop, length, vec_len, false, IsTrue, IfOk, OnErr};
 ghost use Rattle.execution.specs.Calls.{behind_first};
 ghost use Rattle.outside.specs.Counts.{Counts, KeepsLimit};
 ghost use Rattle.outside.specs.Moves.{Reads};
@@ -30,7 +30,7 @@ impl Model for Ahead {
       ended = a.ended;
     } };
 
-    ghost invariant = { λ a. (a.taken ≤ a.filled) × (a.filled ≤ vec_len a.buffer) × (0 < vec_len a.buffer) };
+    ghost invariant = { λ a. (a.taken ≤ a.filled) × (a.filled ≤ vec_len a.buffer) × (vec_len a.buffer ≡ 4096) };
 }
 
 impl Ahead {
@@ -57,7 +57,8 @@ impl Ahead {
         self.taken == self.filled
     }
 
-    /// Reads what the source gives at once, which is its end where it gives nothing. After `Failed` all is as before.
+    /// Reads what the source gives at once, at most 4,096 bytes, which is its end where it gives nothing. After `Failed` all
+    /// is as before.
     pub fn fill<I: Source>(&mut self, input: &mut I) -> Result<(), Failed>
         requires { self.old.unread ≡ [] }
         ensures filled { Fills result self.old self.new (I.left input.old) (I.left input.new) }

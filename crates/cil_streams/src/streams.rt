@@ -3,7 +3,7 @@ ghost use Rattle.byte_mem.specs.Store.{memory};
 ghost use Rattle.host_calls.specs.Counted.{IsCounted};
 ghost use Rattle.outside.specs.Counts.{Counts, KeepsLimit};
 ghost use Rattle.outside.specs.Moves.{Wrote, Began};
-ghost use Rattle.cil_streams.specs.Held.{StreamsState, Asks, fresh, held_by, host_part};
+ghost use Rattle.cil_streams.specs.Held.{StreamsState, Asks, IsUsedUp, fresh, held_by, host_part};
 ghost use Rattle.cil_streams.specs.Fetching.{Fetches};
 
 use crate::ahead::Ahead;
@@ -65,8 +65,8 @@ impl Streams {
             (I.left input.old) (I.left input.new) (O.taken out.old) (O.taken out.new) }
         ensures counted { IsCounted (host_part (memory mem.new) self.new) }
         ensures model { mem.new.abi ≡ mem.old.abi }
-        ensures asked { (input.new ≡ input.old) ⊎ (Asks name self.old × (self.new.waiting ≡ [])) }
-        ensures held_back { (out.new ≡ out.old) ⊎ (Asks name self.old ⊎ (4095 ≤ length self.old.waiting)) }
+        ensures asked { (input.new ≡ input.old) ⊎ (Asks name wanted args.now self.old × (self.new.waiting ≡ [])) }
+        ensures held_back { (out.new ≡ out.old) ⊎ (Asks name wanted args.now self.old ⊎ (4095 ≤ length self.old.waiting)) }
         ensures reads { CountsReads result (I.faults input.old) (I.faults input.new) }
         ensures writes { CountsWrites result (O.faults out.old) (O.faults out.new) }
         ensures read_limit { KeepsLimit (I.faults input.old) (I.faults input.new) }
@@ -88,8 +88,8 @@ impl Streams {
     fn getchar<I: Source, O: Sink>(&mut self, input: &mut I, out: &mut O) -> HostEnd
         ensures fetches { Fetches result self.old self.new
             (I.left input.old) (I.left input.new) (O.taken out.old) (O.taken out.new) }
-        ensures asked { (input.new ≡ input.old) ⊎ (Asks HostName.Getchar self.old × (self.new.waiting ≡ [])) }
-        ensures held_back { (out.new ≡ out.old) ⊎ Asks HostName.Getchar self.old }
+        ensures asked { (input.new ≡ input.old) ⊎ (IsUsedUp self.old × (self.new.waiting ≡ [])) }
+        ensures held_back { (out.new ≡ out.old) ⊎ IsUsedUp self.old }
         ensures reads { CountsReads result (I.faults input.old) (I.faults input.new) }
         ensures writes { CountsWrites result (O.faults out.old) (O.faults out.new) }
         ensures read_limit { KeepsLimit (I.faults input.old) (I.faults input.new) }

@@ -1,4 +1,4 @@
-use Rattle.std.proofs.Common.{◌≡◌, ◌≤◌, ◌<◌, length, take, drop, [], ap, rules, vec_len, arith}
+use Rattle.std.proofs.Common.{◌≡◌, ◌≤◌, length, take, drop, [], ap, ◌∙◌, rules, vec_len, arith}
 use Rattle.cil_streams.specs.Held.{AheadState}
 use Rattle.cil_streams.proofs.Unread.{no_unread, all_taken, fill_fails, fill_gives}
 use Rattle.cil_streams.proofs.ahead.Ahead.fill.Goals as goal
@@ -14,5 +14,5 @@ returns-in_err-n-clause-filled g c =
 pub returns-clause-filled : goal.returns-clause-filled
 returns-clause-filled g c =
     let len : length c.self.inside.buffer.items ≡ vec_len c.self.inside.buffer = search rules in
-    let some : 0 < length c.self.inside.buffer.items = omega (arith, c.self.invariant.2) in
-    fill_gives _ _ _ _ c.self.inside.buffer.items _ c.in_ok-n.n c.in_ok-n.ensures.read c.read_into.ensures.len some
+    let size : length c.self.inside.buffer.items ≡ 4096 = len ∙ c.self.invariant.2 in
+    fill_gives _ _ _ _ c.self.inside.buffer.items _ c.in_ok-n.n c.in_ok-n.ensures.read c.read_into.ensures.len size
