@@ -137,9 +137,9 @@ module _ (abi : Abi) (name : HostName) (wanted : Option Scalar) (args : List (Sc
   })
 
   end_answers : (end : HostEnd) → Fetches end held held' left left' taken taken' → Answers end abi name wanted args m m held held' left left' taken taken'
-  end_answers (Value v) x = record { got = x.got; sent = x.sent; read = x.read; sends = x.sends; needed = needed x.got x.asked; stays = x.stays; stops = λ fault. absurd (cc); finds = x.finds; means = value_means v x }
-  end_answers ReadFault x = record { got = x.got; sent = x.sent; read = x.read; sends = x.sends; needed = needed x.got x.asked; stays = x.stays; stops = λ fault. x.gives.3; finds = x.finds; means = λ s c written tail same result arguments end y. read_fault_means x s c written tail same result arguments y }
-  end_answers WriteFault x = record { got = x.got; sent = x.sent; read = x.read; sends = x.sends; needed = needed x.got x.asked; stays = x.stays; stops = λ fault. absurd (cc); finds = x.finds; means = λ s c written tail same result arguments end y. write_fault_means x s c written tail same result arguments y }
+  end_answers (Value v) x = record { got = x.got; sent = x.sent; read = x.read; sends = x.sends; asked = needed x.got x.asked; stays = x.stays; stops = λ fault. absurd (cc); finds = x.finds; means = value_means v x }
+  end_answers ReadFault x = record { got = x.got; sent = x.sent; read = x.read; sends = x.sends; asked = needed x.got x.asked; stays = x.stays; stops = λ fault. x.gives.3; finds = x.finds; means = λ s c written tail same result arguments end y. read_fault_means x s c written tail same result arguments y }
+  end_answers WriteFault x = record { got = x.got; sent = x.sent; read = x.read; sends = x.sends; asked = needed x.got x.asked; stays = x.stays; stops = λ fault. absurd (cc); finds = x.finds; means = λ s c written tail same result arguments end y. write_fault_means x s c written tail same result arguments y }
   end_answers (Exit status) x = absurd x.gives
   end_answers Undefined x = absurd x.gives
   end_answers WantOfMemory x = absurd x.gives

@@ -192,7 +192,7 @@ module _ (abi : Abi) (name : HostName) (wanted : Option Scalar) (args : List (Sc
     sent = sent;
     read = none_read left left' same;
     sends = wrote;
-    needed = inl (refl, y.ended);
+    asked = inl (refl, y.ended);
     stays = λ ended. (y.ended ∙ ended, refl);
     stops = λ fault. absurd (cc);
     finds = λ more ended. absurd (cc (y.ended, more, ended));
@@ -210,7 +210,7 @@ module _ (abi : Abi) (name : HostName) (wanted : Option Scalar) (args : List (Sc
     sent = sent;
     read = none_read left left' same;
     sends = wrote;
-    needed = inl (refl, y.ended);
+    asked = inl (refl, y.ended);
     stays = λ ended. (y.ended ∙ ended, refl);
     stops = λ fault. absurd (cc);
     finds = λ more ended. absurd (cc (y.ended, more, ended));
@@ -229,7 +229,7 @@ module _ (abi : Abi) (name : HostName) (wanted : Option Scalar) (args : List (Sc
     sent = sent;
     read = none_read left left' same;
     sends = began;
-    needed = inl (refl, y.ended);
+    asked = inl (refl, y.ended);
     stays = λ ended. (y.ended ∙ ended, refl);
     stops = λ fault. absurd (cc);
     finds = λ more ended. absurd (cc (y.ended, more, ended));
@@ -250,7 +250,7 @@ module _ (abi : Abi) (name : HostName) (wanted : Option Scalar) (args : List (Sc
     sent = [];
     read = none_read left left' left_same;
     sends = none_wrote taken taken' taken_same;
-    needed = inl (refl, ap (λ (h : StreamsState). h.ended) same);
+    asked = inl (refl, ap (λ (h : StreamsState). h.ended) same);
     stays = λ ended. (ap (λ (h : StreamsState). h.ended) same ∙ ended, refl);
     stops = λ fault. absurd (cc);
     finds = λ more ended. absurd (cc (ap (λ (h : StreamsState). h.ended) same, more, ended));
@@ -267,7 +267,7 @@ module _ (abi : Abi) (name : HostName) (wanted : Option Scalar) (args : List (Sc
     sent = [];
     read = none_read left left' left_same;
     sends = none_wrote taken taken' taken_same;
-    needed = inl (refl, ap (λ (h : StreamsState). h.ended) same);
+    asked = inl (refl, ap (λ (h : StreamsState). h.ended) same);
     stays = λ ended. (ap (λ (h : StreamsState). h.ended) same ∙ ended, refl);
     stops = λ fault. absurd (cc);
     finds = λ more ended. absurd (cc (ap (λ (h : StreamsState). h.ended) same, more, ended));

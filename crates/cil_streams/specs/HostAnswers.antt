@@ -67,7 +67,7 @@ pub record Answers (end : HostEnd) (abi : Abi) (name : HostName) (wanted : Optio
   pub read : WasRead left left' got
   pub sends : Sends end taken taken' sent
   -- nothing was read, or what was read was needed
-  pub needed : ((got ≡ []) × (held'.ended ≡ held.ended)) ⊎ WasNeeded abi name wanted args m held held' got
+  pub asked : ((got ≡ []) × (held'.ended ≡ held.ended)) ⊎ WasNeeded abi name wanted args m held held' got
   -- a source that has given its end is asked no more, so that no read of it fails
   pub stays : held.ended ≡ true → (held'.ended ≡ true) × (got ≡ [])
   pub stops : end ≡ ReadFault → held'.ended ≡ false

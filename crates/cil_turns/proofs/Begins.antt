@@ -6,7 +6,7 @@ use Rattle.byte_mem.specs.declared.stores.Store.{Store}
 use Rattle.byte_mem.specs.declared.values.Value.{Value}
 use Rattle.byte_mem.specs.Steps.{◌>>=◌}
 use Rattle.byte_mem.specs.Store.{memory, Becomes}
-use Rattle.execution.specs.States.{State, Result, Running, Undefined, with_left, last, spent}
+use Rattle.execution.specs.States.{State, Result, Running, Undefined, with_left, spent}
 use Rattle.execution.specs.Data.{Datum, same_kind}
 use Rattle.execution.specs.Calls as meaning
 use Rattle.execution.specs.Calls.{Enter, Meaning, Object, Code, Host, Linked, activated, entered, matches, arguments_match, called, entity_at, meant}
@@ -35,7 +35,7 @@ use Rattle.cil_turns.specs.Standing.{Waits, Stands, remains, from_stand, from_fi
 use Rattle.cil_turns.specs.Moving.{Arrives, Finishes}
 use Rattle.cil_turns.specs.Turning.{StandsAtCall, kinds_agree, Begun, frame_of, FirstStands}
 use Rattle.cil_turns.proofs.KindLemmas.{agree_long}
-use Rattle.cil_turns.proofs.Wholes.{one_model, remains_is, remains_grows, whole_grows, grows_front, stand_push, ahead_push, ahead_at_most, steps_there, spends}
+use Rattle.cil_turns.proofs.Wholes.{one_model, remains_is, remains_grows, whole_grows, cut_off, stand_push, ahead_push, ahead_at_most, steps_there, spends}
 use Rattle.cil_turns.proofs.Heap.{begun_heap, still_counted}
 use Rattle.cil_turns.proofs.Moves.{moved, quiet_moves, quiet_comes}
 
@@ -197,11 +197,12 @@ pub nothing_there : (table : List (Option Entity)) (v : Value) (n : ℕ) (y : Op
 nothing_there table v n y calls there empty = subst IsNoFunction (sym (entry_of table v n y calls there)) empty
 
 -- memory is wanting where a machine stands, and what was sent and what waits is the output so far
-pub wants_at : (table : List (Option Entity)) (old new : Run) (x : Stand) → Stands table old x → new.streams ≡ old.streams → (left taken : Option (List ℕ)) → Finishes table (from_stand table old x) WantOfMemory old new left left taken taken
-wants_at table old new x h same left taken = record {
+pub wants_at : (table : List (Option Entity)) (old new : Run) (x : Stand) → Stands table old x → new.streams ≡ old.streams → new.left ≡ old.left → (left taken : Option (List ℕ)) → Finishes table (from_stand table old x) WantOfMemory old new left left taken taken
+wants_at table old new x h same kept left taken = record {
   means = λ abi link enter at machine grow.
       quiet_comes (from_stand table old x abi enter at) old new same left taken WantOfMemory tt (λ tail s m units next.
-      grows_front s (last (remains abi at table old.frames.items x s)) (remains_grows abi link enter at table grow old.frames.items h.waits.waiting x h.place s));
+      let low : s.left ≡ new.left = units ∙ sym kept in
+      cut_off (remains abi at table old.frames.items x s) s new.left (remains_grows abi link enter at table grow old.frames.items h.waits.waiting x h.place s) (omega arith));
 }
 
 -- the first call
@@ -256,9 +257,11 @@ above zero h = absurd (omega arith)
 above (suc k) h = (k, refl)
 
 -- memory is wanting once the first activation is to begin
-pub first_wants : (table : List (Option Entity)) (old new : Run) (f : Function) (c : FirstCall) → FirstStands table old f c → kinds_agree f c.result c.arguments.items ≡ true → 0 < old.left → new.streams ≡ old.streams → (left taken : Option (List ℕ)) → Finishes table (from_first c) WantOfMemory old new left left taken taken
-first_wants table old new f c h fits some same left taken =
+pub first_wants : (table : List (Option Entity)) (old new : Run) (f : Function) (c : FirstCall) → FirstStands table old f c → kinds_agree f c.result c.arguments.items ≡ true → 0 < old.left → new.streams ≡ old.streams → new.left ≡ old.left → (left taken : Option (List ℕ)) → Finishes table (from_first c) WantOfMemory old new left left taken taken
+first_wants table old new f c h fits some same kept left taken =
     let k = above old.left some in
+    let one : old.left ≡ suc k.0 = k.1 in
+    let low : k.0 ≤ new.left = omega (arith, kept) in
     record {
       means = λ abi link enter at machine grow.
           quiet_comes (from_first c abi enter at) old new same left taken WantOfMemory tt (λ tail s m units next.
@@ -266,5 +269,5 @@ first_wants table old new f c h fits some same left taken =
           let place : IsPlace table c.callee 0 = record { code = f; running = h.running; there = (h.waits.leads c.callee f h.running).1 } in
           ends_along WantOfMemory (from_first c abi enter at) (whole abi at table [] s.next f (at c.callee s.next 0 t)) s.out tail new.left s
           (begun_first abi link enter at table c f k.0 s machine h.running fits (units ∙ k.1))
-          (grows_front t (last (whole abi at table [] s.next f (at c.callee s.next 0 t))) (whole_grows abi link enter at table grow [] tt s.next f t (at c.callee s.next 0 t) (grow.places c.callee s.next 0 place t))));
+          (cut_off (whole abi at table [] s.next f (at c.callee s.next 0 t)) t new.left (whole_grows abi link enter at table grow [] tt s.next f t (at c.callee s.next 0 t) (grow.places c.callee s.next 0 place t)) low));
     }

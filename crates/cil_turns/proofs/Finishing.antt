@@ -1,5 +1,5 @@
 -- Device: whole runs from their first call to their end, and the output that waits then.
-use Rattle.std.proofs.Common.{◌≡◌, ℕ, ◌⊎◌, inl, inr, List, [], ◌++◌, Option, option_map, refl, sym, ap, ◌∙◌, subst, append_assoc}
+use Rattle.std.proofs.Common.{◌≡◌, ℕ, ◌⊎◌, inl, inr, List, [], ◌++◌, Option, option_map, refl, sym, ap, ◌∙◌, subst, append_assoc, arith}
 use Rattle.std.proofs.lemmas.List.{append-nil}
 use Rattle.cil_base.specs.declared.kinds.Abi.{Abi}
 use Rattle.cil_base.specs.declared.runs.Outcome.{Outcome}
@@ -7,7 +7,7 @@ use Rattle.cil_base.specs.declared.runs.Outcome.TheVariants as outcome
 use Rattle.byte_mem.specs.declared.values.Value.TheVariants.{Int, Ptr, Unknown, Part}
 use Rattle.byte_mem.specs.Store.{memory}
 use Rattle.outside.specs.Moves.{Wrote, Began}
-use Rattle.execution.specs.States.{Result, Goes, Exits, Running, Undefined as Broken, output}
+use Rattle.execution.specs.States.{Result, Goes, Exits, Running, Undefined as Broken, last, output}
 use Rattle.execution.specs.Data.{Datum, Single, Bytes}
 use Rattle.execution.specs.Calls.{Enter, Linked}
 use Rattle.execution.specs.Runs.{status_of, outcome_of}
@@ -21,11 +21,11 @@ use Rattle.cil_turns.specs.declared.runs.Stand.{Stand}
 use Rattle.cil_turns.specs.declared.runs.Turn.{Turn}
 use Rattle.cil_turns.specs.declared.runs.Turn.TheVariants.{Stopped}
 use Rattle.cil_frames.specs.Growing.{OnlyGrows}
-use Rattle.cil_turns.specs.Ends.{call_of_first, IsFront, Ends, Sends, CountsReads, CountsWrites, RunsTo}
+use Rattle.cil_turns.specs.Ends.{call_of_first, CutOff, FindsEnd, Ends, Sends, CountsReads, CountsWrites, RunsTo}
 use Rattle.cil_turns.specs.Standing.{Stands, Seen, remains, from_stand, from_first}
-use Rattle.cil_turns.specs.Moving.{told, Arrives, Finishes, Turned, IsPlainEnd}
+use Rattle.cil_turns.specs.Moving.{FindsFrom, told, Arrives, Finishes, Turned, IsPlainEnd}
 use Rattle.cil_turns.specs.Turning.{Writes, WritesNothing, Flushed}
-use Rattle.cil_turns.proofs.Moves.{same_moved, quiet_moves, turned_behind, sends_then}
+use Rattle.cil_turns.proofs.Moves.{same_moved, quiet_moves, turned_behind, sends_then, needed_along}
 
 -- a machine that has gone nowhere yet
 pub arrives_first : (table : List (Option Entity)) (run : Run) (x : Stand) → Stands table run x → (left taken : Option (List ℕ)) → Arrives table (from_stand table run x) run run x left left taken taken
@@ -64,15 +64,18 @@ outcome_text (Exits status s) = refl
 outcome_text (Running s) = refl
 outcome_text (Broken s) = refl
 
-whole_front : (text all : List ℕ) → all ≡ text → IsFront text all
-whole_front text all e = record { rest = []; split = e ∙ sym (append-nil text) }
+cut_at_end : (r : Result Datum) (text : List ℕ) (left : ℕ) → text_in (outcome_of r) ≡ text → (last r).left ≡ left → CutOff r text left
+cut_at_end r text left told units = record {
+  written = ([], (sym (outcome_text r) ∙ told) ∙ sym (append-nil text));
+  spent = omega (arith, units);
+}
 
 -- a front of the output was told
-fronts : (end : RunEnd) (r : Result Datum) (text tail : List ℕ) (left : ℕ) → IsPlainEnd end → Ends end r text tail left → IsFront text (output r)
+fronts : (end : RunEnd) (r : Result Datum) (text tail : List ℕ) (left : ℕ) → IsPlainEnd end → Ends end r text tail left → CutOff r text left
 unfolding text_in
-fronts (Exited status) r text tail left plain h = whole_front text (output r) (sym (outcome_text r) ∙ ap text_in h.0)
-fronts StillRunning r text tail left plain h = whole_front text (output r) (sym (outcome_text r) ∙ ap text_in h.0)
-fronts Undefined r text tail left plain h = whole_front text (output r) (sym (outcome_text r) ∙ ap text_in h.0)
+fronts (Exited status) r text tail left plain h = cut_at_end r text left (ap text_in h.0) h.1
+fronts StillRunning r text tail left plain h = cut_at_end r text left (ap text_in h.0) h.1
+fronts Undefined r text tail left plain h = cut_at_end r text left (ap text_in h.0) h.1
 fronts ReadFault r text tail left plain h = absurd plain
 fronts WriteFault r text tail left plain h = absurd plain
 fronts WantOfMemory r text tail left plain h = h
@@ -142,6 +145,19 @@ settled ReadFault result sent waiting t u v first h = settles_read result sent w
 settled WriteFault result sent waiting t u v first h = settles_write result sent waiting t u v first h
 settled WantOfMemory result sent waiting t u v first h = settles WantOfMemory result sent waiting t u v tt first h
 
+-- writing the rest makes no read fail
+plain_reads_well : (end result : RunEnd) → (result ≡ end) ⊎ (result ≡ WriteFault) → result ≡ ReadFault → end ≡ ReadFault
+plain_reads_well end result (inl same) is = sym same ∙ is
+plain_reads_well end result (inr fault) is = absurd (cc (fault, is))
+
+read_failed : (end result : RunEnd) (waiting : List ℕ) (u v : Option (List ℕ)) → Flushed end result waiting u v → result ≡ ReadFault → end ≡ ReadFault
+read_failed (Exited status) result waiting u v h is = plain_reads_well (Exited status) result h.either is
+read_failed StillRunning result waiting u v h is = plain_reads_well StillRunning result h.either is
+read_failed Undefined result waiting u v h is = plain_reads_well Undefined result h.either is
+read_failed ReadFault result waiting u v h is = refl
+read_failed WriteFault result waiting u v h is = sym h.same ∙ is
+read_failed WantOfMemory result waiting u v h is = plain_reads_well WantOfMemory result h.either is
+
 -- the whole run, from its first call
 pub runs_to : (table : List (Option Entity)) (call : FirstCall) (end result : RunEnd) (old mid new : Run) (left left' taken between taken' : Option (List ℕ)) → Finishes table (from_first call) end old mid left left' taken between → old.next ≡ 0
     → Flushed end result mid.streams.waiting between taken' → new.streams.ended ≡ mid.streams.ended → new.left ≡ mid.left
@@ -156,7 +172,10 @@ runs_to table call end result old mid new left left' taken between taken' h none
       ended = mid.streams.ended;
       read = c.read;
       sends = k.sends;
+      asked = needed_along (FindsFrom old (enter (call_of_first abi call))) (FindsEnd (enter (call_of_first abi call)) (memory old.mem) old.streams old.left 0) old.streams.ended mid.streams.ended c.got
+          (λ input found s written x before next. found s written (record { matches = x; left = before; next = next ∙ sym none })) c.asked;
       stays = c.stays;
+      stops = λ is. c.stops (read_failed end result mid.streams.waiting between taken' flushed is);
       finds = c.finds;
       means = λ s written tail over x before next.
           subst (Ends result (enter (call_of_first abi call) s) (written ++ (c.sent ++ k.more)) tail) (sym units)

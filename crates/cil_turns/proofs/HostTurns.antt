@@ -1,8 +1,9 @@
 -- Device: calls of the host.
-use Rattle.std.proofs.Common.{◌≡◌, ℕ, suc, ◌+◌, ◌*◌, ◌<◌, Bool, true, false, List, [], ◌++◌, length, Option, Some, None, slice_get, refl, sym, ap, ◌∙◌, subst, arith, negsuc}
+use Rattle.std.proofs.Common.{◌≡◌, ◌⊎◌, inl, inr, ℕ, suc, ◌+◌, ◌*◌, ◌<◌, ◌≤◌, Bool, true, false, List, [], ◌++◌, length, Option, Some, None, slice_get, refl, sym, ap, ◌∙◌, subst, arith, negsuc}
 use Rattle.std.specs.Prelude.{◌^◌}
 use Rattle.std.proofs.lemmas.List.{append-nil}
 use Rattle.cil_base.specs.declared.kinds.Abi.{Abi}
+use Rattle.cil_base.specs.Outcome.{IsPrefix}
 use Rattle.cil_base.specs.declared.runs.Outcome.TheVariants.{Exit, Undefined as OutcomeUndefined}
 use Rattle.byte_mem.specs.declared.values.Scalar.{Scalar}
 use Rattle.byte_mem.specs.declared.values.Value as values
@@ -37,13 +38,26 @@ use Rattle.cil_turns.specs.declared.runs.Stand.{Stand}
 use Rattle.cil_turns.specs.declared.runs.Turn.{Turn}
 use Rattle.cil_turns.specs.declared.runs.Turn.TheVariants.{On, Stopped}
 use Rattle.cil_frames.specs.Growing.{IsPlace, StandIn, OnlyGrows}
-use Rattle.cil_turns.specs.Ends.{Ends, IsFront, Sends}
+use Rattle.cil_turns.specs.Ends.{Ends, CutOff, Sends, ReadAsNeeded}
 use Rattle.cil_turns.specs.Standing.{Stands, remains, keeping, from_stand, from_kept, steps_at, steps_ahead, longest, waiting_ahead, burden, Falls}
-use Rattle.cil_turns.specs.Moving.{StandsFor, Moves, told, Comes, Finishes, Turned}
-use Rattle.cil_turns.specs.Turning.{StandsAtCall, GoesTo, Asked, IsOver, HostTurned}
-use Rattle.cil_turns.proofs.Wholes.{one_model, remains_is, keeping_is, whole_exits, whole_undefined, remains_grows, keeping_grows, call_grows, grows_front, front_then, steps_there}
+use Rattle.cil_turns.specs.Moving.{StandsFor, FindsFrom, Moves, told, Comes, Finishes, Turned}
+use Rattle.cil_turns.specs.Turning.{StandsAtCall, GoesTo, HostFinds, Asked, IsOver, HostTurned}
+use Rattle.cil_turns.proofs.Wholes.{one_model, remains_is, keeping_is, whole_exits, whole_undefined, remains_grows, keeping_grows, call_grows, grows_front, cut_off, steps_there}
 use Rattle.cil_turns.proofs.Begins.{stands_at}
-use Rattle.cil_turns.proofs.Moves.{turned_behind}
+use Rattle.cil_turns.proofs.Moves.{turned_behind, needed_along}
+
+-- what a call of the host reads it needs
+needed_once : (end : HostEnd) (abi : Abi) (name : HostName) (e : Evaluated) (wanted : Option Scalar) (args : List (Scalar × values.Value)) (m : Memory) (held held' : StreamsState) (got : List ℕ) → Some wanted ≡ scalar_result (kind_from e.result) → Some args ≡ scalar_arguments (arguments_of e.arguments.items)
+    → ((got ≡ []) × (held'.ended ≡ held.ended)) ⊎ host.WasNeeded abi name wanted args m held held' got → ReadAsNeeded (HostFinds abi name e m held) held.ended got held'.ended
+needed_once end abi name e wanted args m held held' got result arguments (inl none) = inl none
+needed_once end abi name e wanted args m held held' got result arguments (inr w) = inr (record {
+  before = [];
+  more = got;
+  split = refl;
+  few = w.few;
+  some = w.some;
+  finds = λ s written x. w.finds s (call_of abi e) written refl (sym result) (sym arguments) x;
+})
 
 -- a call with scalars alone is one of the host
 pub asked : (end : HostEnd) (abi : Abi) (name : HostName) (e : Evaluated) (wanted : Option Scalar) (args : List (Scalar × values.Value)) (m m' : Memory) (held held' : StreamsState) (left left' taken taken' : Option (List ℕ)) → Some wanted ≡ scalar_result (kind_from e.result) → Some args ≡ scalar_arguments (arguments_of e.arguments.items)
@@ -53,7 +67,9 @@ asked end abi name e wanted args m m' held held' left left' taken taken' result 
   sent = h.sent;
   read = h.read;
   sends = h.sends;
+  asked = needed_once end abi name e wanted args m held held' h.got result arguments h.asked;
   stays = h.stays;
+  stops = h.stops;
   finds = h.finds;
   means = λ s written tail over x. h.means s (call_of abi e) written tail refl (sym result) (sym arguments) over x;
 }
@@ -64,13 +80,15 @@ not_both true f t = cc
 not_both false f t = cc
 
 module _ (abi : Abi) (name : HostName) (e : Evaluated) (m : Memory) (held : StreamsState) (left taken : Option (List ℕ)) where
-  nothing_asked : (end : HostEnd) → host.Sends end taken taken [] → ((s : State) (written tail : List ℕ) → Matches s m held written tail → host.Means end (host_called name (call_of abi e) s) s m held written [] tail) → Asked end abi name e m m held held left left taken taken
-  nothing_asked end sends means = record {
+  nothing_asked : (end : HostEnd) → (end ≡ host_end.ReadFault → ⊥) → host.Sends end taken taken [] → ((s : State) (written tail : List ℕ) → Matches s m held written tail → host.Means end (host_called name (call_of abi e) s) s m held written [] tail) → Asked end abi name e m m held held left left taken taken
+  nothing_asked end well sends means = record {
     got = [];
     sent = [];
     read = none_read left left refl;
     sends = sends;
+    asked = inl (refl, refl);
     stays = λ e. (e, refl);
+    stops = λ fault. absurd (well fault);
     finds = λ more e. absurd (not_both held.ended more e);
     means = λ s written tail over x. means s written tail x;
   }
@@ -88,15 +106,15 @@ module _ (abi : Abi) (name : HostName) (e : Evaluated) (m : Memory) (held : Stre
 
   pub no_result : None ≡ scalar_result (kind_from e.result) → Asked host_end.Undefined abi name e m m held held left left taken taken
   unfolding asks
-  no_result none = nothing_asked host_end.Undefined (none_wrote taken taken refl) (λ s written tail x. (ap (λ o. asks s o (scalar_arguments (arguments_of e.arguments.items))) (sym none), same_text s written tail x))
+  no_result none = nothing_asked host_end.Undefined (λ fault. cc) (none_wrote taken taken refl) (λ s written tail x. (ap (λ o. asks s o (scalar_arguments (arguments_of e.arguments.items))) (sym none), same_text s written tail x))
 
   pub no_arguments : None ≡ scalar_arguments (arguments_of e.arguments.items) → Asked host_end.Undefined abi name e m m held held left left taken taken
   unfolding asks
-  no_arguments none = nothing_asked host_end.Undefined (none_wrote taken taken refl) (λ s written tail x.
+  no_arguments none = nothing_asked host_end.Undefined (λ fault. cc) (none_wrote taken taken refl) (λ s written tail x.
       (ap (asks s (scalar_result (kind_from e.result))) (sym none) ∙ unknown_arguments s (scalar_result (kind_from e.result)), same_text s written tail x))
 
   pub no_memory : Asked host_end.Memory abi name e m m held held left left taken taken
-  no_memory = nothing_asked host_end.Memory (none_wrote taken taken refl) (λ s written tail x. x.out ∙ ap (λ w. w ++ held.waiting) (sym (append-nil written)))
+  no_memory = nothing_asked host_end.Memory (λ fault. cc) (none_wrote taken taken refl) (λ s written tail x. x.out ∙ ap (λ w. w ++ held.waiting) (sym (append-nil written)))
 
 -- what comes behind the answer
 
@@ -139,6 +157,19 @@ module _ (table : List (Option Entity)) (old mid : Run) (x y : Stand) (e : Evalu
   abbrev Answered : HostEnd → Type 0
   Answered end = Asked end old.mem.abi name e (memory old.mem) (memory mid.mem) old.streams mid.streams left left' taken taken'
 
+  -- where the call finds the end of the input, so does the whole run
+  found_there : (abi : Abi) (link : Linked) (enter : Enter) (at : Courses) → IsMachine abi link enter at table → OnlyGrows abi link enter at table
+      → (input : List ℕ) → HostFinds old.mem.abi name e (memory old.mem) old.streams input → FindsFrom old (from_stand table old x abi enter at) input
+  found_there abi link enter at machine grow input found s written st =
+      let r = host_called name (call_of old.mem.abi e) s in
+      ap (λ (q : Result Datum). (last q).at_end) (at_host abi link enter at table old x y e name h s r machine entry st.matches.memory refl)
+      ∙ (call_grows abi link enter at table grow old.frames.items h.before.stands.waits.waiting e.to y h.before.function (behind_place table old x y e h) r).at_end (found s written st.matches)
+
+  needed : (from : HostEnd) (a : Answered from) (abi : Abi) (link : Linked) (enter : Enter) (at : Courses) → IsMachine abi link enter at table → OnlyGrows abi link enter at table
+      → ReadAsNeeded (FindsFrom old (from_stand table old x abi enter at)) old.streams.ended a.got mid.streams.ended
+  needed from a abi link enter at machine grow =
+      needed_along (HostFinds old.mem.abi name e (memory old.mem) old.streams) (FindsFrom old (from_stand table old x abi enter at)) old.streams.ended mid.streams.ended a.got (found_there abi link enter at machine grow) a.asked
+
   value_moves : (v : values.Value) → Answered (host_end.Value v) → (abi : Abi) (link : Linked) (enter : Enter) (at : Courses) → IsMachine abi link enter at table → OnlyGrows abi link enter at table
       → Moves (from_stand table old x abi enter at) (from_kept table mid e.to (Single v) y abi enter at) old mid left left' taken taken'
   value_moves v a abi link enter at machine grow = record {
@@ -146,6 +177,7 @@ module _ (table : List (Option Entity)) (old mid : Run) (x y : Stand) (e : Evalu
     sent = a.sent;
     read = a.read;
     sends = a.sends;
+    asked = needed (host_end.Value v) a abi link enter at machine grow;
     stays = a.stays;
     finds = a.finds;
     means = λ s written tail over st.
@@ -163,58 +195,69 @@ module _ (table : List (Option Entity)) (old mid : Run) (x y : Stand) (e : Evalu
   abbrev Ended : RunEnd → Type 0
   Ended end = (abi : Abi) (link : Linked) (enter : Enter) (at : Courses) → IsMachine abi link enter at table → OnlyGrows abi link enter at table → Comes end (from_stand table old x abi enter at) old mid left left' taken taken'
 
-  comes : (from : HostEnd) (end : RunEnd) (a : Answered from) → Sends end taken taken' a.sent
+  comes : (from : HostEnd) (end : RunEnd) (a : Answered from) → (end ≡ ReadFault → mid.streams.ended ≡ false) → Sends end taken taken' a.sent
       → ((abi : Abi) (link : Linked) (enter : Enter) (at : Courses) → IsMachine abi link enter at table → OnlyGrows abi link enter at table → (s : State) (written tail : List ℕ) → StandsFor old s written (a.got ++ tail)
       → host.Means from (host_called name (call_of old.mem.abi e) s) s (memory mid.mem) mid.streams written a.sent tail → Ends end (remains abi at table old.frames.items x s) (told end (written ++ a.sent) mid.streams.waiting) tail mid.left)
       → Ended end
-  comes from end a sends means abi link enter at machine grow = record {
+  comes from end a stops sends means abi link enter at machine grow = record {
     got = a.got;
     sent = a.sent;
     read = a.read;
     sends = sends;
+    asked = needed from a abi link enter at machine grow;
     stays = a.stays;
+    stops = stops;
     finds = a.finds;
     means = λ s written tail over st. means abi link enter at machine grow s written tail st (a.means s written tail over st.matches);
   }
 
   exit_comes : (status : ℕ) → Answered (host_end.Exit status) → Ended (Exited status)
-  exit_comes status a = comes (host_end.Exit status) (Exited status) a a.sends (λ abi link enter at machine grow s written tail st k.
+  exit_comes status a = comes (host_end.Exit status) (Exited status) a (λ fault. absurd (cc)) a.sends (λ abi link enter at machine grow s written tail st k.
       let m = leads_stands old mid s k.0 (written ++ a.sent) tail others st.left st.next k.2 in
       subst (λ r. Ends (Exited status) r ((written ++ a.sent) ++ mid.streams.waiting) tail mid.left)
       (sym (at_host abi link enter at table old x y e name h s (Exits status k.0) machine entry st.matches.memory k.1 ∙ whole_exits abi at table old.frames.items y.act h.before.function status k.0))
       (ap (Exit status) m.matches.out, m.left))
 
   undefined_comes : Answered host_end.Undefined → Ended WentUndefined
-  undefined_comes a = comes host_end.Undefined WentUndefined a a.sends (λ abi link enter at machine grow s written tail st k.
+  undefined_comes a = comes host_end.Undefined WentUndefined a (λ fault. absurd (cc)) a.sends (λ abi link enter at machine grow s written tail st k.
       subst (λ r. Ends WentUndefined r ((written ++ a.sent) ++ mid.streams.waiting) tail mid.left)
       (sym (at_host abi link enter at table old x y e name h s (Undefined s) machine entry st.matches.memory k.0 ∙ whole_undefined abi at table old.frames.items y.act h.before.function s))
       (ap OutcomeUndefined k.1.out, st.left ∙ sym (same_left old mid others)))
 
-  read_comes : Answered host_end.ReadFault → Ended ReadFault
-  read_comes a = comes host_end.ReadFault ReadFault a a.sends (λ abi link enter at machine grow s written tail st k none.
-      let q = k none in
-      let minus = Single (Int (negsuc 0)) in
-      let g = keeping_grows abi link enter at table grow old.frames.items h.before.stands.waits.waiting e.to minus y (behind_place table old x y e h) q.0 in
-      let front : IsFront (written ++ a.sent) q.0.out = record {
-        rest = [];
-        split = q.3.matches.out ∙ ap (λ w. (written ++ a.sent) ++ w) q.2;
-      } in
-      subst (λ r. ((last r).at_end ≡ true) × IsFront (written ++ a.sent) (output r))
-      (sym (at_host abi link enter at table old x y e name h s (Goes minus q.0) machine entry st.matches.memory q.1
-      ∙ sym (keeping_is abi at table old.frames.items e.to minus y h.before.function q.0 (behind_running table old x y e h))))
-      (g.at_end q.3.matches.at_end, front_then (written ++ a.sent) q.0.out (output (keeping abi at table old.frames.items e.to minus y q.0)) front (grows_front q.0 (last (keeping abi at table old.frames.items e.to minus y q.0)) g)))
-
-  write_comes : Answered host_end.WriteFault → Ended WriteFault
-  write_comes a = comes host_end.WriteFault WriteFault a a.sends (λ abi link enter at machine grow s written tail st k.
+  -- a run that is cut off behind the output of the call
+  cut_behind : (abi : Abi) (link : Linked) (enter : Enter) (at : Courses) → IsMachine abi link enter at table → OnlyGrows abi link enter at table
+      → (s : State) (text : List ℕ) → s.memory ≡ memory old.mem → s.left ≡ old.left → output (host_called name (call_of old.mem.abi e) s) ≡ text → CutOff (remains abi at table old.frames.items x s) text mid.left
+  cut_behind abi link enter at machine grow s text same units is =
       let r = host_called name (call_of old.mem.abi e) s in
       let w = whole abi at table old.frames.items y.act h.before.function (bind (bind r (keeps abi e.to)) (λ g. at y.function y.act y.place)) in
-      subst (λ q. IsFront (written ++ a.sent) (output q)) (sym (at_host abi link enter at table old x y e name h s r machine entry st.matches.memory refl))
-      (subst (λ text. IsFront text (output w)) k (grows_front (last r) (last w) (call_grows abi link enter at table grow old.frames.items h.before.stands.waits.waiting e.to y h.before.function (behind_place table old x y e h) r))))
+      let low : (last (remains abi at table old.frames.items x s)).left ≤ s.left = (remains_grows abi link enter at table grow old.frames.items h.before.stands.waits.waiting x h.before.stands.place s).left in
+      let kept : mid.left ≡ old.left = same_left old mid others in
+      record {
+        written = subst (λ q. IsPrefix text (output q)) (sym (at_host abi link enter at table old x y e name h s r machine entry same refl))
+            (subst (λ text. IsPrefix text (output w)) is (grows_front (last r) (last w) (call_grows abi link enter at table grow old.frames.items h.before.stands.waits.waiting e.to y h.before.function (behind_place table old x y e h) r)));
+        spent = omega arith;
+      }
+
+  read_comes : Answered host_end.ReadFault → Ended ReadFault
+  read_comes a = comes host_end.ReadFault ReadFault a (λ fault. a.stops refl) a.sends (λ abi link enter at machine grow s written tail st k. (
+    cut_behind abi link enter at machine grow s (written ++ a.sent) st.matches.memory st.left k.0,
+    λ none.
+        let q = k.1 none in
+        let minus = Single (Int (negsuc 0)) in
+        subst (λ r. (last r).at_end ≡ true)
+        (sym (at_host abi link enter at table old x y e name h s (Goes minus q.0) machine entry st.matches.memory q.1
+        ∙ sym (keeping_is abi at table old.frames.items e.to minus y h.before.function q.0 (behind_running table old x y e h))))
+        ((keeping_grows abi link enter at table grow old.frames.items h.before.stands.waits.waiting e.to minus y (behind_place table old x y e h) q.0).at_end q.3.matches.at_end),
+  ))
+
+  write_comes : Answered host_end.WriteFault → Ended WriteFault
+  write_comes a = comes host_end.WriteFault WriteFault a (λ fault. absurd (cc)) a.sends (λ abi link enter at machine grow s written tail st k. cut_behind abi link enter at machine grow s (written ++ a.sent) st.matches.memory st.left k)
 
   memory_comes : Answered host_end.Memory → Ended WantOfMemory
-  memory_comes a = comes host_end.Memory WantOfMemory a a.sends (λ abi link enter at machine grow s written tail st k.
-      subst (λ text. IsFront text (output (remains abi at table old.frames.items x s))) k
-      (grows_front s (last (remains abi at table old.frames.items x s)) (remains_grows abi link enter at table grow old.frames.items h.before.stands.waits.waiting x h.before.stands.place s)))
+  memory_comes a = comes host_end.Memory WantOfMemory a (λ fault. absurd (cc)) a.sends (λ abi link enter at machine grow s written tail st k.
+      let low : s.left ≡ mid.left = st.left ∙ sym (same_left old mid others) in
+      subst (λ text. CutOff (remains abi at table old.frames.items x s) text mid.left) k
+      (cut_off (remains abi at table old.frames.items x s) s mid.left (remains_grows abi link enter at table grow old.frames.items h.before.stands.waits.waiting x h.before.stands.place s) (omega arith)))
 
   over : (new : Run) (turn : Turn) (end : RunEnd) → Ended end → IsOver turn end mid new → Turned table (from_stand table old x) old new turn left left' taken taken'
   over new turn end c o = subst (λ t. Turned table (from_stand table old x) old new t left left' taken taken') (sym o.over) (subst (λ (r : Run). Finishes table (from_stand table old x) end old r left left' taken taken') (sym o.same) (record { means = c }))

@@ -1,10 +1,10 @@
 -- Device: whole runs go on and end, one part behind another.
-use Rattle.std.proofs.Common.{◌≡◌, ℕ, Bool, true, false, List, [], ◌∷◌, ◌++◌, Option, Some, None, IfSome, option_map, refl, sym, ap, ◌∙◌, subst, append_assoc}
+use Rattle.std.proofs.Common.{◌≡◌, inl, inr, ℕ, Bool, true, false, List, [], ◌∷◌, ◌++◌, Option, Some, None, IfSome, option_map, refl, sym, ap, ◌∙◌, subst, append_assoc}
 use Rattle.std.proofs.lemmas.List.{append-nil}
 use Rattle.cil_base.specs.declared.kinds.Abi.{Abi}
 use Rattle.outside.specs.Moves.{Wrote, Began, WasRead}
 use Rattle.byte_mem.specs.Store.{memory}
-use Rattle.execution.specs.States.{State, Result}
+use Rattle.execution.specs.States.{State, Result, last}
 use Rattle.execution.specs.Data.{Datum}
 use Rattle.execution.specs.Calls.{Enter, Linked}
 use Rattle.cil_streams.specs.Held.{StreamsState}
@@ -17,9 +17,9 @@ use Rattle.cil_turns.specs.declared.ends.RunEnd.TheVariants.{Exited, StillRunnin
 use Rattle.cil_turns.specs.declared.runs.Run.{Run}
 use Rattle.cil_turns.specs.declared.runs.Turn.{Turn}
 use Rattle.cil_turns.specs.declared.runs.Turn.TheVariants.{On, Stopped}
-use Rattle.cil_turns.specs.Ends.{Ends, Sends, CountsReads, CountsWrites}
+use Rattle.cil_turns.specs.Ends.{Ends, Sends, CountsReads, CountsWrites, ReadAsNeeded}
 use Rattle.cil_turns.specs.Standing.{Seen, from_stand}
-use Rattle.cil_turns.specs.Moving.{StandsFor, Moves, told, Comes, Turned, TurnReads, TurnWrites, IsPlainEnd, IsPlain}
+use Rattle.cil_turns.specs.Moving.{StandsFor, FindsFrom, Moves, told, Comes, Turned, TurnReads, TurnWrites, IsPlainEnd, IsPlain}
 
 -- bytes that are read and written one part behind another
 
@@ -71,13 +71,62 @@ stays_then first between last a b h k e =
 no_more : (between last : Bool) (b tail : List ℕ) → (between ≡ true → (last ≡ true) × (b ≡ [])) → (last ≡ true → tail ≡ []) → between ≡ true → b ++ tail ≡ []
 no_more between last b tail h k e = let x = h e in ap (λ z. z ++ tail) x.1 ∙ k x.0
 
+-- what was read last was needed
+
+pub needed_along : (first second : List ℕ → Type 0) (was ended : Bool) (got : List ℕ) → ((input : List ℕ) → first input → second input) → ReadAsNeeded first was got ended → ReadAsNeeded second was got ended
+needed_along first second was ended got along (inl none) = inl none
+needed_along first second was ended got along (inr w) = inr (record {
+  before = w.before;
+  more = w.more;
+  split = w.split;
+  few = w.few;
+  some = w.some;
+  finds = along w.before w.finds;
+})
+
+-- in the first part, where nothing was read in the second
+needed_first : (found : List ℕ → Type 0) (was between last : Bool) (a b : List ℕ) → b ≡ [] → last ≡ between → ReadAsNeeded found was a between → ReadAsNeeded found was (a ++ b) last
+needed_first found was between last a b none same (inl x) = inl (ap (λ z. a ++ z) none ∙ (append-nil a ∙ x.0), same ∙ x.1)
+needed_first found was between last a b none same (inr w) = inr (record {
+  before = w.before;
+  more = w.more;
+  split = ap (λ z. a ++ z) none ∙ (append-nil a ∙ w.split);
+  few = w.few;
+  some = λ empty. same ∙ w.some empty;
+  finds = w.finds;
+})
+
+nothing_before : (a b : List ℕ) → a ++ b ≡ [] → a ≡ []
+nothing_before [] b h = refl
+nothing_before (x ∷ a) b h = absurd (cc)
+
+-- else in the second, before which the first has read all that it did
+needed_then : (first second : List ℕ → Type 0) (was between last : Bool) (a b : List ℕ) → (between ≡ true → (last ≡ true) × (b ≡ [])) → ((input : List ℕ) → (between ≡ true → input ≡ []) → second input → first (a ++ input))
+    → ReadAsNeeded first was a between → ReadAsNeeded second between b last → ReadAsNeeded first was (a ++ b) last
+needed_then first second was between last a b stays back x (inl none) = needed_first first was between last a b none.0 none.1 x
+needed_then first second was between last a b stays back x (inr w) = inr (record {
+  before = a ++ w.before;
+  more = w.more;
+  split = ap (λ z. a ++ z) w.split ∙ sym (append_assoc a w.before w.more);
+  few = w.few;
+  some = w.some;
+  finds = back w.before (λ e. nothing_before w.before w.more (sym w.split ∙ (stays e).1)) w.finds;
+})
+
 module _ (f g : State → Result Datum) (a b c : Run) (l m n t u v : Option (List ℕ)) where
+  -- where the second part finds the end of the input, so does the whole
+  found_behind : (x : Moves f g a b l m t u) (input : List ℕ) → (b.streams.ended ≡ true → input ≡ []) → FindsFrom b g input → FindsFrom a f (x.got ++ input)
+  found_behind x input none found s written st =
+      let p = x.means s written input none st in
+      ap (λ (r : Result Datum). (last r).at_end) p.1 ∙ found p.0 (written ++ x.sent) p.2
+
   pub moves_then : (h : State → Result Datum) → Moves f g a b l m t u → Moves g h b c m n u v → Moves f h a c l n t v
   moves_then h x y = record {
     got = x.got ++ y.got;
     sent = x.sent ++ y.sent;
     read = read_then l m n x.got y.got x.read y.read;
     sends = wrote_then t u v x.sent y.sent x.sends y.sends;
+    asked = needed_then (FindsFrom a f) (FindsFrom b g) a.streams.ended b.streams.ended c.streams.ended x.got y.got y.stays (found_behind x) x.asked y.asked;
     stays = stays_then a.streams.ended b.streams.ended c.streams.ended x.got y.got x.stays y.stays;
     finds = finds_then a.streams.ended b.streams.ended c.streams.ended m n y.got y.read x.finds y.finds;
     means = λ s written tail end st.
@@ -92,7 +141,9 @@ module _ (f g : State → Result Datum) (a b c : Run) (l m n t u v : Option (Lis
     sent = x.sent ++ y.sent;
     read = read_then l m n x.got y.got x.read y.read;
     sends = sends_then end t u v x.sent y.sent x.sends y.sends;
+    asked = needed_then (FindsFrom a f) (FindsFrom b g) a.streams.ended b.streams.ended c.streams.ended x.got y.got y.stays (found_behind x) x.asked y.asked;
     stays = stays_then a.streams.ended b.streams.ended c.streams.ended x.got y.got x.stays y.stays;
+    stops = y.stops;
     finds = finds_then a.streams.ended b.streams.ended c.streams.ended m n y.got y.read x.finds y.finds;
     means = λ s written tail over st.
         let p = x.means s written (y.got ++ tail) (no_more b.streams.ended c.streams.ended y.got tail y.stays over) (subst (StandsFor a s written) (append_assoc x.got y.got tail) st) in
@@ -129,6 +180,7 @@ module _ (f : State → Result Datum) (old new : Run) (same : new.streams ≡ ol
     sent = [];
     read = none_read left left refl;
     sends = none_wrote taken taken refl;
+    asked = inl (refl, now_ended);
     stays = λ e. (now_ended ∙ e, refl);
     finds = λ more e. absurd (not_both new.streams.ended (now_ended ∙ more) e);
     means = λ s written tail end st. (
@@ -173,7 +225,9 @@ module _ (f : State → Result Datum) (old new : Run) (same : new.streams ≡ ol
     sent = [];
     read = none_read left left refl;
     sends = sends_nothing end plain;
+    asked = inl (refl, now_ended);
     stays = λ e. (now_ended ∙ e, refl);
+    stops = λ is. absurd (subst IsPlainEnd is plain);
     finds = λ more e. absurd (not_both new.streams.ended (now_ended ∙ more) e);
     means = λ s written tail over st.
         subst (λ text. Ends end (f s) text tail new.left)

@@ -4,7 +4,7 @@ use Rattle.cil_base.specs.declared.kinds.Abi.{Abi}
 use Rattle.byte_mem.specs.declared.stores.Store.{Store}
 use Rattle.byte_mem.specs.declared.values.Value.TheVariants.{Unknown}
 use Rattle.byte_mem.specs.Store.{memory, Stored, Becomes}
-use Rattle.execution.specs.States.{State, Goes, with_memory, bind, last}
+use Rattle.execution.specs.States.{State, Goes, with_memory, bind}
 use Rattle.execution.specs.Data as passed
 use Rattle.execution.specs.Data.{Datum, Single, without_objects}
 use Rattle.execution.specs.Calls.{number_of}
@@ -32,7 +32,7 @@ use Rattle.cil_turns.specs.Ends.{Ends}
 use Rattle.cil_turns.specs.Standing.{Waits, Stands, keeping, from_stand, from_kept, from_end, from_result, standing_at, steps_ahead, longest, waiting_ahead, waiting_burden, Falls}
 use Rattle.cil_turns.specs.Moving.{Arrives, Finishes, TurnedQuietly, IsPlainEnd}
 use Rattle.cil_turns.specs.Turning.{Left, GoesTo, Status}
-use Rattle.cil_turns.proofs.Wholes.{one_model, remains_is, keeping_is, whole_undefined, grows_front, stand_pop, ahead_push}
+use Rattle.cil_turns.proofs.Wholes.{one_model, remains_is, keeping_is, whole_undefined, cut_off, stand_pop, ahead_push}
 use Rattle.cil_turns.proofs.Heap.{without_heap, kept_heap, still_counted}
 use Rattle.cil_turns.proofs.Moves.{moved, quiet_moves, quiet_comes, turned_behind}
 
@@ -130,11 +130,12 @@ ends_turned table old mid new act f d turn h w rest left taken =
     (rest (left_waits table old mid act f h w) left taken)
 
 -- memory is wanting there
-pub wants_end : (table : List (Option Entity)) (old new : Run) (act : ℕ) (f : Function) (d : Datum) → Waits table old → new.streams ≡ old.streams → (left taken : Option (List ℕ)) → Finishes table (from_end table old act f d) WantOfMemory old new left left taken taken
-wants_end table old new act f d w same left taken = record {
+pub wants_end : (table : List (Option Entity)) (old new : Run) (act : ℕ) (f : Function) (d : Datum) → Waits table old → new.streams ≡ old.streams → new.left ≡ old.left → (left taken : Option (List ℕ)) → Finishes table (from_end table old act f d) WantOfMemory old new left left taken taken
+wants_end table old new act f d w same kept left taken = record {
   means = λ abi link enter at machine grow.
       quiet_comes (from_end table old act f d abi enter at) old new same left taken WantOfMemory tt (λ tail s m units next.
-      grows_front s (last (whole abi at table old.frames.items act f (Goes d s))) (grow.wholes old.frames.items w.waiting act f (Goes d s)));
+      let low : s.left ≡ new.left = units ∙ sym kept in
+      cut_off (whole abi at table old.frames.items act f (Goes d s)) s new.left (grow.wholes old.frames.items w.waiting act f (Goes d s)) (omega arith));
 }
 
 -- where none waits, the run has ended

@@ -4,6 +4,7 @@ use Rattle.std.proofs.lemmas.List.{append-nil}
 use Rattle.std.proofs.Math.Nat.{suc-mul, mul-le-mul_right}
 use Rattle.cil_base.specs.declared.kinds.Abi.{Abi}
 use Rattle.cil_base.specs.declared.kinds.Abi.TheVariants.{Lp64}
+use Rattle.cil_base.specs.Outcome.{IsPrefix}
 use Rattle.byte_mem.specs.Memory.{Memory}
 use Rattle.execution.specs.States.{State, Result, Goes, Exits, Running, Undefined, with_memory, bind, last}
 use Rattle.execution.specs.Data.{Datum}
@@ -19,7 +20,7 @@ use Rattle.cil_frames.specs.Frames.{Courses, function_in, whole}
 use Rattle.cil_frames.proofs.Unwinding.{unwound_running, unwound_undefined, unwound_exits}
 use Rattle.cil_turns.specs.declared.runs.Stand.{Stand}
 use Rattle.cil_frames.specs.Growing.{Grows, IsPlace, StandIn, OnlyGrows}
-use Rattle.cil_turns.specs.Ends.{IsFront}
+use Rattle.cil_turns.specs.Ends.{CutOff}
 use Rattle.cil_turns.specs.Standing.{remains_in, remains, keeping_in, keeping, steps_at, steps_ahead, longest, waiting_ahead}
 
 -- there is one data model
@@ -55,11 +56,15 @@ grows_then a b c x y = record {
   at_end = λ e. y.at_end (x.at_end e);
 }
 
-pub grows_front : (s t : State) → Grows s t → IsFront s.out t.out
-grows_front s t g = record { rest = g.more; split = g.out }
+pub grows_front : (s t : State) → Grows s t → IsPrefix s.out t.out
+grows_front s t g = (g.more, g.out)
 
-pub front_then : (a b c : List ℕ) → IsFront a b → IsFront b c → IsFront a c
-front_then a b c x y = record { rest = x.rest ++ y.rest; split = y.split ∙ (ap (λ w. w ++ y.rest) x.split ∙ append_assoc a x.rest y.rest) }
+-- a run that is cut off in a state from which it goes on so
+pub cut_off : (r : Result Datum) (s : State) (left : ℕ) → Grows s (last r) → s.left ≤ left → CutOff r s.out left
+cut_off r s left g units = record {
+  written = grows_front s (last r) g;
+  spent = let low : (last r).left ≤ s.left = g.left in omega arith;
+}
 
 module _ (abi : Abi) (link : Linked) (enter : Enter) (at : Courses) (table : List (Option Entity)) (grow : OnlyGrows abi link enter at table) where
   pub whole_grows : (frames : List Frame) → StandIn table frames → (act : ℕ) (f : Function) (s : State) (r : Result Datum) → Grows s (last r) → Grows s (last (whole abi at table frames act f r))

@@ -1,7 +1,8 @@
 -- Definition: how a run over a source and a sink ends, and how its answer is that of the meaning, which has all input at hand and keeps all output.
-use Rattle.std.specs.Prelude.{◌≡◌, ℕ, Bool, false, true, List, [], ◌++◌, Option, IfSome}
+use Rattle.std.specs.Prelude.{◌≡◌, ℕ, ◌≤◌, ◌⊎◌, Bool, false, true, List, [], ◌++◌, length, Option, IfSome}
 use Rattle.cil_base.specs.declared.kinds.Abi.{Abi}
 use Rattle.cil_base.specs.declared.runs.Outcome.TheVariants.{Exit, Running, Undefined as WentUndefined}
+use Rattle.cil_base.specs.Outcome.{IsPrefix}
 use Rattle.byte_mem.specs.declared.pointers.ObjName.TheVariants.{Entity as OfEntity}
 use Rattle.byte_mem.specs.Memory.{Memory}
 use Rattle.outside.specs.Moves.{Wrote, Began, WasRead}
@@ -22,21 +23,20 @@ use Rattle.cil_turns.specs.declared.ends.RunEnd.TheVariants.{Exited, StillRunnin
 abbrev pub call_of_first : Abi → FirstCall → Call
 call_of_first abi c = record { abi = abi; callee = pointer_to_name (OfEntity (record { 0 = c.callee })); result = kind_from c.result; arguments = arguments_of c.arguments.items }
 
--- a text begins so
-pub record IsFront (part text : List ℕ) : Type 0 where
-  pub rest : List ℕ
-  pub split : text ≡ part ++ rest
+-- a run that was cut off where it had sent that text and so many units were left: the text is a front of the output, and the whole run leaves no more units
+pub record CutOff (r : Result Datum) (text : List ℕ) (left : ℕ) : Type 0 where
+  pub written : IsPrefix text (output r)
+  pub spent : (last r).left ≤ left
 
 -- how an answer tells the result of the meaning: `text` is what went to the sink in all, `tail` what the source has still to give, and `left` the units that are left
 abbrev pub Ends : RunEnd → Result Datum → List ℕ → List ℕ → ℕ → Type 0
 Ends (Exited status) r text tail left = (outcome_of r ≡ Exit status text) × ((last r).left ≡ left)
 Ends StillRunning r text tail left = (outcome_of r ≡ Running text) × ((last r).left ≡ left)
 Ends Undefined r text tail left = (outcome_of r ≡ WentUndefined text) × ((last r).left ≡ left)
--- had the source nothing more to give, a getchar would have found its end; what was sent is a front of the output
-Ends ReadFault r text tail left = tail ≡ [] → ((last r).at_end ≡ true) × IsFront text (output r)
--- the sink was sent a front of the output
-Ends WriteFault r text tail left = IsFront text (output r)
-Ends WantOfMemory r text tail left = IsFront text (output r)
+-- had the source nothing more to give, a getchar would have found its end
+Ends ReadFault r text tail left = CutOff r text left × (tail ≡ [] → (last r).at_end ≡ true)
+Ends WriteFault r text tail left = CutOff r text left
+Ends WantOfMemory r text tail left = CutOff r text left
 
 -- the sink took all that was sent, or, where it failed, a front of that
 abbrev pub Sends : RunEnd → Option (List ℕ) → Option (List ℕ) → List ℕ → Type 0
@@ -65,6 +65,23 @@ CountsWrites ReadFault before now = now ≡ before
 CountsWrites WriteFault before now = Fails before now
 CountsWrites WantOfMemory before now = now ≡ before
 
+-- what was read last, at most 4,096 bytes or the end, was needed: `found` says of an input that a getchar of the run finds its end, and says it of what was read before
+pub record WasNeeded (found : List ℕ → Type 0) (got : List ℕ) (ended : Bool) : Type 0 where
+  pub before : List ℕ
+  pub more : List ℕ
+  pub split : got ≡ before ++ more
+  pub few : length more ≤ 4096
+  pub some : more ≡ [] → ended ≡ true
+  pub finds : found before
+
+-- nothing was read, or what was read last was needed; `was` and `ended` tell whether the source had given its end before, and has now
+abbrev pub ReadAsNeeded : (List ℕ → Type 0) → Bool → List ℕ → Bool → Type 0
+ReadAsNeeded found was got ended = ((got ≡ []) × (ended ≡ was)) ⊎ WasNeeded found got ended
+
+-- in each state that memory and streams stand for, with so many units left and that next number, where the source has just that input still to give, the run finds its end
+abbrev pub FindsEnd : (State → Result Datum) → Memory → StreamsState → ℕ → ℕ → List ℕ → Type 0
+FindsEnd run m held left next input = (s : State) (written : List ℕ) → Matches s m held written input → s.left ≡ left → s.next ≡ next → (last (run s)).at_end ≡ true
+
 -- a run over a source, of which `left` is left, and a sink, which has taken `taken`; the accented ones are behind the run, in whose states so many units are left before and after, and that number is the next
 pub record RunsTo (end : RunEnd) (run : State → Result Datum) (m : Memory) (held : StreamsState) (before after next : ℕ) (left left' taken taken' : Option (List ℕ)) : Type 0 where
   -- the bytes that the source gave, those that went to the sink, and whether the source has given its end
@@ -73,8 +90,10 @@ pub record RunsTo (end : RunEnd) (run : State → Result Datum) (m : Memory) (he
   pub ended : Bool
   pub read : WasRead left left' got
   pub sends : Sends end taken taken' sent
-  -- a source that has given its end is asked no more
+  pub asked : ReadAsNeeded (FindsEnd run m held before next) held.ended got ended
+  -- a source that has given its end is asked no more, so that no read of it fails
   pub stays : held.ended ≡ true → (ended ≡ true) × (got ≡ [])
+  pub stops : end ≡ ReadFault → ended ≡ false
   -- it gives its end only where nothing is left
   pub finds : held.ended ≡ false → ended ≡ true → IfSome left' (λ bytes. bytes ≡ [])
   -- whatever the source has still to give, nothing where it has given its end

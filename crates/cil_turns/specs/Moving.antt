@@ -3,7 +3,7 @@ use Rattle.std.specs.Prelude.{◌≡◌, ℕ, false, true, List, [], ◌++◌, O
 use Rattle.cil_base.specs.declared.kinds.Abi.{Abi}
 use Rattle.outside.specs.Moves.{Wrote, WasRead}
 use Rattle.byte_mem.specs.Store.{memory}
-use Rattle.execution.specs.States.{State, Result}
+use Rattle.execution.specs.States.{State, Result, last}
 use Rattle.execution.specs.Data.{Datum}
 use Rattle.execution.specs.Calls.{Enter, Linked}
 use Rattle.cil_streams.specs.Following.{Matches}
@@ -16,7 +16,7 @@ use Rattle.cil_turns.specs.declared.runs.Stand.{Stand}
 use Rattle.cil_turns.specs.declared.runs.Turn.{Turn}
 use Rattle.cil_turns.specs.declared.runs.Turn.TheVariants.{On, Stopped}
 use Rattle.cil_frames.specs.Growing.{OnlyGrows}
-use Rattle.cil_turns.specs.Ends.{Ends, Sends, CountsReads, CountsWrites}
+use Rattle.cil_turns.specs.Ends.{Ends, Sends, CountsReads, CountsWrites, ReadAsNeeded}
 use Rattle.cil_turns.specs.Standing.{Stands, Seen, from_stand}
 
 -- a run stands for a state
@@ -25,12 +25,17 @@ pub record StandsFor (run : Run) (s : State) (written tail : List ℕ) : Type 0 
   pub left : s.left ≡ run.left
   pub next : s.next ≡ run.next
 
+-- in each state that a run stands for, where the source has just that input still to give, the whole run finds its end
+abbrev pub FindsFrom : Run → (State → Result Datum) → List ℕ → Type 0
+FindsFrom run f input = (s : State) (written : List ℕ) → StandsFor run s written input → (last (f s)).at_end ≡ true
+
 -- a whole run goes on as another one: in each state that the old run stands for, the first does what the second does in one that the new run stands for
 pub record Moves (before after : State → Result Datum) (old new : Run) (left left' taken taken' : Option (List ℕ)) : Type 0 where
   pub got : List ℕ
   pub sent : List ℕ
   pub read : WasRead left left' got
   pub sends : Wrote taken taken' sent
+  pub asked : ReadAsNeeded (FindsFrom old before) old.streams.ended got new.streams.ended
   pub stays : old.streams.ended ≡ true → (new.streams.ended ≡ true) × (got ≡ [])
   pub finds : old.streams.ended ≡ false → new.streams.ended ≡ true → IfSome left' (λ bytes. bytes ≡ [])
   pub means : (s : State) (written tail : List ℕ) → (new.streams.ended ≡ true → tail ≡ []) → StandsFor old s written (got ++ tail) → (t : State) × (before s ≡ after t) × StandsFor new t (written ++ sent) tail
@@ -50,7 +55,9 @@ pub record Comes (end : RunEnd) (before : State → Result Datum) (old new : Run
   pub sent : List ℕ
   pub read : WasRead left left' got
   pub sends : Sends end taken taken' sent
+  pub asked : ReadAsNeeded (FindsFrom old before) old.streams.ended got new.streams.ended
   pub stays : old.streams.ended ≡ true → (new.streams.ended ≡ true) × (got ≡ [])
+  pub stops : end ≡ ReadFault → new.streams.ended ≡ false
   pub finds : old.streams.ended ≡ false → new.streams.ended ≡ true → IfSome left' (λ bytes. bytes ≡ [])
   pub means : (s : State) (written tail : List ℕ) → (new.streams.ended ≡ true → tail ≡ []) → StandsFor old s written (got ++ tail) → Ends end (before s) (told end (written ++ sent) new.streams.waiting) tail new.left
 

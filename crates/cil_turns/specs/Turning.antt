@@ -6,7 +6,7 @@ use Rattle.host_calls.specs.declared.names.HostName.{HostName}
 use Rattle.outside.specs.Moves.{WasRead}
 use Rattle.byte_mem.specs.Memory.{Memory}
 use Rattle.byte_mem.specs.Store.{memory}
-use Rattle.execution.specs.States.{State}
+use Rattle.execution.specs.States.{State, last}
 use Rattle.execution.specs.Data.{Datum, Single, same_kind, without_objects}
 use Rattle.execution.specs.Calls.{arguments_match, host_called, number_of}
 use Rattle.execution.specs.Runs.{status_of}
@@ -41,7 +41,7 @@ use Rattle.cil_turns.specs.declared.runs.Run.{Run}
 use Rattle.cil_turns.specs.declared.runs.Stand.{Stand}
 use Rattle.cil_turns.specs.declared.runs.Turn.{Turn}
 use Rattle.cil_turns.specs.declared.runs.Turn.TheVariants.{On, Stopped}
-use Rattle.cil_turns.specs.Ends.{Sends}
+use Rattle.cil_turns.specs.Ends.{Sends, ReadAsNeeded}
 use Rattle.cil_turns.specs.Standing.{Waits, Stands, from_kept}
 use Rattle.cil_turns.specs.Moving.{TurnedQuietly}
 
@@ -112,13 +112,19 @@ abbrev pub GoesTo : Stand → Run → Run → Turn → Type 0
 GoesTo y old new (On x) = (x ≡ y) × (new.left ≡ old.left) × (new.frames.items ≡ old.frames.items)
 GoesTo y old new (Stopped end) = Unit {0}
 
+-- where the source has just that input still to give, a call of the host finds its end
+abbrev pub HostFinds : Abi → HostName → Evaluated → Memory → StreamsState → List ℕ → Type 0
+HostFinds abi name e m held input = (s : State) (written : List ℕ) → Matches s m held written input → (last (host_called name (call_of abi e) s)).at_end ≡ true
+
 -- a call of the host with evaluated parts was answered
 pub record Asked (end : HostEnd) (abi : Abi) (name : HostName) (e : Evaluated) (m m' : Memory) (held held' : StreamsState) (left left' taken taken' : Option (List ℕ)) : Type 0 where
   pub got : List ℕ
   pub sent : List ℕ
   pub read : WasRead left left' got
   pub sends : host.Sends end taken taken' sent
+  pub asked : ReadAsNeeded (HostFinds abi name e m held) held.ended got held'.ended
   pub stays : held.ended ≡ true → (held'.ended ≡ true) × (got ≡ [])
+  pub stops : end ≡ host_end.ReadFault → held'.ended ≡ false
   pub finds : held.ended ≡ false → held'.ended ≡ true → IfSome left' (λ bytes. bytes ≡ [])
   pub means : (s : State) (written tail : List ℕ) → (held'.ended ≡ true → tail ≡ []) → Matches s m held written (got ++ tail) → host.Means end (host_called name (call_of abi e) s) s m' held' written sent tail
 

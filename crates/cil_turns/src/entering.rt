@@ -1,4 +1,4 @@
-ghost use Rattle.std.specs.Prelude.{◌≡◌, ◌<◌, ◌+◌, ◌^◌, ◌≤◌, [], ◌∷◌, ◌++◌, Some, List, Option, slice_get, IfOk};
+ghost use Rattle.std.specs.Prelude.{◌≡◌, ◌<◌, ◌+◌, ◌^◌, ◌≤◌, [], ◌∷◌, ◌++◌, Some, List, Option, slice_get, IfOk, OnErr};
 ghost use Rattle.execution.specs.Calls.{entity_at};
 ghost use Rattle.cil_frames.specs.declared.frames.Entity.{Entity as TableEntity};
 ghost use Rattle.cil_frames.specs.declared.frames.Entity.TheVariants.{Program as OfProgram};
@@ -24,6 +24,7 @@ fn begin(
     requires numbers { run.old.next + run.old.left < 2 ^ 64 }
     ensures begun { IfOk result (Begun run.old run.new run.old.frames.items callee f.now arguments.now) }
     ensures streams { run.new.streams ≡ run.old.streams }
+    ensures kept { OnErr result (run.new.left ≡ run.old.left) }
     ensures left { run.new.left ≤ run.old.left }
 {
     let act = run.next;
@@ -50,6 +51,7 @@ fn push(
     requires numbers { run.old.next + run.old.left < 2 ^ 64 }
     ensures begun { IfOk result (Begun run.old run.new (run.old.frames.items ++ frame_of behind e.now.to ∷ []) callee f.now e.now.arguments.items) }
     ensures streams { run.new.streams ≡ run.old.streams }
+    ensures kept { OnErr result (run.new.left ≡ run.old.left) }
     ensures left { run.new.left ≤ run.old.left }
 {
     run.frames.push(Frame {

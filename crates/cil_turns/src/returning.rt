@@ -38,7 +38,7 @@ fn parameter_count(f: &Function) -> Result<u32, Memory>
 fn leave_activation(run: &mut Run, act: u64, f: &Function) -> Result<(), Memory>
     ensures ended { IfOk result (λ u. Left run.old run.new act f.now) }
     ensures streams { run.new.streams ≡ run.old.streams }
-    ensures left { run.new.left ≤ run.old.left }
+    ensures left { run.new.left ≡ run.old.left }
 {
     let arguments = parameter_count(f)?;
     leave(&mut run.mem, act, arguments, &f.objects);

@@ -1,4 +1,4 @@
-ghost use Rattle.std.specs.Prelude.{◌≡◌, ◌<◌, ◌≤◌, Some, slice_get, length, IfOk};
+ghost use Rattle.std.specs.Prelude.{◌≡◌, ◌<◌, ◌≤◌, Some, slice_get, length, IfOk, OnErr};
 ghost use Rattle.outside.specs.Counts.{KeepsLimit};
 ghost use Rattle.cil_frames.specs.declared.frames.Entity.TheVariants.{Program as OfProgram};
 ghost use Rattle.cil_code.specs.Leading.{LeadOn};
@@ -21,6 +21,7 @@ fn course(run: &mut Run, x: Stand, code: &[Step]) -> Result<Stop, Memory>
     requires leads { LeadOn code.now }
     requires there { x.place < length code.now }
     ensures coursed { IfOk result (Coursed run.old run.new x code.now) }
+    ensures kept { OnErr result (run.new.left ≡ run.old.left) }
     ensures streams { run.new.streams ≡ run.old.streams }
     ensures left { run.new.left ≤ run.old.left }
 {

@@ -5,7 +5,7 @@ use Rattle.cil_turns.proofs.Courses.{parts_wrong}
 use Rattle.cil_turns.proofs.calls.call_with.Goals as goal
 
 pub returns-in-Err-clause-turned : goal.returns-in-Err-clause-turned
-returns-in-Err-clause-turned g c = wants_at c.args.table.now c.args.run.now c.args.run.now c.args.x c.requires.stands refl _ _
+returns-in-Err-clause-turned g c = wants_at c.args.table.now c.args.run.now c.args.run.now c.args.x c.requires.stands refl refl _ _
 
 pub returns-in-Ok-None-clause-turned : goal.returns-in-Ok-None-clause-turned
 returns-in-Ok-None-clause-turned g c =
