@@ -1,5 +1,5 @@
 -- Device: what the result of a program's run says of its outcome.
-use Rattle.std.proofs.Common.{◌≡◌, ℕ, ◌-◌, ◌∷◌, List, [], Option, Some, None, option_map, true, false, refl, sym, ap, ◌∙◌, subst}
+use Rattle.std.proofs.Common.{◌≡◌, ◌≤◌, ℕ, ◌-◌, ◌∷◌, List, [], Option, Some, None, option_map, true, false, refl, sym, ap, ◌∙◌, subst, arith}
 use Rattle.cil_base.specs.declared.runs.Outcome.{Outcome}
 use Rattle.cil_base.specs.Outcome.{output as written, IsPrefix}
 use Rattle.byte_mem.specs.declared.values.Value.TheVariants.{Int, Ptr, Unknown, Part}
@@ -12,7 +12,8 @@ use Rattle.execution.proofs.RunLaws.{spends_least}
 use Rattle.cil_tree.specs.Tree.{Program}
 use Rattle.cil_semantics.specs.Runs.{linkables, RunCil, UnitsSpent, FindsEnd}
 use Rattle.cil_semantics.proofs.ProgramLaws.{programs_tame}
-use Rattle.cil_runner.specs.Outcomes.{EndsAs, GoesOn, HasWritten}
+use Rattle.cil_turns.specs.Ends.{CutOff as IsCutOff}
+use Rattle.cil_runner.specs.Outcomes.{EndsAs, GoesOn, HasWritten, CutOff}
 
 -- an outcome has the output of its result
 status_output : (d : Datum) (out : List ℕ) → written (status_of d out) ≡ out
@@ -56,11 +57,21 @@ module _ (p : Program) (words : List (List ℕ)) (input : List ℕ) (steps : ℕ
     pub goes_on : (left : ℕ) (x : Outcome) → outcome_of r ≡ x → (last r).left ≡ left → GoesOn p words input steps (steps - left) x
     goes_on left x o l = record { outcome = outcome_is (Some r) is ∙ o; spent = spent_is left l }
 
-    pub has_written : (text : List ℕ) → IsPrefix text (output r) → HasWritten p words input steps text
+    has_written : (text : List ℕ) → IsPrefix text (output r) → HasWritten p words input steps text
     has_written text h = subst (IsPrefix text) (sym (ap written (outcome_is (Some r) is) ∙ outcome_output r)) h
+
+    pub cut_off : (left : ℕ) (text : List ℕ) → IsCutOff r text left → CutOff p words input steps (steps - left) text
+    cut_off left text h = record {
+      written = has_written text h.written;
+      spent = let all : UnitsSpent (p ∷ []) words input steps ≡ steps - (last r).left = units_are (Some r) is in omega (arith, h.spent);
+    }
 
     pub finds_end : (last r).at_end ≡ true → FindsEnd (p ∷ []) words input steps ≡ true
     finds_end e = ap (λ o. elim (option_map last o) [ None ↦ false | Some s ↦ s.at_end ]) is ∙ e
+
+  -- nothing was written and no unit used
+  pub cut_at_once : CutOff p words input steps 0 []
+  cut_at_once = record { written = (_, refl); spent = omega arith }
 
   -- without a main a run is undefined, with no output
   pub undefined_without : result_of p words input steps ≡ None → EndsAs p words input steps 0 (outcome_in None)

@@ -1,9 +1,8 @@
 -- Device: what the run of a program's main tells of the program's run.
-use Rattle.std.proofs.Common.{◌≡◌, ℕ, ◌-◌, ◌∷◌, ◌++◌, List, [], length, Bool, true, false, Option, Some, None, option_map, slice_get, refl, sym, ap, ◌∙◌, subst, append-nil}
+use Rattle.std.proofs.Common.{◌≡◌, inl, ℕ, ◌-◌, ◌∷◌, ◌++◌, List, [], length, Bool, true, false, Option, Some, None, option_map, slice_get, refl, sym, ap, ◌∙◌, subst, append-nil}
 use Rattle.cil_base.specs.declared.kinds.Abi.{Abi}
 use Rattle.cil_base.specs.declared.kinds.IntKind.TheVariants.{Int as int}
 use Rattle.cil_base.specs.declared.runs.Outcome.TheVariants.{Exit, Running, Undefined}
-use Rattle.cil_base.specs.Outcome.{IsPrefix}
 use Rattle.byte_mem.specs.declared.pointers.ObjName.TheVariants.{Entity}
 use Rattle.byte_mem.specs.declared.values.Scalar.TheVariants.{Int as OfKind}
 use Rattle.byte_mem.specs.declared.stores.Store.{Store}
@@ -18,7 +17,7 @@ use Rattle.execution.specs.Calls.{Code, Linked, calls}
 use Rattle.execution.specs.Linking.{main_entity}
 use Rattle.execution.specs.Runs.{pointer_to_name, start_state, int_kind, main_arguments, main_call, code_in, main_in, result_with}
 use Rattle.cil_tree.specs.Tree.{Program}
-use Rattle.cil_semantics.specs.Runs.{linkables}
+use Rattle.cil_semantics.specs.Runs.{linkables, FindsEnd}
 use Rattle.cil_semantics.specs.Laws.{calls_in}
 use Rattle.cil_code.specs.declared.calls.Kind.TheVariants.{Single}
 use Rattle.cil_code.specs.Calling.{kind_from}
@@ -32,27 +31,25 @@ use Rattle.cil_start.specs.Starts.{Starts}
 use Rattle.cil_turns.specs.declared.ends.RunEnd.{RunEnd}
 use Rattle.cil_turns.specs.declared.ends.RunEnd.TheVariants.{Exited, StillRunning, Undefined as WentUndefined, ReadFault, WriteFault, Memory as WantOfMemory}
 use Rattle.cil_turns.specs.declared.runs.FirstCall.{FirstCall}
-use Rattle.cil_turns.specs.Ends.{call_of_first, IsFront, Ends, RunsTo}
+use Rattle.cil_turns.specs.Ends.{call_of_first, FindsEnd as AllFindEnd, Ends, ReadAsNeeded, RunsTo}
+use Rattle.cil_turns.proofs.Moves.{needed_along}
 use Rattle.cil_start.specs.declared.mains.Main.{Main}
 use Rattle.cil_start.specs.Mains.{start_in, IsMain, BeginsWith}
 use Rattle.cil_runner.specs.declared.machine.Machine.{Machine}
-use Rattle.cil_runner.specs.Outcomes.{EndsAs}
+use Rattle.cil_runner.specs.Outcomes.{EndsAs, CutOff}
 use Rattle.cil_runner.specs.Machine.{Loads, Tells, RunsAs}
 use Rattle.cil_runner.specs.Beginning.{arguments_for}
-use Rattle.cil_runner.proofs.Outcomes.{result_of, ends_as, goes_on, has_written, finds_end, undefined_without}
+use Rattle.cil_runner.proofs.Outcomes.{result_of, ends_as, goes_on, cut_off, finds_end, cut_at_once, undefined_without}
 use Rattle.cil_runner.proofs.Loads.{function_loaded}
-
-front : (part text : List ℕ) → IsFront part text → IsPrefix part text
-front part text h = (h.rest, h.split)
 
 -- an answer tells of the program's run what it tells of the result
 tells : (end : RunEnd) (p : Program) (words : List (List ℕ)) (input : List ℕ) (steps left : ℕ) (text tail : List ℕ) (r : Result Datum) → result_of p words input steps ≡ Some r → Ends end r text tail left → Tells end p words input steps (steps - left) text tail
 tells (Exited status) p words input steps left text tail r is h = ends_as p words input steps r is left (Exit status text) h.0 h.1 tt
 tells StillRunning p words input steps left text tail r is h = goes_on p words input steps r is left (Running text) h.0 h.1
 tells WentUndefined p words input steps left text tail r is h = ends_as p words input steps r is left (Undefined text) h.0 h.1 tt
-tells ReadFault p words input steps left text tail r is h = λ none. (finds_end p words input steps r is (h none).0, has_written p words input steps r is text (front _ _ (h none).1))
-tells WriteFault p words input steps left text tail r is h = has_written p words input steps r is text (front _ _ h)
-tells WantOfMemory p words input steps left text tail r is h = has_written p words input steps r is text (front _ _ h)
+tells ReadFault p words input steps left text tail r is h = (cut_off p words input steps r is left text h.0, λ none. finds_end p words input steps r is (h.1 none))
+tells WriteFault p words input steps left text tail r is h = cut_off p words input steps r is left text h
+tells WantOfMemory p words input steps left text tail r is h = cut_off p words input steps r is left text h
 
 -- a machine that was loaded stands for the state in which the run starts
 start_matches : (s : Store) (held : StreamsState) (p : Program) (words : List (List ℕ)) (input : List ℕ) (steps : ℕ) → Starts s p words → held ≡ fresh → Matches (start_state p.graph.abi (linked_alone p) words input steps) (memory s) held [] input
@@ -124,17 +121,25 @@ runs_main machine p words table m first end steps left bytes bytes' taken taken'
     let loaded : IsMachine machine.run.mem.abi (linked_alone p) (calls_in (p ∷ [])) loads.at table =
     subst (IsMachine machine.run.mem.abi (linked_alone p) (calls_in (p ∷ [])) loads.at) (sym same) (subst (λ abi. IsMachine abi (linked_alone p) (calls_in (p ∷ [])) loads.at machine.table.items) (sym loads.store.abi) loads.table) in
     let r = runs (linked_alone p) (calls_in (p ∷ [])) loads.at loaded in
+    let enter = calls_in (p ∷ []) (call_of_first machine.run.mem.abi first) in
+    let start : (input : List ℕ) → Matches (start_state p.graph.abi (linked_alone p) words input steps) (memory machine.run.mem) machine.run.streams [] input =
+    λ input. start_matches machine.run.mem machine.run.streams p words input steps loads.store loads.streams in
+    let result : (input : List ℕ) → result_of p words input steps ≡ Some (enter (start_state p.graph.abi (linked_alone p) words input steps)) =
+    λ input. result_is p m words input steps main (main_model p m loads.at machine main loads.table) ∙ ap Some (sym (call_is p m words input steps machine.words machine.run.mem.abi first loads.store.abi callee kind xs loads.count)) in
     record {
       got = r.got;
       sent = r.sent;
       ended = r.ended;
       read = r.read;
       sends = r.sends;
+      asked = subst (λ was. ReadAsNeeded (λ input. FindsEnd (p ∷ []) words input steps ≡ true) was r.got r.ended) (ap (λ (h : StreamsState). h.ended) loads.streams)
+          (needed_along (AllFindEnd enter (memory machine.run.mem) machine.run.streams steps 0) (λ input. FindsEnd (p ∷ []) words input steps ≡ true) machine.run.streams.ended r.ended r.got
+          (λ input found. finds_end p words input steps _ (result input) (found (start_state p.graph.abi (linked_alone p) words input steps) [] (start input) refl refl)) r.asked);
+      stops = r.stops;
       finds = r.finds (ap (λ (h : StreamsState). h.ended) loads.streams);
       means = λ tail none.
-          tells end p words (r.got ++ tail) steps left r.sent tail _
-          (result_is p m words (r.got ++ tail) steps main (main_model p m loads.at machine main loads.table) ∙ ap Some (sym (call_is p m words (r.got ++ tail) steps machine.words machine.run.mem.abi first loads.store.abi callee kind xs loads.count)))
-          (r.means (start_state p.graph.abi (linked_alone p) words (r.got ++ tail) steps) [] tail none (start_matches machine.run.mem machine.run.streams p words (r.got ++ tail) steps loads.store loads.streams) refl refl);
+          tells end p words (r.got ++ tail) steps left r.sent tail _ (result (r.got ++ tail))
+          (r.means (start_state p.graph.abi (linked_alone p) words (r.got ++ tail) steps) [] tail none (start (r.got ++ tail)) refl refl);
     }
 
 none_read : (left : Option (List ℕ)) → WasRead left left []
@@ -146,15 +151,17 @@ none_wrote None = refl
 none_wrote (Some bytes) = ap Some (sym (append-nil bytes))
 
 -- where memory is wanting for the words, nothing was read and nothing written
-pub lacks_memory : (p : Program) (words : List (List ℕ)) (steps used : ℕ) (bytes taken : Option (List ℕ)) → RunsAs WantOfMemory p words steps used bytes bytes taken taken
-lacks_memory p words steps used bytes taken = record {
+pub lacks_memory : (p : Program) (words : List (List ℕ)) (steps used : ℕ) (bytes taken : Option (List ℕ)) → used ≡ 0 → RunsAs WantOfMemory p words steps used bytes bytes taken taken
+lacks_memory p words steps used bytes taken zero = record {
   got = [];
   sent = [];
   ended = false;
   read = none_read bytes;
   sends = none_wrote taken;
+  asked = inl (refl, refl);
+  stops = λ fault. refl;
   finds = λ not. absurd (cc);
-  means = λ tail none. (_, refl);
+  means = λ tail none. subst (λ used. CutOff p words tail steps used []) (sym zero) (cut_at_once p words tail steps);
 }
 
 -- without a main the run is undefined
@@ -165,6 +172,8 @@ lacks_main machine p words steps used bytes taken loads none zero = record {
   ended = false;
   read = none_read bytes;
   sends = none_wrote taken;
+  asked = inl (refl, refl);
+  stops = λ fault. refl;
   finds = λ not. absurd (cc);
   means = λ tail all.
       let no_result = ap (option_map (result_with (linked_alone p) (main_entity (linkables p ∷ [])) words tail steps)) (subst (BeginsWith p) none loads.main words) in

@@ -1,5 +1,5 @@
 -- Definition: which program a machine runs, with which words, and what the answer of its run says of the program's meaning.
-use Rattle.std.specs.Prelude.{◌≡◌, ℕ, Bool, true, List, [], ◌∷◌, ◌++◌, length, Option, IfSome}
+use Rattle.std.specs.Prelude.{◌≡◌, ℕ, Bool, true, false, List, [], ◌∷◌, ◌++◌, length, Option, IfSome}
 use Rattle.cil_base.specs.declared.runs.Outcome.TheVariants.{Exit, Running, Undefined}
 use Rattle.outside.specs.Moves.{WasRead}
 use Rattle.cil_tree.specs.Tree.{Program}
@@ -11,9 +11,9 @@ use Rattle.cil_start.specs.Entities.{linked_alone}
 use Rattle.cil_start.specs.Starts.{Starts}
 use Rattle.cil_turns.specs.declared.ends.RunEnd.{RunEnd}
 use Rattle.cil_turns.specs.declared.ends.RunEnd.TheVariants.{Exited, StillRunning, Undefined as WentUndefined, ReadFault, WriteFault, Memory}
-use Rattle.cil_turns.specs.Ends.{Sends}
+use Rattle.cil_turns.specs.Ends.{Sends, ReadAsNeeded}
 use Rattle.cil_start.specs.Mains.{BeginsWith}
-use Rattle.cil_runner.specs.Outcomes.{EndsAs, GoesOn, HasWritten}
+use Rattle.cil_runner.specs.Outcomes.{EndsAs, GoesOn, CutOff}
 use Rattle.cil_runner.specs.declared.machine.Machine.{Machine}
 
 -- the machine stands before the first step of the program, run alone with those words: its table is what the program's entities mean, its store is the memory in which
@@ -32,9 +32,9 @@ Tells (Exited status) p words input steps used text tail = EndsAs p words input 
 Tells StillRunning p words input steps used text tail = GoesOn p words input steps used (Running text)
 Tells WentUndefined p words input steps used text tail = EndsAs p words input steps used (Undefined text)
 -- had the source nothing more to give, a call of getchar would have found the end
-Tells ReadFault p words input steps used text tail = tail ≡ [] → (FindsEnd (p ∷ []) words input steps ≡ true) × HasWritten p words input steps text
-Tells WriteFault p words input steps used text tail = HasWritten p words input steps text
-Tells Memory p words input steps used text tail = HasWritten p words input steps text
+Tells ReadFault p words input steps used text tail = CutOff p words input steps used text × (tail ≡ [] → FindsEnd (p ∷ []) words input steps ≡ true)
+Tells WriteFault p words input steps used text tail = CutOff p words input steps used text
+Tells Memory p words input steps used text tail = CutOff p words input steps used text
 
 -- a run over a source, of which `left` is left, and a sink, which has taken `taken`; the accented ones are behind the run
 pub record RunsAs (end : RunEnd) (p : Program) (words : List (List ℕ)) (steps used : ℕ) (left left' taken taken' : Option (List ℕ)) : Type 0 where
@@ -44,6 +44,10 @@ pub record RunsAs (end : RunEnd) (p : Program) (words : List (List ℕ)) (steps 
   pub ended : Bool
   pub read : WasRead left left' got
   pub sends : Sends end taken taken' sent
+  -- nothing was read, or what was read last was needed: had the input ended before it, a getchar of the run would have found no input left
+  pub asked : ReadAsNeeded (λ input. FindsEnd (p ∷ []) words input steps ≡ true) false got ended
+  -- no read fails of a source that has given its end
+  pub stops : end ≡ ReadFault → ended ≡ false
   -- it gives its end only where nothing is left
   pub finds : ended ≡ true → IfSome left' (λ bytes. bytes ≡ [])
   -- whatever the source has still to give, nothing where it has given its end

@@ -1,5 +1,5 @@
 -- Definition: what is said of the outcome of a program that is run alone, and of the units that were used.
-use Rattle.std.specs.Prelude.{◌≡◌, ℕ, List, [], ◌∷◌}
+use Rattle.std.specs.Prelude.{◌≡◌, ◌≤◌, ℕ, List, [], ◌∷◌}
 use Rattle.cil_base.specs.declared.runs.Outcome.{Outcome}
 use Rattle.cil_base.specs.Outcome.{output, IsPrefix}
 use Rattle.execution.specs.Laws.{IsLeastBound}
@@ -20,3 +20,8 @@ pub record GoesOn (p : Program) (words : List (List ℕ)) (input : List ℕ) (st
 -- the text is a front of the run's output
 abbrev pub HasWritten : Program → List (List ℕ) → List ℕ → ℕ → List ℕ → Type 0
 HasWritten p words input steps text = IsPrefix text (output (RunCil (p ∷ []) words input steps))
+
+-- the run was cut off: the text is a front of its output, and it spends as many units as were used, or more
+pub record CutOff (p : Program) (words : List (List ℕ)) (input : List ℕ) (steps used : ℕ) (text : List ℕ) : Type 0 where
+  pub written : HasWritten p words input steps text
+  pub spent : used ≤ UnitsSpent (p ∷ []) words input steps

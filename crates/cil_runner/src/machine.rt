@@ -77,8 +77,8 @@ impl Machine {
     /// so does each turn of a loop and each jump back (own). It reads `input` where the program asks for a byte and none
     /// is at hand, and `out` gets all output, unless a write fails.
     ///
-    /// Undefined also where the program has no main (own). After WriteFault and Memory the sink got a front of the output,
-    /// and after ReadFault one of the output of the run that finds the end of the input there.
+    /// Undefined also where the program has no main (own). After a fault and after Memory the sink got a front of the
+    /// output, whatever the source has still to give. No more bytes are asked for at once than 4,096.
     pub fn run<S: Source, O: Sink>(&mut self, steps: u64, input: &mut S, out: &mut O) -> RunEnd
         requires { IsFresh self.old }
         ensures runs { (p : Program) (words : List (List ℕ)) → Loads self.old p words
@@ -122,8 +122,8 @@ impl Machine {
         end
     }
 
-    /// The units that the run spent; none before it. After a fault or want of memory all that is promised of them is the
-    /// bound.
+    /// The units that the run spent; none before it. After a fault or want of memory they are those of the run up to there,
+    /// no more than the whole run spends.
     pub fn used(&self) -> u64
         ensures { result ≡ self.now.used }
     {

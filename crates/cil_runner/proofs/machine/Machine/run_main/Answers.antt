@@ -4,7 +4,7 @@ use Rattle.cil_runner.proofs.Running.{runs_main, lacks_memory}
 use Rattle.cil_runner.proofs.machine.Machine.run_main.Goals as goal
 
 pub returns-in_default-clause-runs : goal.returns-in_default-clause-runs
-returns-in_default-clause-runs g c = λ p words loads. lacks_memory p words c.args.steps c.args.self.now.used _ _
+returns-in_default-clause-runs g c = λ p words loads. lacks_memory p words c.args.steps c.args.self.now.used _ _ c.requires.fresh.used
 
 pub run_call-end-requires-clause-leads : goal.run_call-end-requires-clause-leads
 run_call-end-requires-clause-leads g c = subst AllLead (sym c.deref.ensures.value) c.requires.fresh.leads
