@@ -1,14 +1,7 @@
 pub mod Alignments
 pub mod Places
-pub mod Symbols
-pub mod LinkedAlone
-pub mod ProgramEntities
-pub mod Definitions
-pub mod HostNames
-pub mod Programs
+pub mod UnitLaws
 pub mod Writings
 pub mod WordLaws
 pub mod ObjectLaws
 pub mod StartLaws
-pub mod MainTypes
-pub mod MainLaws

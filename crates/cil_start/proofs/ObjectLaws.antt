@@ -4,6 +4,7 @@ use Rattle.std.specs.List.{list_all}
 use Rattle.std.specs.declared.vec.Vec.{Vec}
 use Rattle.std.proofs.Common.{Global}
 use Rattle.cil_base.specs.declared.numbers.EntityId.{EntityId}
+use Rattle.cil_base.specs.declared.numbers.UnitNo.{UnitNo}
 use Rattle.byte_mem.specs.declared.pointers.ObjName.{ObjName}
 use Rattle.byte_mem.specs.declared.pointers.ObjName.TheVariants.{Entity, Local, Literal, Heap, Argument}
 use Rattle.byte_mem.specs.declared.values.Byte.{Byte}
@@ -38,14 +39,15 @@ use Rattle.cil_tree.specs.Programs.{IsProgram}
 use Rattle.cil_tree.specs.Globals.{item_fits, global_fits, is_nonempty, has_definition, object_is_complete, definition_fits}
 use Rattle.cil_semantics.specs.Values.{size_in}
 use Rattle.cil_semantics.specs.Runs.{with_item, with_items, zeros, object, global_meaning, definition_meaning, function_meaning, is_main}
-use Rattle.cil_start.specs.declared.images.Loaded.{Loaded}
-use Rattle.cil_start.specs.declared.entities.Definer.{Definer}
-use Rattle.cil_start.specs.declared.entities.Definer.TheVariants.{Global as OfGlobal}
-use Rattle.cil_start.specs.Loads.{program_in, IsReady, IsObject, items_held, image_held, global_held, definer_held, IsOne, AllAre}
-use Rattle.cil_start.proofs.ProgramEntities.{both}
+use Rattle.cil_start.specs.declared.loaded.Loaded.{Loaded}
+use Rattle.cil_link.specs.declared.entities.Definer.{Definer}
+use Rattle.cil_link.specs.declared.entities.Definer.TheVariants.{Global as OfGlobal}
+use Rattle.cil_start.specs.Loads.{program_in, IsReady, IsObject, items_held, image_held, global_held, definer_held, loaded_in}
+use Rattle.cil_link.specs.Entities.{InRun, global_meant}
+use Rattle.cil_link.proofs.Definitions.{both}
 use Rattle.cil_start.proofs.Writings.{held_itself, held_twice}
 use Rattle.cil_start.proofs.WordLaws.{entities_push}
-use Rattle.cil_start.proofs.Programs.{Fits, global_is}
+use Rattle.cil_link.proofs.Programs.{Fits, global_is, each_at, global_there}
 
 pub size_there : (l : Loaded) (t : ℕ) → IsReady l → complete_shape l.unit.now.graph.aggs (shape l.unit.now.graph.nodes t) ≡ true → IsSome (found l.layouts.now t)
 size_there l t ready e = ap is_some (ready.step.sizes t) ∙ (layout_there l.unit.now.graph ready.program.arena t ∙ e)
@@ -160,62 +162,48 @@ module _ (l : Loaded) (x : GlobalDecl) (fits : global_fits (program_in l) (globa
       definition_is es (code.Body b) e ∙ function_means es (is_main (global_of l.unit.now.graph.nodes l.names.now x)) (body_of l.unit.now.graph.nodes l.names.now b) (shape l.unit.now.graph.nodes x.ty.0) function
 
 -- the global that defines an entity fits
-pub global_at : (u : CilUnit) (names : List (List ℕ)) (n : ℕ) (r : GlobalDecl) → IsProgram (program_of names u) → n < length u.globals.items → r ≡ get_or u.globals.items n r → global_fits (program_of names u) (global_of u.graph.nodes names r) ≡ true
-global_at u names n r is h e = by u.globals.items n is.globals h e
-  where
-    by : (xs : List GlobalDecl) (n : ℕ) → list_all (global_fits (program_of names u)) (map (global_of u.graph.nodes names) xs) ≡ true → n < length xs → r ≡ get_or xs n r → global_fits (program_of names u) (global_of u.graph.nodes names r) ≡ true
-    by [] n all h e = absurd (omega arith)
-    by (x ∷ xs) zero all h e = ap (λ (y : GlobalDecl). global_fits (program_of names u) (global_of u.graph.nodes names y)) e ∙ (both (global_fits (program_of names u) (global_of u.graph.nodes names x)) _ all).0
-    by (x ∷ xs) (suc n) all h e = by xs n (both (global_fits (program_of names u) (global_of u.graph.nodes names x)) _ all).1 (omega arith) e
+pub global_at : (l : Loaded) (n : ℕ) (r : GlobalDecl) → IsReady l → n < length l.unit.now.globals.items → r ≡ get_or l.unit.now.globals.items n r → global_fits (program_in l) (global_of l.unit.now.graph.nodes l.names.now r) ≡ true
+global_at l n r ready h e =
+    each_at (global_fits (program_in l)) (program_in l).globals n (global_of l.unit.now.graph.nodes l.names.now r) ready.program.globals (global_there l.unit.now l.names.now n r h e)
 
-pub global_means : (u : CilUnit) (names : List (List ℕ)) (es : List ℕ) (e : EntityId) (r : GlobalDecl) → e.0 < length u.globals.items → r ≡ get_or u.globals.items e.0 r
-    → definer_held (program_of names u) es (OfGlobal e) ≡ global_held (program_of names u) es (global_of u.graph.nodes names r)
-global_means u names es e r h is =
-    ap (λ (o : Option plain.GlobalDecl). entity_held (o >>= λ y. global_meaning (program_of names u) y es)) (by u.globals.items e.0 h is)
-  where
-    by : (xs : List GlobalDecl) (n : ℕ) → n < length xs → r ≡ get_or xs n r → slice_get (map (global_of u.graph.nodes names) xs) n ≡ Some (global_of u.graph.nodes names r)
-    by [] n h e = absurd (omega arith)
-    by (x ∷ xs) zero h e = ap (λ (y : GlobalDecl). Some (global_of u.graph.nodes names y)) (sym e)
-    by (x ∷ xs) (suc n) h e = by xs n (omega arith) e
+pub global_means : (units : List InRun) (l : Loaded) (k : UnitNo) (e : EntityId) (r : GlobalDecl) → slice_get units k.0 ≡ Some (loaded_in l) → e.0 < length l.unit.now.globals.items → r ≡ get_or l.unit.now.globals.items e.0 r
+    → definer_held units (OfGlobal k e) ≡ global_held (program_in l) l.entities.now (global_of l.unit.now.graph.nodes l.names.now r)
+global_means units l k e r unit h is =
+    ap (λ (o : Option InRun). entity_held (o >>= λ u. global_meant u e.0)) unit
+    ∙ ap (λ (o : Option plain.GlobalDecl). entity_held (o >>= λ y. global_meaning (program_in l) y l.entities.now)) (global_there l.unit.now l.names.now e.0 r h is)
 
-pub numbered_made : {E : Type 0} (l : Loaded) (res : Result (Unit {0}) E) (old new : Store) (n e : EntityId) (r : GlobalDecl) → e.0 < length l.unit.now.globals.items → r ≡ get_or l.unit.now.globals.items e.0 r
-    → OnOk res (Becomes old new (with_held (memory old) (Entity n) (global_held (program_in l) l.entities.now (global_of l.unit.now.graph.nodes l.names.now r)))) → OnOk res (Becomes old new (with_held (memory old) (Entity n) (definer_held (program_in l) l.entities.now (OfGlobal e))))
-numbered_made l res old new n e r h is b = moved_on res old new n _ _ (sym (global_means l.unit.now l.names.now l.entities.now e r h is)) b
-
-globals_count : (see : GlobalDecl → plain.GlobalDecl) (xs : List GlobalDecl) → length (map see xs) ≡ length xs
-globals_count see [] = refl
-globals_count see (x ∷ xs) = ap suc (globals_count see xs)
-
-pub one_there : (u : CilUnit) (names : List (List ℕ)) (e : EntityId) → IsOne (program_of names u) (OfGlobal e) → e.0 < length u.globals.items
-one_there u names e h = omega (arith, h, globals_count (global_of u.graph.nodes names) u.globals.items)
+pub numbered_made : {E : Type 0} (units : List InRun) (l : Loaded) (res : Result (Unit {0}) E) (old new : Store) (n e : EntityId) (k : UnitNo) (r : GlobalDecl) → slice_get units k.0 ≡ Some (loaded_in l)
+    → e.0 < length l.unit.now.globals.items → r ≡ get_or l.unit.now.globals.items e.0 r
+    → OnOk res (Becomes old new (with_held (memory old) (Entity n) (global_held (program_in l) l.entities.now (global_of l.unit.now.graph.nodes l.names.now r)))) → OnOk res (Becomes old new (with_held (memory old) (Entity n) (definer_held units (OfGlobal k e))))
+numbered_made units l res old new n e k r unit h is b = moved_on res old new n _ _ (sym (global_means units l k e r unit h is)) b
 
 -- the entities, one after another
-module _ (p : Program) (es : List ℕ) where
-  taken_after : (xs : List Definer) (i : ℕ) (r : Definer) → i < length xs → r ≡ get_or xs i r → (map (definer_held p es) (take (suc i) xs) ≡ map (definer_held p es) (take i xs) ++ definer_held p es r ∷ []) × (i ≡ length (map (definer_held p es) (take i xs)))
+module _ (units : List InRun) where
+  taken_after : (xs : List Definer) (i : ℕ) (r : Definer) → i < length xs → r ≡ get_or xs i r → (map (definer_held units) (take (suc i) xs) ≡ map (definer_held units) (take i xs) ++ definer_held units r ∷ []) × (i ≡ length (map (definer_held units) (take i xs)))
   taken_after [] i r h e = absurd (omega arith)
-  taken_after (x ∷ xs) zero r h e = (ap (λ (y : Definer). definer_held p es y ∷ []) (sym e), refl)
-  taken_after (x ∷ xs) (suc i) r h e = let t = taken_after xs i r (omega arith) e in (ap (λ (ys : List (Option Held)). definer_held p es x ∷ ys) t.0, ap suc t.1)
+  taken_after (x ∷ xs) zero r h e = (ap (λ (y : Definer). definer_held units y ∷ []) (sym e), refl)
+  taken_after (x ∷ xs) (suc i) r h e = let t = taken_after xs i r (omega arith) e in (ap (λ (ys : List (Option Held)). definer_held units x ∷ ys) t.0, ap suc t.1)
 
-  taken : (xs : List Definer) (i : ℕ) (r : Definer) → i < length xs → r ≡ get_or xs i r → (map (definer_held p es) (take (i + 1) xs) ≡ map (definer_held p es) (take i xs) ++ definer_held p es r ∷ []) × (i ≡ length (map (definer_held p es) (take i xs)))
+  taken : (xs : List Definer) (i : ℕ) (r : Definer) → i < length xs → r ≡ get_or xs i r → (map (definer_held units) (take (i + 1) xs) ≡ map (definer_held units) (take i xs) ++ definer_held units r ∷ []) × (i ≡ length (map (definer_held units) (take i xs)))
   taken xs i r h e =
       let t = taken_after xs i r h e in
-      (ap (λ (k : ℕ). map (definer_held p es) (take k xs)) (let one : i + 1 ≡ suc i = omega arith in one) ∙ t.0, t.1)
+      (ap (λ (k : ℕ). map (definer_held units) (take k xs)) (let one : i + 1 ≡ suc i = omega arith in one) ∙ t.0, t.1)
 
-  pub entities_next : (xs : List Definer) (i : ℕ) (r : Definer) (old new : Store) (first : Store) → i < length xs → r ≡ get_or xs i r → Becomes first old (memory_of (map (definer_held p es) (take i xs)) [])
-      → Becomes old new (with_held (memory old) (Entity (record { 0 = i })) (definer_held p es r)) → Becomes first new (memory_of (map (definer_held p es) (take (i + 1) xs)) [])
+  pub entities_next : (xs : List Definer) (i : ℕ) (r : Definer) (old new : Store) (first : Store) → i < length xs → r ≡ get_or xs i r → Becomes first old (memory_of (map (definer_held units) (take i xs)) [])
+      → Becomes old new (with_held (memory old) (Entity (record { 0 = i })) (definer_held units r)) → Becomes first new (memory_of (map (definer_held units) (take (i + 1) xs)) [])
   entities_next xs i r old new first h e is step =
       let t = taken xs i r h e in
-      (step.0 ∙ ap (λ (m : Memory). with_held m (Entity (record { 0 = i })) (definer_held p es r)) is.0 ∙ sym (entities_push (map (definer_held p es) (take i xs)) (definer_held p es r) i t.1) ∙ ap (λ (ys : List (Option Held)). memory_of ys []) (sym t.0), step.1 ∙ is.1)
+      (step.0 ∙ ap (λ (m : Memory). with_held m (Entity (record { 0 = i })) (definer_held units r)) is.0 ∙ sym (entities_push (map (definer_held units) (take i xs)) (definer_held units r) i t.1) ∙ ap (λ (ys : List (Option Held)). memory_of ys []) (sym t.0), step.1 ∙ is.1)
 
-  pub entity_absent : (xs : List Definer) (i : ℕ) (r : Definer) (first old : Store) → i < length xs → r ≡ get_or xs i r → Becomes first old (memory_of (map (definer_held p es) (take i xs)) []) → memory old (Entity (record { 0 = i })) ≡ None
-  entity_absent xs i r first old h e is = ap (λ (m : Memory). m (Entity (record { 0 = i }))) is.0 ∙ past (map (definer_held p es) (take i xs)) i (taken xs i r h e).1
+  pub entity_absent : (xs : List Definer) (i : ℕ) (r : Definer) (first old : Store) → i < length xs → r ≡ get_or xs i r → Becomes first old (memory_of (map (definer_held units) (take i xs)) []) → memory old (Entity (record { 0 = i })) ≡ None
+  entity_absent xs i r first old h e is = ap (λ (m : Memory). m (Entity (record { 0 = i }))) is.0 ∙ past (map (definer_held units) (take i xs)) i (taken xs i r h e).1
     where
       past : (ys : List (Option Held)) (i : ℕ) → i ≡ length ys → slot ys i ≡ None
       past [] i e = refl
       past (y ∷ ys) zero e = absurd (omega arith)
       past (y ∷ ys) (suc i) e = past ys i (omega arith)
 
-  pub entities_begin : (first : Store) (xs : List Definer) → memory first ≡ no_memory → Becomes first first (memory_of (map (definer_held p es) (take 0 xs)) [])
+  pub entities_begin : (first : Store) (xs : List Definer) → memory first ≡ no_memory → Becomes first first (memory_of (map (definer_held units) (take 0 xs)) [])
   entities_begin first xs e = (e ∙ same_memory no_memory (memory_of [] []) by, refl)
     where
       by : (x : ObjName) → no_memory x ≡ memory_of [] [] x
@@ -225,8 +213,8 @@ module _ (p : Program) (es : List ℕ) where
       by (Heap n) = refl
       by (Argument n) = refl
 
-  pub entities_end : (first now : Store) (xs : List Definer) (i : ℕ) → length xs ≤ i → Becomes first now (memory_of (map (definer_held p es) (take i xs)) []) → Becomes first now (memory_of (map (definer_held p es) xs) [])
-  entities_end first now xs i h is = (is.0 ∙ ap (λ (ys : List Definer). memory_of (map (definer_held p es) ys) []) (take_all xs i h), is.1)
+  pub entities_end : (first now : Store) (xs : List Definer) (i : ℕ) → length xs ≤ i → Becomes first now (memory_of (map (definer_held units) (take i xs)) []) → Becomes first now (memory_of (map (definer_held units) xs) [])
+  entities_end first now xs i h is = (is.0 ∙ ap (λ (ys : List Definer). memory_of (map (definer_held units) ys) []) (take_all xs i h), is.1)
     where
       take_all : (ys : List Definer) (n : ℕ) → length ys ≤ n → take n ys ≡ ys
       take_all [] zero h = refl
@@ -234,22 +222,14 @@ module _ (p : Program) (es : List ℕ) where
       take_all (y ∷ ys) zero h = absurd (omega arith)
       take_all (y ∷ ys) (suc n) h = ap (λ (zs : List Definer). y ∷ zs) (take_all ys n (omega arith))
 
-  pub one_at : (xs : List Definer) (i : ℕ) (r : Definer) → AllAre p xs → i < length xs → r ≡ get_or xs i r → IsOne p r
-  one_at [] i r all h e = absurd (omega arith)
-  one_at (x ∷ xs) zero r all h e = subst (IsOne p) (sym e) all.0
-  one_at (x ∷ xs) (suc i) r all h e = one_at xs i r all.1 (omega arith) e
-
   same_element : (xs : List Definer) (i : ℕ) (d : Definer) → i < length xs → get_or xs i d ≡ get_or xs i (get_or xs i d)
   same_element [] i d h = absurd (omega arith)
   same_element (x ∷ xs) zero d h = refl
   same_element (x ∷ xs) (suc i) d h = same_element xs i d (omega arith)
 
-  pub next_made : (xs : List Definer) (i : ℕ) (d : Definer) (old new first : Store) → i < length xs → Becomes first old (memory_of (map (definer_held p es) (take i xs)) [])
-      → Becomes old new (with_held (memory old) (Entity (record { 0 = i })) (definer_held p es (get_or xs i d))) → Becomes first new (memory_of (map (definer_held p es) (take (i + 1) xs)) [])
+  pub next_made : (xs : List Definer) (i : ℕ) (d : Definer) (old new first : Store) → i < length xs → Becomes first old (memory_of (map (definer_held units) (take i xs)) [])
+      → Becomes old new (with_held (memory old) (Entity (record { 0 = i })) (definer_held units (get_or xs i d))) → Becomes first new (memory_of (map (definer_held units) (take (i + 1) xs)) [])
   next_made xs i d old new first h is step = entities_next xs i (get_or xs i d) old new first h (same_element xs i d h) is step
 
-  pub next_absent : (xs : List Definer) (i : ℕ) (d : Definer) (first old : Store) → i < length xs → Becomes first old (memory_of (map (definer_held p es) (take i xs)) []) → memory old (Entity (record { 0 = i })) ≡ None
+  pub next_absent : (xs : List Definer) (i : ℕ) (d : Definer) (first old : Store) → i < length xs → Becomes first old (memory_of (map (definer_held units) (take i xs)) []) → memory old (Entity (record { 0 = i })) ≡ None
   next_absent xs i d first old h is = entity_absent xs i (get_or xs i d) first old h (same_element xs i d h) is
-
-  pub next_one : (xs : List Definer) (i : ℕ) (d : Definer) → AllAre p xs → i < length xs → IsOne p (get_or xs i d)
-  next_one xs i d all h = one_at xs i (get_or xs i d) all h (same_element xs i d h)

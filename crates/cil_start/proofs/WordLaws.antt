@@ -81,29 +81,29 @@ pub zeros_end : (bytes all : List Byte) (size k : ℕ) → size ≤ k → bytes 
 zeros_end bytes all size k h is = sym (append-nil bytes) ∙ ap (λ (n : ℕ). bytes ++ replicate n (Known 0)) (let d : 0 ≡ size - k = omega arith in d) ∙ is
 
 -- pointers to words, one after another
-word_after : {A : Type 0} (see : A → List ℕ) (xs : List A) (i : ℕ) → i < length xs → (w : List ℕ) × (map see (drop i xs) ≡ w ∷ map see (drop (suc i) xs))
-word_after see [] i h = absurd (omega arith)
-word_after see (x ∷ xs) zero h = (see x, refl)
-word_after see (x ∷ xs) (suc i) h = word_after see xs i (omega arith)
+word_after : (xs : List (List ℕ)) (i : ℕ) → i < length xs → (w : List ℕ) × (drop i xs ≡ w ∷ drop (suc i) xs)
+word_after [] i h = absurd (omega arith)
+word_after (x ∷ xs) zero h = (x, refl)
+word_after (x ∷ xs) (suc i) h = word_after xs i (omega arith)
 
-next_word : {A : Type 0} (see : A → List ℕ) (xs : List A) (i : ℕ) → i < length xs → (w : List ℕ) × (map see (drop i xs) ≡ w ∷ map see (drop (i + 1) xs))
-next_word see xs i h =
-    let w = word_after see xs i h in
-    (w.0, w.1 ∙ ap (λ (k : ℕ). w.0 ∷ map see (drop k xs)) (let one : suc i ≡ i + 1 = omega arith in one))
+next_word : (xs : List (List ℕ)) (i : ℕ) → i < length xs → (w : List ℕ) × (drop i xs ≡ w ∷ drop (i + 1) xs)
+next_word xs i h =
+    let w = word_after xs i h in
+    (w.0, w.1 ∙ ap (λ (k : ℕ). w.0 ∷ drop k xs) (let one : suc i ≡ i + 1 = omega arith in one))
 
-pub no_words : {A : Type 0} (see : A → List ℕ) (xs : List A) (i : ℕ) → length xs ≤ i → map see (drop i xs) ≡ []
-no_words see [] zero h = refl
-no_words see [] (suc i) h = refl
-no_words see (x ∷ xs) zero h = absurd (omega arith)
-no_words see (x ∷ xs) (suc i) h = no_words see xs i (omega arith)
+pub no_words : (xs : List (List ℕ)) (i : ℕ) → length xs ≤ i → drop i xs ≡ []
+no_words [] zero h = refl
+no_words [] (suc i) h = refl
+no_words (x ∷ xs) zero h = absurd (omega arith)
+no_words (x ∷ xs) (suc i) h = no_words xs i (omega arith)
 
-pub pointers_next : {A : Type 0} (see : A → List ℕ) (xs : List A) (abi : Abi) (old new all : List Byte) (i size : ℕ) → i < length xs → size ≡ pointer_size_of abi
-    → new ≡ old ++ parts_of (record { name = Argument (i + 1); offset = pos 0 }) 0 size → old ++ word_pointers abi i (map see (drop i xs)) ≡ all → new ++ word_pointers abi (i + 1) (map see (drop (i + 1) xs)) ≡ all
-pointers_next see xs abi old new all i size h s e is =
-    let w = next_word see xs i h in
+pub pointers_next : (xs : List (List ℕ)) (abi : Abi) (old new all : List Byte) (i size : ℕ) → i < length xs → size ≡ pointer_size_of abi
+    → new ≡ old ++ parts_of (record { name = Argument (i + 1); offset = pos 0 }) 0 size → old ++ word_pointers abi i (drop i xs) ≡ all → new ++ word_pointers abi (i + 1) (drop (i + 1) xs) ≡ all
+pointers_next xs abi old new all i size h s e is =
+    let w = next_word xs i h in
     let one : i + 1 ≡ suc i = omega arith in
     let p : Pointer = record { name = Argument (suc i); offset = pos 0 } in
-    let rest = map see (drop (i + 1) xs) in
+    let rest = drop (i + 1) xs in
     let is_new : new ≡ old ++ parts_of p 0 (pointer_size_of abi) = e ∙ ap (λ (k : ℕ). old ++ parts_of (record { name = Argument k; offset = pos 0 }) 0 size) one ∙ ap (λ (k : ℕ). old ++ parts_of p 0 k) s in
     ap (λ (bs : List Byte). bs ++ word_pointers abi (i + 1) rest) is_new
     ∙ append_assoc old (parts_of p 0 (pointer_size_of abi)) (word_pointers abi (i + 1) rest)
@@ -114,10 +114,10 @@ pointers_next see xs abi old new all i size h s e is =
 null_is : (abi : Abi) → replicate (pointer_size_of abi) (Known 0) ≡ bytes_of abi OfPointer (Int (pos 0))
 null_is Lp64 = refl
 
-pub pointers_end : {A : Type 0} (see : A → List ℕ) (xs : List A) (abi : Abi) (old new all : List Byte) (i size : ℕ) → length xs ≤ i → size ≡ pointer_size_of abi → new ≡ old ++ replicate size (Known 0)
-    → old ++ word_pointers abi i (map see (drop i xs)) ≡ all → new ≡ all
-pointers_end see xs abi old new all i size h s e is =
-    e ∙ ap (λ (k : ℕ). old ++ replicate k (Known 0)) s ∙ ap (λ (bs : List Byte). old ++ bs) (null_is abi) ∙ sym (ap (λ (ws : List (List ℕ)). old ++ word_pointers abi i ws) (no_words see xs i h)) ∙ is
+pub pointers_end : (xs : List (List ℕ)) (abi : Abi) (old new all : List Byte) (i size : ℕ) → length xs ≤ i → size ≡ pointer_size_of abi → new ≡ old ++ replicate size (Known 0)
+    → old ++ word_pointers abi i (drop i xs) ≡ all → new ≡ all
+pointers_end xs abi old new all i size h s e is =
+    e ∙ ap (λ (k : ℕ). old ++ replicate k (Known 0)) s ∙ ap (λ (bs : List Byte). old ++ bs) (null_is abi) ∙ sym (ap (λ (ws : List (List ℕ)). old ++ word_pointers abi i ws) (no_words xs i h)) ∙ is
 
 all_written : (bytes : List Byte) (n : ℕ) → n ≡ length bytes → with_part 0 bytes (replicate n (Known 0)) ≡ bytes
 all_written bytes n e = ap (λ (bs : List Byte). bytes ++ bs) (dropped (0 + length bytes) n (omega (arith, e))) ∙ append-nil bytes
@@ -175,25 +175,25 @@ taken [] i d h = absurd (omega arith)
 taken (x ∷ xs) zero d h = (refl, refl)
 taken (x ∷ xs) (suc i) d h = let t = taken xs i d (omega arith) in (ap (λ (ys : List (Option Held)). x ∷ ys) t.0, ap suc t.1)
 
-word_there : {A : Type 0} (see : A → List ℕ) (xs : List A) (i : ℕ) (r : A) → i < length xs → r ≡ get_or xs i r → (get_or (map word_held (map see xs)) i None ≡ word_held (see r)) × (i < length (map word_held (map see xs)))
-word_there see [] i r h e = absurd (omega arith)
-word_there see (x ∷ xs) zero r h e = (ap (λ y. word_held (see y)) (sym e), omega arith)
-word_there see (x ∷ xs) (suc i) r h e = let t = word_there see xs i r (omega arith) e in (t.0, omega (arith, t.1))
+word_there : (xs : List (List ℕ)) (i : ℕ) (r : List ℕ) → i < length xs → r ≡ get_or xs i r → (get_or (map word_held xs) i None ≡ word_held r) × (i < length (map word_held xs))
+word_there [] i r h e = absurd (omega arith)
+word_there (x ∷ xs) zero r h e = (ap word_held (sym e), omega arith)
+word_there (x ∷ xs) (suc i) r h e = let t = word_there xs i r (omega arith) e in (t.0, omega (arith, t.1))
 
-pub arguments_next : {A : Type 0} (see : A → List ℕ) (xs : List A) (es : List (Option Held)) (abi : Abi) (old new : Memory) (i : ℕ) (r : A) (bytes : List Byte) → i < length xs → r ≡ get_or xs i r → Some (writable bytes) ≡ word_held (see r)
-    → old ≡ memory_of es (take (i + 1) (words_held abi (map see xs))) → new ≡ with_held old (Argument (i + 1)) (Some (writable bytes)) → new ≡ memory_of es (take (i + 1 + 1) (words_held abi (map see xs)))
-arguments_next see xs es abi old new i r bytes h e w is step =
-    let all = words_held abi (map see xs) in
-    let there = word_there see xs i r h e in
+pub arguments_next : (xs : List (List ℕ)) (es : List (Option Held)) (abi : Abi) (old new : Memory) (i : ℕ) (r : List ℕ) (bytes : List Byte) → i < length xs → r ≡ get_or xs i r → Some (writable bytes) ≡ word_held r
+    → old ≡ memory_of es (take (i + 1) (words_held abi xs)) → new ≡ with_held old (Argument (i + 1)) (Some (writable bytes)) → new ≡ memory_of es (take (i + 1 + 1) (words_held abi xs))
+arguments_next xs es abi old new i r bytes h e w is step =
+    let all = words_held abi xs in
+    let there = word_there xs i r h e in
     let one : i + 1 ≡ suc i = omega arith in
     let two : i + 1 + 1 ≡ suc (suc i) = omega arith in
-    let t = taken (map word_held (map see xs)) i None there.1 in
-    let longer : take (suc (suc i)) all ≡ take (suc i) all ++ word_held (see r) ∷ [] = ap (λ (ys : List (Option Held)). Some (writable (word_pointers abi 0 (map see xs))) ∷ ys) (t.0 ∙ ap (λ (o : Option Held). take i (map word_held (map see xs)) ++ o ∷ []) there.0) in
+    let t = taken (map word_held xs) i None there.1 in
+    let longer : take (suc (suc i)) all ≡ take (suc i) all ++ word_held r ∷ [] = ap (λ (ys : List (Option Held)). Some (writable (word_pointers abi 0 xs)) ∷ ys) (t.0 ∙ ap (λ (o : Option Held). take i (map word_held xs) ++ o ∷ []) there.0) in
     let count : suc i ≡ length (take (suc i) all) = ap suc (sym t.1) in
     step ∙ ap (λ (m : Memory). with_held m (Argument (i + 1)) (Some (writable bytes))) (is ∙ ap (λ (k : ℕ). memory_of es (take k all)) one)
     ∙ ap (λ (k : ℕ). with_held (memory_of es (take (suc i) all)) (Argument k) (Some (writable bytes))) one
     ∙ ap (with_held (memory_of es (take (suc i) all)) (Argument (suc i))) w
-    ∙ sym (words_push es (take (suc i) all) (word_held (see r)) (suc i) count)
+    ∙ sym (words_push es (take (suc i) all) (word_held r) (suc i) count)
     ∙ ap (memory_of es) (sym longer)
     ∙ ap (λ (k : ℕ). memory_of es (take k all)) (sym two)
 
@@ -203,9 +203,9 @@ take_all [] (suc n) h = refl
 take_all (x ∷ xs) zero h = absurd (omega arith)
 take_all (x ∷ xs) (suc n) h = ap (λ (ys : List (Option Held)). x ∷ ys) (take_all xs n (omega arith))
 
-words_count : {A : Type 0} (see : A → List ℕ) (xs : List A) → length (map word_held (map see xs)) ≡ length xs
-words_count see [] = refl
-words_count see (x ∷ xs) = ap suc (words_count see xs)
+words_count : (xs : List (List ℕ)) → length (map word_held xs) ≡ length xs
+words_count [] = refl
+words_count (x ∷ xs) = ap suc (words_count xs)
 
-pub arguments_end : {A : Type 0} (see : A → List ℕ) (xs : List A) (es : List (Option Held)) (abi : Abi) (m : Memory) (i : ℕ) → length xs ≤ i → m ≡ memory_of es (take (i + 1) (words_held abi (map see xs))) → m ≡ memory_of es (words_held abi (map see xs))
-arguments_end see xs es abi m i h is = is ∙ ap (memory_of es) (take_all (words_held abi (map see xs)) (i + 1) (omega (arith, words_count see xs)))
+pub arguments_end : (xs : List (List ℕ)) (es : List (Option Held)) (abi : Abi) (m : Memory) (i : ℕ) → length xs ≤ i → m ≡ memory_of es (take (i + 1) (words_held abi xs)) → m ≡ memory_of es (words_held abi xs)
+arguments_end xs es abi m i h is = is ∙ ap (memory_of es) (take_all (words_held abi xs) (i + 1) (omega (arith, words_count xs)))

@@ -47,13 +47,11 @@ use Rattle.cil_tree.specs.Globals.{Part, item_fits}
 use Rattle.cil_semantics.specs.Values.{size_in, scalar_in, scalar_kind, aggregate_kind}
 use Rattle.cil_semantics.specs.Runs.{constant_value}
 use Rattle.cil_start.specs.declared.images.Written.{Written}
-use Rattle.cil_start.specs.declared.images.Loaded.{Loaded}
+use Rattle.cil_start.specs.declared.loaded.Loaded.{Loaded}
 use Rattle.cil_start.specs.Loads.{program_in, IsReady, written_of, place_of, Changed, IsObject, item_held, items_held, Writing}
-use Rattle.cil_start.proofs.ProgramEntities.{both}
-use Rattle.cil_start.proofs.Definitions.{Writes, item_writes, item_is}
+use Rattle.cil_link.proofs.Definitions.{both, Writes, item_writes, item_is}
 use Rattle.cil_start.proofs.Alignments.{Divides}
 use Rattle.cil_start.proofs.Places.{lies}
-use Rattle.cil_start.proofs.Programs.{all_numbered}
 
 pub changed_from : (r : Option (Unit {0})) (old new : Store) (m : Option Memory) → Stored r old new m → Changed old new m
 changed_from None old new m h = subst (λ (o : Option Memory). Changed old new o) (sym h.0) h.1
@@ -148,9 +146,6 @@ stored_is p es s x m e bytes all l is =
     ∙ sym (ap (λ (o : Option Held). Some (with_held m (Entity e) (item_held p.graph es s x o))) is
     ∙ ap (λ (o : Option (List Byte)). Some (with_held m (Entity e) (o >>= λ bs. Some (writable bs)))) (item_is p es all s x w bytes))
 
-all_there : (l : Loaded) → IsReady l → length l.entities.now ≡ length (program_in l).globals
-all_there l ready = ap length ready.numbers ∙ all_numbered (program_of l.names.now l.unit.now) ready.program
-
 -- what is known of an item that is written into an object
 record Facts (l : Loaded) (t : ℕ) (x : Item) (o : Option Held) : Type 0 where
   object : IsObject l.unit.now.graph (shape l.unit.now.graph.nodes t) o
@@ -159,7 +154,7 @@ record Facts (l : Loaded) (t : ℕ) (x : Item) (o : Option Held) : Type 0 where
 
 known : (l : Loaded) (t : ℕ) (x : Item) (o : Option Held) → IsReady l → item_fits (program_in l) (shape l.unit.now.graph.nodes t) x ≡ true → IsObject l.unit.now.graph (shape l.unit.now.graph.nodes t) o → Facts l t x o
 known l t x o ready fits object =
-    let here = lands (program_in l) l.entities.now (shape l.unit.now.graph.nodes t) x (length object.bytes) ready.program.arena (all_there l ready) object.size fits in
+    let here = lands (program_in l) l.entities.now (shape l.unit.now.graph.nodes t) x (length object.bytes) ready.program.arena ready.numbers object.size fits in
     record { object = object; lands = here; written = written_is (program_in l) l.entities.now (shape l.unit.now.graph.nodes t) x here.writes }
 
 pub item_low : (l : Loaded) (t : ℕ) (x : Item) (o : Option Held) (w : Written) → IsReady l → item_fits (program_in l) (shape l.unit.now.graph.nodes t) x ≡ true → IsObject l.unit.now.graph (shape l.unit.now.graph.nodes t) o
@@ -187,7 +182,7 @@ item_put l t x e old new w ready fits object is h =
     let v : Written = record { at = k.lands.writes.part.1; scalar = k.lands.writes.scalar; value = k.lands.writes.value } in
     let both : Some w ≡ Some v = is ∙ k.written in
     let same : w ≡ v = cc in
-    let stored = stored_is (program_in l) l.entities.now (shape l.unit.now.graph.nodes t) x (memory old) e k.object.bytes (all_there l ready) k.lands k.object.is in
+    let stored = stored_is (program_in l) l.entities.now (shape l.unit.now.graph.nodes t) x (memory old) e k.object.bytes ready.numbers k.lands k.object.is in
     let path : store old.abi (memory old) (place_of e w) w.scalar w.value ≡ Some (with_held (memory old) (Entity e) (item_held l.unit.now.graph l.entities.now (shape l.unit.now.graph.nodes t) x (memory old (Entity e)))) =
     ap (λ (a : Abi). store a (memory old) (place_of e w) w.scalar w.value) (one_abi old.abi l.unit.now.graph.abi) ∙ ap (λ (u : Written). store l.unit.now.graph.abi (memory old) (place_of e u) u.scalar u.value) same ∙ stored in
     subst (λ (o : Option Memory). Changed old new o) path h
@@ -206,7 +201,7 @@ object_after l t x o ready fits object =
       bytes = with_part w.part.1 new bytes;
       is =
           ap (item_held g l.entities.now (shape g.nodes t) x) k.object.is
-          ∙ ap (λ (o : Option (List Byte)). o >>= λ bs. Some (writable bs)) (item_is (program_in l) l.entities.now (all_there l ready) (shape g.nodes t) x w bytes);
+          ∙ ap (λ (o : Option (List Byte)). o >>= λ bs. Some (writable bs)) (item_is (program_in l) l.entities.now ready.numbers (shape g.nodes t) x w bytes);
       size = k.object.size ∙ ap Some (sym (length_with w.part.1 new bytes room));
     }
 

@@ -1,5 +1,5 @@
 -- Device: how the objects of a program get their bytes: an object of zeros is made, and what an image lists is written into it, one item after another.
-use Rattle.std.specs.Prelude.{◌≡◌, ℕ, ◌<◌, List, [], ◌∷◌, length, Option, Some, None, pos}
+use Rattle.std.specs.Prelude.{◌≡◌, ℕ, List, [], ◌∷◌, length, Option, Some, None, pos}
 use Rattle.cil_base.specs.declared.numbers.EntityId.{EntityId}
 use Rattle.byte_mem.specs.declared.pointers.ObjName.TheVariants.{Entity}
 use Rattle.byte_mem.specs.declared.pointers.Pointer.{Pointer}
@@ -20,20 +20,23 @@ use Rattle.cil_tree.specs.Programs.{IsProgram}
 use Rattle.cil_semantics.specs.Values.{size_in, scalar_in}
 use Rattle.cil_semantics.specs.Runs.{constant_value, with_item, with_items, zeros, object, global_meaning}
 use Rattle.cil_start.specs.declared.images.Written.{Written}
-use Rattle.cil_start.specs.declared.images.Loaded.{Loaded}
-use Rattle.cil_start.specs.declared.entities.Definer.{Definer}
-use Rattle.cil_start.specs.declared.entities.Definer.TheVariants.{Nothing, Global, Host as OfHost}
-use Rattle.cil_start.specs.Entities.{numbers_in, meant}
+use Rattle.cil_start.specs.declared.loaded.Loaded.{Loaded}
+use Rattle.cil_link.specs.declared.entities.Definer.{Definer}
+use Rattle.cil_link.specs.Entities.{InRun, meant}
 
 -- the program that is loaded
 abbrev pub program_in : Loaded → Program
 program_in l = program_of l.names.now l.unit.now
 
--- it is well-formed, the layouts are those of its types, and the numbers those of its globals in its run
+-- it is well-formed, the layouts are those of its types, and each of its globals has a number in the run
 pub record IsReady (l : Loaded) : Type 0 where
   pub program : IsProgram (program_of l.names.now l.unit.now)
   pub step : InStep l.layouts.now l.unit.now.graph
-  pub numbers : l.entities.now ≡ numbers_in (program_of l.names.now l.unit.now)
+  pub numbers : length l.entities.now ≡ length (program_of l.names.now l.unit.now).globals
+
+-- that program in its run
+abbrev pub loaded_in : Loaded → InRun
+loaded_in l = record { program = program_in l; entities = l.entities.now }
 
 -- what an item writes: the value of a scalar, at an offset
 abbrev pub written_of : Graph → List ℕ → Shape → Item → Option Written
@@ -77,15 +80,5 @@ abbrev pub global_held : Program → List ℕ → GlobalDecl → Option Held
 global_held p entities x = entity_held (global_meaning p x entities)
 
 -- what is live of an entity
-abbrev pub definer_held : Program → List ℕ → Definer → Option Held
-definer_held p entities d = entity_held (meant p entities d)
-
--- the global that defines it is there
-abbrev pub IsOne : Program → Definer → Type 0
-IsOne p Nothing = Unit {0}
-IsOne p (Global e) = e.0 < length p.globals
-IsOne p (OfHost name) = Unit {0}
-
-abbrev pub AllAre : Program → List Definer → Type 0
-AllAre p [] = Unit {0}
-AllAre p (d ∷ ds) = IsOne p d × AllAre p ds
+abbrev pub definer_held : List InRun → Definer → Option Held
+definer_held units d = entity_held (meant units d)

@@ -12,24 +12,14 @@ ghost use Rattle.cil_semantics.specs.Values.{scalar_in};
 ghost use Rattle.cil_semantics.specs.Runs.{constant_value};
 ghost use Rattle.cil_start.specs.Loads.{program_in, IsReady, written_of, place_of, Changed, IsObject, item_held, items_held, Writing};
 
+use crate::loaded::Loaded;
 use crate::paths::path_part;
 use byte_mem::{ObjName, Pointer, Scalar, Store, Value};
-use cil_base::{Constant, EntityId, NamePool, TypeId};
+use cil_base::{Constant, EntityId, TypeId};
 use cil_check::see;
 use cil_machine::scalar_of;
-use cil_tree::{CilUnit, ImageItem};
-use layout_lp64::Layouts;
+use cil_tree::ImageItem;
 use type_graph::TypeGraph;
-
-/// A program that is loaded.
-#[derive(Clone, Copy)]
-pub struct Loaded<'a> {
-    pub unit: &'a CilUnit,
-    pub names: &'a NamePool,
-    pub layouts: &'a Layouts,
-    /// The run's number of each global.
-    pub entities: &'a [u32],
-}
 
 /// What an item of an image writes: the value of a scalar, at an offset.
 #[derive(Clone, Copy, Debug, PartialEq, Eq)]

@@ -9,12 +9,16 @@ ghost use Rattle.execution.specs.Runs.{memory_of};
 ghost use Rattle.cil_tree.specs.View.{item_of, global_of};
 ghost use Rattle.cil_tree.specs.Globals.{item_fits, global_fits};
 ghost use Rattle.cil_semantics.specs.Values.{size_in};
-ghost use Rattle.cil_start.specs.Loads.{program_in, IsReady, image_held, global_held, definer_held, IsOne, AllAre};
+ghost use Rattle.cil_start.specs.Loads.{program_in, IsReady, image_held, global_held, definer_held};
+ghost use Rattle.cil_link.specs.Entities.{IsOne, IsThere};
+ghost use Rattle.cil_link.specs.Units.{units_in};
+ghost use Rattle.cil_start.specs.Ready.{AreReady};
 
-use crate::entities::Definer;
-use crate::images::{Loaded, write_items};
+use crate::images::write_items;
+use crate::loaded::{Loaded, LoadedUnits};
 use byte_mem::{Byte, ObjName, Store};
-use cil_base::{EntityId, Memory, TypeId};
+use cil_base::{EntityId, Memory, TypeId, UnitNo};
+use cil_link::Definer;
 use cil_tree::{GlobalDecl, GlobalDef, ImageItem};
 
 /// The size of an object (C11 6.5.3.4).
@@ -64,42 +68,53 @@ fn make_global(l: &Loaded, mem: &mut Store, e: EntityId, x: &GlobalDecl) -> Resu
     }
 }
 
-/// Makes what an entity is that the global with a number defines.
-#[tactic(auto, using(crate::proofs::ObjectLaws::one_there))]
-fn make_numbered(l: &Loaded, mem: &mut Store, e: EntityId, global: EntityId) -> Result<(), Memory>
-    requires ready { IsReady l.now }
-    requires one { IsOne (program_in l.now) (Definer.Global global) }
+/// Makes what an entity is that a unit's global with a number defines.
+fn make_numbered(
+    l: &LoadedUnits,
+    mem: &mut Store,
+    e: EntityId,
+    unit: UnitNo,
+    global: EntityId,
+) -> Result<(), Memory>
+    requires ready { AreReady l.now }
+    requires there { IsThere (units_in l.now.linked) unit global }
     requires absent { memory mem.old (Entity e) ≡ None }
-    ensures { OnOk result (Becomes mem.old mem.new (with_held (memory mem.old) (Entity e) (definer_held (program_in l.now) l.now.entities.now (Definer.Global global)))) }
+    ensures { OnOk result (Becomes mem.old mem.new (with_held (memory mem.old) (Entity e) (definer_held (units_in l.now.linked) (Definer.Global unit global)))) }
 {
-    make_global(l, mem, e, &l.unit.globals[global.0 as usize])
+    let u = l.unit(unit.0 as usize);
+    let x = &u.unit.globals[global.0 as usize];
+    make_global(&u, mem, e, x)
 }
 
 /// Makes what an entity is.
 #[tactic(auto, using(crate::proofs::ObjectLaws::nothing_made))]
-fn make_entity(l: &Loaded, mem: &mut Store, e: EntityId, definer: Definer) -> Result<(), Memory>
-    requires ready { IsReady l.now }
-    requires one { IsOne (program_in l.now) definer }
+fn make_entity(
+    l: &LoadedUnits,
+    mem: &mut Store,
+    e: EntityId,
+    definer: Definer,
+) -> Result<(), Memory>
+    requires ready { AreReady l.now }
+    requires one { IsOne (units_in l.now.linked) definer }
     requires absent { memory mem.old (Entity e) ≡ None }
-    ensures { OnOk result (Becomes mem.old mem.new (with_held (memory mem.old) (Entity e) (definer_held (program_in l.now) l.now.entities.now definer))) }
+    ensures { OnOk result (Becomes mem.old mem.new (with_held (memory mem.old) (Entity e) (definer_held (units_in l.now.linked) definer))) }
 {
     match definer {
         Definer::Nothing => Ok(()),
         Definer::Host(_) => mem.make_function(e),
-        Definer::Global(global) => make_numbered(l, mem, e, global),
+        Definer::Global(unit, global) => make_numbered(l, mem, e, unit, global),
     }
 }
 
 /// Makes what each entity is.
 ///
 /// After Memory some of them are made.
-pub(crate) fn make_entities(l: &Loaded, mem: &mut Store, definers: &[Definer]) -> Result<(), Memory>
-    requires ready { IsReady l.now }
-    requires all { AllAre (program_in l.now) definers.now }
-    requires few { length definers.now < 2 ^ 32 }
+pub(crate) fn make_entities(l: &LoadedUnits, mem: &mut Store) -> Result<(), Memory>
+    requires ready { AreReady l.now }
     requires empty { memory mem.old ≡ no_memory }
-    ensures { OnOk result (Becomes mem.old mem.new (memory_of (map (definer_held (program_in l.now) l.now.entities.now) definers.now) [])) }
+    ensures { OnOk result (Becomes mem.old mem.new (memory_of (map (definer_held (units_in l.now.linked)) l.now.linked.entities.now.definers.items) [])) }
 {
+    let definers = &l.linked.entities.definers;
     for i in 0..definers.len() {
         make_entity(l, mem, EntityId(i as u32), definers[i])?;
     }

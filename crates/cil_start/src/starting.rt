@@ -1,33 +1,35 @@
-ghost use Rattle.std.specs.Prelude.{IfOk, map};
-ghost use Rattle.std.specs.String.{string_bytes};
-ghost use Rattle.cil_start.specs.Loads.{program_in, IsReady};
-ghost use Rattle.cil_start.specs.Starts.{IsTable, Starts};
+ghost use Rattle.std.specs.Prelude.{IfOk};
+ghost use Rattle.cil_link.specs.Units.{programs_in};
+ghost use Rattle.cil_start.specs.Ready.{AreReady};
+ghost use Rattle.cil_start.specs.Starts.{Starts};
 
-use crate::entities::Definer;
-use crate::images::Loaded;
+use crate::loaded::LoadedUnits;
 use crate::objects::make_entities;
 use crate::words::make_arguments;
 use byte_mem::Store;
-use cil_base::Memory;
+use cil_base::{Abi, Bytes, Memory};
+use cil_tree::CilUnit;
 use std::alloc::Global;
 
-/// The store in which the run of a program starts with those words, the first of which names it: its objects with their
-/// images, its functions and the host's, and the arguments (C11 5.1.2p1, 5.1.2.2.1p2).
+/// The model of the programs of a run; they have one (own).
+fn abi_of(units: &[CilUnit]) -> Abi {
+    match units.first() {
+        None => Abi::Lp64,
+        Some(u) => u.graph.abi(),
+    }
+}
+
+/// The store in which the run of linked programs starts with those words, the first of which names it: their objects with
+/// their images, their functions and the host's, and the arguments (C11 5.1.2p1, 5.1.2.2.1p2).
 ///
 /// Memory also comes where a number would not fit.
-pub fn start(
-    alloc: Global,
-    l: &Loaded,
-    definers: &[Definer],
-    words: &[String],
-) -> Result<Store, Memory>
-    requires ready { IsReady l.now }
-    requires table { IsTable (program_in l.now) definers.now }
-    ensures { IfOk result (λ s. Starts s (program_in l.now) (map string_bytes words.now)) }
+pub fn start(alloc: Global, l: &LoadedUnits, words: &[Bytes]) -> Result<Store, Memory>
+    requires { AreReady l.now }
+    ensures { IfOk result (λ s. Starts s (programs_in l.now.linked) words.now) }
 {
-    let abi = l.unit.graph.abi();
+    let abi = abi_of(l.linked.units);
     let mut mem = Store::new_for(alloc, abi);
-    make_entities(l, &mut mem, definers)?;
+    make_entities(l, &mut mem)?;
     make_arguments(alloc, &mut mem, abi, words)?;
     Ok(mem)
 }

@@ -1,5 +1,4 @@
 ghost use Rattle.std.specs.Prelude.{◌≡◌, ◌<◌, ◌^◌, ◌++◌, ℕ, IfOk, OnOk, List, [], Option, Some, None, length, map, replicate};
-ghost use Rattle.std.specs.String.{string_bytes};
 ghost use Rattle.byte_mem.specs.declared.pointers.ObjName.TheVariants.{Argument};
 ghost use Rattle.byte_mem.specs.declared.values.Byte.TheVariants.{Known};
 ghost use Rattle.byte_mem.specs.Store.{memory, Becomes};
@@ -11,7 +10,7 @@ ghost use Rattle.execution.specs.Runs.{memory_of, words_held, word_held, word_po
 ghost use Rattle.cil_start.specs.Words.{argv_held};
 
 use byte_mem::{Byte, Cells, ObjName, Pointer, Store};
-use cil_base::{Abi, Memory};
+use cil_base::{Abi, Bytes, Memory};
 use std::alloc::{AllocError, Global};
 
 /// Adds the bytes of a pointer, which are its parts (own).
@@ -47,9 +46,9 @@ fn pointer_size(abi: Abi) -> u8
 
 /// The bytes of the array argv: pointers to the words, and a null pointer behind them (C11 5.1.2.2.1p2).
 #[tactic(auto, using(crate::proofs::WordLaws::pointers_next, crate::proofs::WordLaws::pointers_end))]
-fn argv_bytes(alloc: Global, abi: Abi, words: &[String]) -> Result<Vec<Byte>, Memory>
+fn argv_bytes(alloc: Global, abi: Abi, words: &[Bytes]) -> Result<Vec<Byte>, Memory>
     requires { length words.now < 2 ^ 32 }
-    ensures { IfOk result (λ v. v.items ≡ word_pointers abi 0 (map string_bytes words.now)) }
+    ensures { IfOk result (λ v. v.items ≡ word_pointers abi 0 words.now) }
 {
     let size = pointer_size(abi);
     let mut bytes = Vec::new(alloc);
@@ -102,9 +101,9 @@ pub(crate) fn make_arguments(
     alloc: Global,
     mem: &mut Store,
     abi: Abi,
-    words: &[String],
+    words: &[Bytes],
 ) -> Result<(), Memory>
-    ensures { (entities : List (Option Held)) → memory mem.old ≡ memory_of entities [] → OnOk result (memory mem.new ≡ memory_of entities (words_held abi (map string_bytes words.now))) }
+    ensures { (entities : List (Option Held)) → memory mem.old ≡ memory_of entities [] → OnOk result (memory mem.new ≡ memory_of entities (words_held abi words.now)) }
 {
     if words.len() >= u32::MAX as usize {
         return Err(Memory);
@@ -112,7 +111,7 @@ pub(crate) fn make_arguments(
     let argv = argv_bytes(alloc, abi, words)?;
     make_argument(mem, 0, argv)?;
     for i in 0..words.len() {
-        let bytes = word_bytes(alloc, words[i].as_bytes())?;
+        let bytes = word_bytes(alloc, words[i].as_slice())?;
         make_argument(mem, i as u32 + 1, bytes)?;
     }
     Ok(())

@@ -1,18 +1,15 @@
 -- Device: the entries of a table are what the globals of a well-formed program mean.
-use Rattle.std.proofs.Common.{◌≡◌, ℕ, zero, suc, ◌<◌, Bool, true, List, [], ◌∷◌, length, is_some, slice_get, get_or, Option, Some, None, option_map, refl, sym, ap, ◌∙◌, subst}
-use Rattle.std.specs.List.{list_all}
-use Rattle.std.proofs.lemmas.Option.{slice_get-map, slice_get_read}
+use Rattle.std.proofs.Common.{◌≡◌, ℕ, ◌<◌, Bool, true, List, length, is_some, Option, Some, None, refl, sym, subst}
 use Rattle.byte_mem.specs.declared.values.Byte.{Byte}
 use Rattle.byte_mem.specs.Steps.{◌>>=◌}
 use Rattle.type_graph.specs.Shapes.{Shape, Shapes, FuncType, shape}
 use Rattle.execution.specs.Calls as meaning
 use Rattle.execution.specs.Calls.{Enter, value_at_end, Code}
-use Rattle.cil_tree.specs.declared.globals.CilUnit.{CilUnit}
 use Rattle.cil_tree.specs.declared.globals.GlobalDecl.{GlobalDecl}
 use Rattle.cil_tree.specs.Tree as plain
 use Rattle.cil_tree.specs.Tree.{Program, Body, Definition, Declared, Zeros, Image, Function}
-use Rattle.cil_tree.specs.Typing.{scope_of, global_at}
-use Rattle.cil_tree.specs.View.{global_of, program_of}
+use Rattle.cil_tree.specs.Typing.{scope_of}
+use Rattle.cil_tree.specs.View.{global_of}
 use Rattle.cil_tree.specs.Globals.{global_fits, has_definition, object_is_complete, definition_fits}
 use Rattle.cil_tree.specs.Programs.{IsProgram}
 use Rattle.cil_semantics.specs.Values.{kind_in}
@@ -28,21 +25,14 @@ use Rattle.cil_frames.specs.declared.frames.Entity.TheVariants.{Data as OfData, 
 use Rattle.cil_frames.specs.Frames.{IsFunction, IsEntity}
 use Rattle.cil_frames.specs.Loaded.{IsLoaded}
 use Rattle.cil_frames.proofs.Loaded.{loaded_functions_are_meant}
-use Rattle.cil_start.specs.declared.images.Loaded.{Loaded}
-use Rattle.cil_start.specs.Entities.{numbers_in}
+use Rattle.cil_link.specs.Entities.{InRun}
+use Rattle.cil_start.specs.declared.loaded.Loaded.{Loaded}
 use Rattle.cil_start.specs.Loads.{program_in, IsReady}
-use Rattle.cil_start.proofs.Definitions.{definition_there}
-use Rattle.cil_start.proofs.ProgramEntities.{both}
-use Rattle.cil_start.proofs.Programs.{Fits, global_is, all_numbered}
+use Rattle.cil_link.proofs.Definitions.{definition_there}
+use Rattle.cil_link.proofs.Programs.{Fits, global_is, each_at}
 use Rattle.cil_table.specs.Parts.{HasParts}
 use Rattle.cil_table.specs.Courses.{function_course}
 use Rattle.cil_table.specs.Entries.{IsGlobal, IsGlobalEntry}
-
-each_at : {A : Type 0} (of : A → Bool) (xs : List A) (n : ℕ) (x : A) → list_all of xs ≡ true → slice_get xs n ≡ Some x → of x ≡ true
-each_at of [] zero x all e = absurd (cc)
-each_at of [] (suc n) x all e = absurd (cc)
-each_at of (y ∷ ys) zero x all e = let same : y ≡ x = cc in ap of (sym same) ∙ (both (of y) (list_all of ys) all).0
-each_at of (y ∷ ys) (suc n) x all e = each_at of ys n x (both (of y) (list_all of ys) all).1 e
 
 pub global_fit : (p : Program) (x : plain.GlobalDecl) → IsProgram p → IsGlobal p x → global_fits p x ≡ true
 global_fit p x is g = each_at (global_fits p) p.globals g.number x is.globals g.there
@@ -54,10 +44,6 @@ fits l x ready g = global_is l.unit.now l.names.now x (global_fit (program_in l)
 pub type_there : (l : Loaded) (x : GlobalDecl) → IsReady l → IsGlobal (program_in l) (global_of l.unit.now.graph.nodes l.names.now x) → x.ty.0 < length l.unit.now.graph.nodes
 type_there l x ready g = (fits l x ready g).there
 
--- a global by its number
-pub global_there : (u : CilUnit) (names : List (List ℕ)) (n : ℕ) (r : GlobalDecl) → n < length u.globals.items → r ≡ get_or u.globals.items n r → global_at (program_of names u) n ≡ Some (global_of u.graph.nodes names r)
-global_there u names n r h is = slice_get-map (global_of u.graph.nodes names) u.globals.items n ∙ ap (option_map (global_of u.graph.nodes names)) (slice_get_read u.globals.items (length u.globals.items) n r refl h is)
-
 -- an object of the program
 abbrev pub IsObject : Definition → Type 0
 IsObject Declared = ⊥
@@ -65,39 +51,45 @@ IsObject Zeros = Unit {0}
 IsObject (Image items) = Unit {0}
 IsObject (Function b) = ⊥
 
-object_entry : (p : Program) (at : ℕ → ℕ → Remains) (o : Option (List Byte)) → is_some (object o) ≡ true → IsEntity p.graph.abi (calls_in (p ∷ [])) at (object o) (Some OfData)
-object_entry p at None e = cc
-object_entry p at (Some bytes) e = refl
+object_entry : (u : InRun) (programs : List Program) (at : ℕ → ℕ → Remains) (o : Option (List Byte)) → is_some (object o) ≡ true → IsEntity u.program.graph.abi (calls_in programs) at (object o) (Some OfData)
+object_entry u programs at None e = cc
+object_entry u programs at (Some bytes) e = refl
 
-data_by : (p : Program) (main : Bool) (t : ℕ) (d : Definition) → IsProgram p → has_definition (shape p.graph.nodes t) d ≡ true → object_is_complete p.graph (shape p.graph.nodes t) d ≡ true → definition_fits p (shape p.graph.nodes t) d ≡ true → IsObject d
-    → IsEntity p.graph.abi (calls_in (p ∷ [])) (function_course p main (Some (shape p.graph.nodes t)) d) (definition_meaning p (numbers_in p) main (shape p.graph.nodes t) d) (Some OfData)
-data_by p main t Declared is has complete fit o = absurd o
-data_by p main t Zeros is has complete fit o =
-    object_entry p (function_course p main (Some (shape p.graph.nodes t)) Zeros) (zeros p.graph (shape p.graph.nodes t)) (definition_there p (numbers_in p) (all_numbered p is) t main Zeros is.arena has complete fit refl)
-data_by p main t (Image items) is has complete fit o =
-    object_entry p (function_course p main (Some (shape p.graph.nodes t)) (Image items)) (zeros p.graph (shape p.graph.nodes t) >>= with_items p.graph (numbers_in p) (shape p.graph.nodes t) items)
-    (definition_there p (numbers_in p) (all_numbered p is) t main (Image items) is.arena has complete fit refl)
-data_by p main t (Function b) is has complete fit o = absurd o
+-- each global of the program has a number in the run
+abbrev AllNumbered : InRun → Type 0
+AllNumbered u = length u.entities ≡ length u.program.globals
 
-pub data_entry : (p : Program) (x : plain.GlobalDecl) (t : ℕ) → IsProgram p → Fits p t x → IsObject x.definition → IsGlobalEntry p x (Some OfData)
-data_entry p x t is f o =
-    subst (λ (s : Option Shape). IsEntity p.graph.abi (calls_in (p ∷ [])) (function_course p (is_main x) s x.definition) (s >>= λ s. definition_meaning p (numbers_in p) (is_main x) s x.definition) (Some OfData)) (sym f.type)
-    (data_by p (is_main x) t x.definition is f.has f.complete f.definition o)
+data_by : (u : InRun) (programs : List Program) (main : Bool) (t : ℕ) (d : Definition) → IsProgram u.program → AllNumbered u → has_definition (shape u.program.graph.nodes t) d ≡ true → object_is_complete u.program.graph (shape u.program.graph.nodes t) d ≡ true
+    → definition_fits u.program (shape u.program.graph.nodes t) d ≡ true → IsObject d
+    → IsEntity u.program.graph.abi (calls_in programs) (function_course programs u main (Some (shape u.program.graph.nodes t)) d) (definition_meaning u.program u.entities main (shape u.program.graph.nodes t) d) (Some OfData)
+data_by u programs main t Declared is all has complete fit o = absurd o
+data_by u programs main t Zeros is all has complete fit o =
+    object_entry u programs (function_course programs u main (Some (shape u.program.graph.nodes t)) Zeros) (zeros u.program.graph (shape u.program.graph.nodes t))
+    (definition_there u.program u.entities all t main Zeros is.arena has complete fit refl)
+data_by u programs main t (Image items) is all has complete fit o =
+    object_entry u programs (function_course programs u main (Some (shape u.program.graph.nodes t)) (Image items)) (zeros u.program.graph (shape u.program.graph.nodes t) >>= with_items u.program.graph u.entities (shape u.program.graph.nodes t) items)
+    (definition_there u.program u.entities all t main (Image items) is.arena has complete fit refl)
+data_by u programs main t (Function b) is all has complete fit o = absurd o
+
+pub data_entry : (u : InRun) (x : plain.GlobalDecl) (t : ℕ) → IsProgram u.program → AllNumbered u → Fits u.program t x → IsObject x.definition → IsGlobalEntry u x (Some OfData)
+data_entry u x t is all f o = λ programs.
+    subst (λ (s : Option Shape). IsEntity u.program.graph.abi (calls_in programs) (function_course programs u (is_main x) s x.definition) (s >>= λ s. definition_meaning u.program u.entities (is_main x) s x.definition) (Some OfData)) (sym f.type)
+    (data_by u programs (is_main x) t x.definition is all f.has f.complete f.definition o)
 
 -- the entry of a global with a body, by its type
-abbrev pub BodyEntry : Program → Bool → Option Shape → Body → Option Entity → Type 0
-BodyEntry p main t b e = IsEntity p.graph.abi (calls_in (p ∷ [])) (function_course p main t (Function b)) (t >>= λ s. definition_meaning p (numbers_in p) main s (Function b)) e
+abbrev pub BodyEntry : InRun → List Program → Bool → Option Shape → Body → Option Entity → Type 0
+BodyEntry u programs main t b e = IsEntity u.program.graph.abi (calls_in programs) (function_course programs u main t (Function b)) (t >>= λ s. definition_meaning u.program u.entities main s (Function b)) e
 
-body_entry : (p : Program) (x : plain.GlobalDecl) (b : Body) (s : Shape) (e : Option Entity) → x.definition ≡ Function b → x.type ≡ Some s → BodyEntry p (is_main x) (Some s) b e → IsGlobalEntry p x e
-body_entry p x b s e definition type h =
-    subst (λ (d : Definition). IsEntity p.graph.abi (calls_in (p ∷ [])) (function_course p (is_main x) x.type d) (x.type >>= λ s. definition_meaning p (numbers_in p) (is_main x) s d) e) (sym definition)
-    (subst (λ (t : Option Shape). BodyEntry p (is_main x) t b e) (sym type) h)
+body_entry : (u : InRun) (x : plain.GlobalDecl) (b : Body) (s : Shape) (e : Option Entity) → x.definition ≡ Function b → x.type ≡ Some s → ((programs : List Program) → BodyEntry u programs (is_main x) (Some s) b e) → IsGlobalEntry u x e
+body_entry u x b s e definition type h = λ programs.
+    subst (λ (d : Definition). IsEntity u.program.graph.abi (calls_in programs) (function_course programs u (is_main x) x.type d) (x.type >>= λ s. definition_meaning u.program u.entities (is_main x) s d) e) (sym definition)
+    (subst (λ (t : Option Shape). BodyEntry u programs (is_main x) t b e) (sym type) (h programs))
 
 -- what is known of a loaded function
-is_loaded : (p : Program) (x : plain.GlobalDecl) (b : Body) (main : Bool) (ret : Shape) (params : Shapes) (f : loaded.Function) → IsProgram p → IsGlobal p x → x.definition ≡ Function b → HasParts (scope_of p b) (numbers_in p) main b ret params f
-    → IsLoaded (p ∷ []) p (numbers_in p) main b ret params f
-is_loaded p x b main ret params f is g definition parts = record {
-  runs = fitting_bodies_run p is g.number x b g.there definition (p ∷ []) (numbers_in p) (datum_of f.end) f.code.items parts.steps;
+is_loaded : (u : InRun) (programs : List Program) (x : plain.GlobalDecl) (b : Body) (main : Bool) (ret : Shape) (params : Shapes) (f : loaded.Function) → IsProgram u.program → IsGlobal u.program x → x.definition ≡ Function b
+    → HasParts (scope_of u.program b) u.entities main b ret params f → IsLoaded programs u.program u.entities main b ret params f
+is_loaded u programs x b main ret params f is g definition parts = record {
+  runs = fitting_bodies_run u.program is g.number x b g.there definition programs u.entities (datum_of f.end) f.code.items parts.steps;
   end = parts.end;
   parameters = parts.parameters;
   result = parts.result;
@@ -107,25 +99,24 @@ is_loaded p x b main ret params f is g definition parts = record {
 }
 
 -- what a function of the program is to calls
-abbrev function_of : Program → Bool → Body → Shape → Shapes → Bool → Bool → meaning.Function
-function_of p main b ret params proto variadic = record {
-  abi = p.graph.abi;
-  parameters = kinds_of p.graph params;
-  result = kind_in p.graph ret;
+abbrev function_of : InRun → Bool → Body → Shape → Shapes → Bool → Bool → meaning.Function
+function_of u main b ret params proto variadic = record {
+  abi = u.program.graph.abi;
+  parameters = kinds_of u.program.graph params;
+  result = kind_in u.program.graph ret;
   start = start_of (FuncType ret params proto variadic);
-  body = body_meaning p (numbers_in p) b (value_at_end main (kind_in p.graph ret));
+  body = body_meaning u.program u.entities b (value_at_end main (kind_in u.program.graph ret));
 }
 
-function_by : (p : Program) (main : Bool) (b : Body) (ret : Shape) (params : Shapes) (proto variadic : Bool) (f : loaded.Function) → IsLoaded (p ∷ []) p (numbers_in p) main b ret params f
-    → BodyEntry p main (Some (FuncType ret params proto variadic)) b (Some (OfProgram f))
-function_by p main b ret params proto variadic f is =
-    subst (λ end. IsFunction p.graph.abi (calls_in (p ∷ [])) (λ act. remains_at (p ∷ []) (scope_of p b) (numbers_in p) act end b.stmts) (function_of p main b ret params proto variadic) f) is.end
-    (loaded_functions_are_meant (p ∷ []) p (numbers_in p) main b ret params proto variadic (function_of p main b ret params proto variadic) f refl is)
+function_by : (u : InRun) (programs : List Program) (main : Bool) (b : Body) (ret : Shape) (params : Shapes) (proto variadic : Bool) (f : loaded.Function) → IsLoaded programs u.program u.entities main b ret params f
+    → BodyEntry u programs main (Some (FuncType ret params proto variadic)) b (Some (OfProgram f))
+function_by u programs main b ret params proto variadic f is =
+    subst (λ end. IsFunction u.program.graph.abi (calls_in programs) (λ act. remains_at programs (scope_of u.program b) u.entities act end b.stmts) (function_of u main b ret params proto variadic) f) is.end
+    (loaded_functions_are_meant programs u.program u.entities main b ret params proto variadic (function_of u main b ret params proto variadic) f refl is)
 
 -- a loaded function is what its global means
-pub function_entry : (p : Program) (x : plain.GlobalDecl) (b : Body) (ret : Shape) (params : Shapes) (proto variadic : Bool) (es : List ℕ) (f : loaded.Function) → IsProgram p → IsGlobal p x → es ≡ numbers_in p
-    → x.definition ≡ Function b → x.type ≡ Some (FuncType ret params proto variadic) → HasParts (scope_of p b) es (is_main x) b ret params f → IsGlobalEntry p x (Some (OfProgram f))
-function_entry p x b ret params proto variadic es f is g numbers definition type parts =
-    body_entry p x b (FuncType ret params proto variadic) (Some (OfProgram f)) definition type
-    (function_by p (is_main x) b ret params proto variadic f
-    (is_loaded p x b (is_main x) ret params f is g definition (subst (λ (es : List ℕ). HasParts (scope_of p b) es (is_main x) b ret params f) numbers parts)))
+pub function_entry : (u : InRun) (x : plain.GlobalDecl) (b : Body) (ret : Shape) (params : Shapes) (proto variadic : Bool) (f : loaded.Function) → IsProgram u.program → IsGlobal u.program x
+    → x.definition ≡ Function b → x.type ≡ Some (FuncType ret params proto variadic) → HasParts (scope_of u.program b) u.entities (is_main x) b ret params f → IsGlobalEntry u x (Some (OfProgram f))
+function_entry u x b ret params proto variadic f is g definition type parts =
+    body_entry u x b (FuncType ret params proto variadic) (Some (OfProgram f)) definition type
+    (λ programs. function_by u programs (is_main x) b ret params proto variadic f (is_loaded u programs x b (is_main x) ret params f is g definition parts))

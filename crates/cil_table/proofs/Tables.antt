@@ -1,7 +1,9 @@
--- Device: a table of entries is what the linked program means that is run alone.
-use Rattle.std.proofs.Common.{◌≡◌, ℕ, zero, suc, ◌<◌, ◌≤◌, List, [], ◌∷◌, ◌++◌, length, map, take, get_or, slice_get, Option, Some, None, Result, IfOk, refl, sym, ap, subst, arith, append_assoc}
+-- Device: a table of entries is what the linked programs mean.
+use Rattle.std.proofs.Common.{◌≡◌, ℕ, zero, suc, ◌<◌, ◌≤◌, List, [], ◌∷◌, ◌++◌, length, map, take, get_or, slice_get, Option, Some, None, Result, Ok, Err, IfOk, refl, sym, ap, subst, arith, append_assoc}
 use Rattle.cil_base.specs.declared.kinds.Abi.{Abi}
+use Rattle.cil_base.specs.declared.kinds.Abi.TheVariants.{Lp64}
 use Rattle.cil_base.specs.declared.numbers.EntityId.{EntityId}
+use Rattle.cil_base.specs.declared.numbers.UnitNo.{UnitNo}
 use Rattle.byte_mem.specs.Steps.{◌>>=◌}
 use Rattle.execution.specs.Calls.{Enter, Linked, Meaning, Object, Code, Host}
 use Rattle.execution.proofs.CallLaws.{calls_are}
@@ -17,24 +19,30 @@ use Rattle.cil_frames.specs.declared.frames.Entity.{Entity}
 use Rattle.cil_frames.specs.declared.frames.Entity.TheVariants.{Program as OfProgram}
 use Rattle.cil_code.specs.Leading.{LeadOn}
 use Rattle.cil_frames.specs.Frames.{IsEntity, IsTable, AllLead}
-use Rattle.cil_start.specs.declared.entities.Definer.{Definer}
-use Rattle.cil_start.specs.declared.entities.Definer.TheVariants.{Global}
-use Rattle.cil_start.specs.Entities.{numbers_in, linked_alone, meant}
-use Rattle.cil_start.specs.Loads.{IsOne, AllAre}
-use Rattle.cil_start.specs.Starts as start
-use Rattle.cil_table.specs.Courses.{global_course, entity_course, courses_in}
+use Rattle.cil_link.specs.declared.entities.Definer.{Definer}
+use Rattle.cil_link.specs.declared.entities.Definer.TheVariants.{Global}
+use Rattle.cil_link.specs.Entities as linking
+use Rattle.cil_link.specs.Entities.{InRun, in_run, linked_in, global_meant, meant}
+use Rattle.cil_table.specs.Courses.{global_course, unit_course, entity_course, courses_in}
 use Rattle.cil_table.specs.Entries.{IsGlobalEntry, IsEntry, AreEntries, IsLoadedTable}
 
--- the entry of the global with a number is that of an entity that it defines
-pub numbered_entry : {E : Type 0} (p : Program) (n : EntityId) (x : GlobalDecl) (r : Result (Option Entity) E) → global_at p n.0 ≡ Some x → IfOk r (IsGlobalEntry p x) → IfOk r (IsEntry p (Global n))
-numbered_entry p n x r there h =
-    subst (λ (o : Option GlobalDecl). IfOk r (IsEntity p.graph.abi (calls_in (p ∷ [])) (global_course p o) (o >>= λ x. global_meaning p x (numbers_in p)))) (sym there) h
+one_abi : (a b : Abi) → a ≡ b
+one_abi Lp64 Lp64 = refl
 
-entries_push : (p : Program) (ds : List Definer) (es : List (Option Entity)) (d : Definer) (e : Option Entity) → AreEntries p ds es → IsEntry p d e → AreEntries p (ds ++ d ∷ []) (es ++ e ∷ [])
-entries_push p [] [] d e h k = (k, tt)
-entries_push p [] (y ∷ es) d e h k = absurd h
-entries_push p (x ∷ ds) [] d e h k = absurd h
-entries_push p (x ∷ ds) (y ∷ es) d e h k = (h.0, entries_push p ds es d e h.1 k)
+-- the entry of a unit's global with a number is that of an entity that it defines
+pub numbered_entry : {E : Type 0} (programs : List Program) (unit : UnitNo) (n : EntityId) (u : InRun) (x : GlobalDecl) (r : Result (Option Entity) E) → slice_get (in_run programs) unit.0 ≡ Some u → global_at u.program n.0 ≡ Some x
+    → IfOk r (IsGlobalEntry u x) → IfOk r (IsEntry programs (Global unit n))
+numbered_entry programs unit n u x (Err e) at there h = tt
+numbered_entry programs unit n u x (Ok e) at there h = λ abi.
+    subst (λ (o : Option InRun). IsEntity abi (calls_in programs) (unit_course programs o n) (o >>= λ v. global_meant v n.0) e) (sym at)
+    (subst (λ (o : Option GlobalDecl). IsEntity abi (calls_in programs) (global_course programs u o) (o >>= λ y. global_meaning u.program y u.entities) e) (sym there)
+    (subst (λ (a : Abi). IsEntity a (calls_in programs) (global_course programs u (Some x)) (global_meaning u.program x u.entities) e) (one_abi u.program.graph.abi abi) (h programs)))
+
+entries_push : (programs : List Program) (ds : List Definer) (es : List (Option Entity)) (d : Definer) (e : Option Entity) → AreEntries programs ds es → IsEntry programs d e → AreEntries programs (ds ++ d ∷ []) (es ++ e ∷ [])
+entries_push programs [] [] d e h k = (k, tt)
+entries_push programs [] (y ∷ es) d e h k = absurd h
+entries_push programs (x ∷ ds) [] d e h k = absurd h
+entries_push programs (x ∷ ds) (y ∷ es) d e h k = (h.0, entries_push programs ds es d e h.1 k)
 
 taken_next : (xs : List Definer) (i : ℕ) (d : Definer) → i < length xs → take (suc i) xs ≡ take i xs ++ get_or xs i d ∷ []
 taken_next [] i d h = absurd (omega arith)
@@ -48,47 +56,41 @@ taken_all (x ∷ xs) zero h = absurd (omega arith)
 taken_all (x ∷ xs) (suc i) h = ap (λ ys. x ∷ ys) (taken_all xs i (omega arith))
 
 -- the next entry
-pub entries_next : (p : Program) (xs : List Definer) (i j : ℕ) (d : Definer) (old new : List (Option Entity)) (e : Option Entity) → i < length xs → j ≡ suc i → AreEntries p (take i xs) old → IsEntry p (get_or xs i d) e → new ≡ old ++ e ∷ []
-    → AreEntries p (take j xs) new
-entries_next p xs i j d old new e h next all one push =
-    subst (λ j. AreEntries p (take j xs) new) (sym next)
-    (subst (λ ys. AreEntries p ys new) (sym (taken_next xs i d h))
-    (subst (λ zs. AreEntries p (take i xs ++ get_or xs i d ∷ []) zs) (sym push) (entries_push p (take i xs) old (get_or xs i d) e all one)))
+pub entries_next : (programs : List Program) (xs : List Definer) (i j : ℕ) (d : Definer) (old new : List (Option Entity)) (e : Option Entity) → i < length xs → j ≡ suc i → AreEntries programs (take i xs) old → IsEntry programs (get_or xs i d) e → new ≡ old ++ e ∷ []
+    → AreEntries programs (take j xs) new
+entries_next programs xs i j d old new e h next all one push =
+    subst (λ j. AreEntries programs (take j xs) new) (sym next)
+    (subst (λ ys. AreEntries programs ys new) (sym (taken_next xs i d h))
+    (subst (λ zs. AreEntries programs (take i xs ++ get_or xs i d ∷ []) zs) (sym push) (entries_push programs (take i xs) old (get_or xs i d) e all one)))
 
-pub entries_end : (p : Program) (xs : List Definer) (i : ℕ) (table : List (Option Entity)) → length xs ≤ i → AreEntries p (take i xs) table → AreEntries p xs table
-entries_end p xs i table h all = subst (λ ys. AreEntries p ys table) (taken_all xs i h) all
-
--- the global that defines the next entity is there
-pub next_one : (p : Program) (xs : List Definer) (i : ℕ) (d : Definer) → AllAre p xs → i < length xs → IsOne p (get_or xs i d)
-next_one p [] i d all h = absurd (omega arith)
-next_one p (x ∷ xs) zero d all h = all.0
-next_one p (x ∷ xs) (suc i) d all h = next_one p xs i d all.1 (omega arith)
+pub entries_end : (programs : List Program) (xs : List Definer) (i : ℕ) (table : List (Option Entity)) → length xs ≤ i → AreEntries programs (take i xs) table → AreEntries programs xs table
+entries_end programs xs i table h all = subst (λ ys. AreEntries programs ys table) (taken_all xs i h) all
 
 here : (before : List Definer) (d : Definer) (more : List Definer) → slice_get (before ++ d ∷ more) (length before) ≡ Some d
 here [] d more = refl
 here (x ∷ before) d more = here before d more
 
 -- entries one by one are a table
-table_from : (p : Program) (before ds : List Definer) (es : List (Option Entity)) → AreEntries p ds es
-    → IsTable p.graph.abi (calls_in (p ∷ [])) (courses_in p (before ++ ds)) (length before) (map (meant p (numbers_in p)) ds) es
-table_from p before [] [] h = tt
-table_from p before [] (e ∷ es) h = absurd h
-table_from p before (d ∷ ds) [] h = absurd h
-table_from p before (d ∷ ds) (e ∷ es) h = (
-  subst (λ (o : Option Definer). IsEntity p.graph.abi (calls_in (p ∷ [])) (entity_course p o) (meant p (numbers_in p) d) e) (sym (here before d ds)) h.0,
-  subst (λ (n : ℕ). IsTable p.graph.abi (calls_in (p ∷ [])) (courses_in p (before ++ d ∷ ds)) n (map (meant p (numbers_in p)) ds) es) (one_longer before)
-      (subst (λ (xs : List Definer). IsTable p.graph.abi (calls_in (p ∷ [])) (courses_in p xs) (length (before ++ d ∷ [])) (map (meant p (numbers_in p)) ds) es) (append_assoc before (d ∷ []) ds) (table_from p (before ++ d ∷ []) ds es h.1)),
+table_from : (abi : Abi) (programs : List Program) (before ds : List Definer) (es : List (Option Entity)) → AreEntries programs ds es
+    → IsTable abi (calls_in programs) (courses_in programs (before ++ ds)) (length before) (map (meant (in_run programs)) ds) es
+table_from abi programs before [] [] h = tt
+table_from abi programs before [] (e ∷ es) h = absurd h
+table_from abi programs before (d ∷ ds) [] h = absurd h
+table_from abi programs before (d ∷ ds) (e ∷ es) h = (
+  subst (λ (o : Option Definer). IsEntity abi (calls_in programs) (entity_course programs o) (meant (in_run programs) d) e) (sym (here before d ds)) (h.0 abi),
+  subst (λ (n : ℕ). IsTable abi (calls_in programs) (courses_in programs (before ++ d ∷ ds)) n (map (meant (in_run programs)) ds) es) (one_longer before)
+      (subst (λ (xs : List Definer). IsTable abi (calls_in programs) (courses_in programs xs) (length (before ++ d ∷ [])) (map (meant (in_run programs)) ds) es) (append_assoc before (d ∷ []) ds) (table_from abi programs (before ++ d ∷ []) ds es h.1)),
 )
   where
     one_longer : (xs : List Definer) → length (xs ++ d ∷ []) ≡ suc (length xs)
     one_longer [] = refl
     one_longer (x ∷ xs) = ap suc (one_longer xs)
 
--- the table of a program that is run alone
-pub table_is : (p : Program) (definers : List Definer) (table : List (Option Entity)) → start.IsTable p definers → AreEntries p definers table → IsLoadedTable p definers table
-table_is p definers table is all = record {
-  step = λ c s. calls_are (linked_alone p) (linked_tame (linkables p ∷ []) (programs_tame (p ∷ []))) c s;
-  entries = subst (λ (link : Linked). IsTable p.graph.abi (calls_in (p ∷ [])) (courses_in p definers) 0 link table) (sym is.means) (table_from p [] definers table all);
+-- the table of linked programs
+pub table_is : (programs : List Program) (definers : List Definer) (table : List (Option Entity)) → linking.IsTable programs definers → AreEntries programs definers table → IsLoadedTable programs definers table
+table_is programs definers table is all = λ abi. record {
+  step = λ c s. calls_are (linked_in programs) (linked_tame (map linkables programs) (programs_tame programs)) c s;
+  entries = subst (λ (link : Linked). IsTable abi (calls_in programs) (courses_in programs definers) 0 link table) (sym is.means) (table_from abi programs [] definers table all);
 }
 
 -- a function of a table leads on
@@ -98,12 +100,12 @@ leads_there abi enter at (Some (Object read_only bytes)) f h = cc
 leads_there abi enter at (Some (Code g)) f h = (h.leads, h.there)
 leads_there abi enter at (Some (Host name)) f h = cc
 
-pub all_lead : (p : Program) (definers : List Definer) (table : List (Option Entity)) → AreEntries p definers table → AllLead table
-all_lead p [] [] h zero f e = cc
-all_lead p [] [] h (suc n) f e = cc
-all_lead p [] (x ∷ table) h n f e = absurd h
-all_lead p (d ∷ ds) [] h n f e = absurd h
-all_lead p (d ∷ ds) (x ∷ table) h zero f e =
+pub all_lead : (programs : List Program) (definers : List Definer) (table : List (Option Entity)) → AreEntries programs definers table → AllLead table
+all_lead programs [] [] h zero f e = cc
+all_lead programs [] [] h (suc n) f e = cc
+all_lead programs [] (x ∷ table) h n f e = absurd h
+all_lead programs (d ∷ ds) [] h n f e = absurd h
+all_lead programs (d ∷ ds) (x ∷ table) h zero f e =
     let same : x ≡ Some (OfProgram f) = cc in
-    leads_there p.graph.abi (calls_in (p ∷ [])) (entity_course p (Some d)) (meant p (numbers_in p) d) f (subst (λ (y : Option Entity). IsEntry p d y) same h.0)
-all_lead p (d ∷ ds) (x ∷ table) h (suc n) f e = all_lead p ds table h.1 n f e
+    leads_there Lp64 (calls_in programs) (entity_course programs (Some d)) (meant (in_run programs) d) f (subst (λ (y : Option Entity). IsEntry programs d y) same h.0 Lp64)
+all_lead programs (d ∷ ds) (x ∷ table) h (suc n) f e = all_lead programs ds table h.1 n f e

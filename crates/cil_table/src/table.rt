@@ -1,16 +1,19 @@
 ghost use Rattle.std.specs.Prelude.{◌≡◌, ◌<◌, IfOk, length};
 ghost use Rattle.cil_tree.specs.View.{global_of};
-ghost use Rattle.cil_start.specs.Loads.{program_in, IsReady, IsOne};
-ghost use Rattle.cil_start.specs.Starts.{IsTable};
+ghost use Rattle.cil_link.specs.Entities.{IsThere, IsOne};
+ghost use Rattle.cil_link.specs.Units.{programs_in, units_in};
+ghost use Rattle.cil_start.specs.Loads.{program_in, loaded_in, IsReady};
+ghost use Rattle.cil_start.specs.Ready.{AreReady};
 ghost use Rattle.cil_frames.specs.Frames.{AllLead};
 ghost use Rattle.cil_table.specs.Entries.{IsGlobal, IsGlobalEntry, IsEntry, IsLoadedTable};
 
 use crate::functions::load_function;
-use cil_base::{EntityId, Memory};
+use cil_base::{EntityId, Memory, UnitNo};
 use cil_check::Scope;
 use cil_frames::Entity;
+use cil_link::{Definer, is_main};
 use cil_machine::Setting;
-use cil_start::{Definer, Loaded, is_main};
+use cil_start::{Loaded, LoadedUnits};
 use cil_tree::{Body, GlobalDecl, GlobalDef};
 use std::alloc::Global;
 use type_graph::Node;
@@ -25,7 +28,7 @@ fn load_body(
     requires ready { IsReady l.now }
     requires global { IsGlobal (program_in l.now) (global_of l.now.unit.now.graph.nodes l.now.names.now x.now) }
     requires body { x.now.def ≡ GlobalDef.Body body.now }
-    ensures { IfOk result (IsGlobalEntry (program_in l.now) (global_of l.now.unit.now.graph.nodes l.now.names.now x.now)) }
+    ensures { IfOk result (IsGlobalEntry (loaded_in l.now) (global_of l.now.unit.now.graph.nodes l.now.names.now x.now)) }
 {
     let setting = Setting {
         alloc,
@@ -55,7 +58,7 @@ fn load_body(
 fn load_global(alloc: Global, l: &Loaded, x: &GlobalDecl) -> Result<Option<Entity>, Memory>
     requires ready { IsReady l.now }
     requires global { IsGlobal (program_in l.now) (global_of l.now.unit.now.graph.nodes l.now.names.now x.now) }
-    ensures { IfOk result (IsGlobalEntry (program_in l.now) (global_of l.now.unit.now.graph.nodes l.now.names.now x.now)) }
+    ensures { IfOk result (IsGlobalEntry (loaded_in l.now) (global_of l.now.unit.now.graph.nodes l.now.names.now x.now)) }
 {
     match &x.def {
         GlobalDef::Declared => Ok(None),
@@ -64,43 +67,46 @@ fn load_global(alloc: Global, l: &Loaded, x: &GlobalDecl) -> Result<Option<Entit
     }
 }
 
-/// Loads what an entity is that the global with a number defines.
-fn load_numbered(alloc: Global, l: &Loaded, e: EntityId) -> Result<Option<Entity>, Memory>
-    requires ready { IsReady l.now }
-    requires one { IsOne (program_in l.now) (Definer.Global e) }
-    ensures { IfOk result (IsEntry (program_in l.now) (Definer.Global e)) }
+/// Loads what an entity is that a unit's global with a number defines.
+fn load_numbered(
+    alloc: Global,
+    l: &LoadedUnits,
+    unit: UnitNo,
+    global: EntityId,
+) -> Result<Option<Entity>, Memory>
+    requires ready { AreReady l.now }
+    requires there { IsThere (units_in l.now.linked) unit global }
+    ensures { IfOk result (IsEntry (programs_in l.now.linked) (Definer.Global unit global)) }
 {
-    load_global(alloc, l, &l.unit.globals[e.0 as usize])
+    let u = l.unit(unit.0 as usize);
+    let x = &u.unit.globals[global.0 as usize];
+    load_global(alloc, &u, x)
 }
 
 /// Loads what an entity is.
-fn load_entity(alloc: Global, l: &Loaded, definer: Definer) -> Result<Option<Entity>, Memory>
-    requires ready { IsReady l.now }
-    requires one { IsOne (program_in l.now) definer }
-    ensures { IfOk result (IsEntry (program_in l.now) definer) }
+fn load_entity(alloc: Global, l: &LoadedUnits, definer: Definer) -> Result<Option<Entity>, Memory>
+    requires ready { AreReady l.now }
+    requires one { IsOne (units_in l.now.linked) definer }
+    ensures { IfOk result (IsEntry (programs_in l.now.linked) definer) }
 {
     match definer {
         Definer::Nothing => Ok(None),
         Definer::Host(name) => Ok(Some(Entity::Host(name))),
-        Definer::Global(e) => load_numbered(alloc, l, e),
+        Definer::Global(unit, global) => load_numbered(alloc, l, unit, global),
     }
 }
 
-/// The table of a program that is run alone: for each entity of the run its loaded function, the host's function of its
-/// name, or that it is an object, and none where nothing defines it. It is what the linked program means, and each
-/// function in it goes on from step to step (C11 6.2.2p2, 6.9.1).
+/// The table of linked programs: for each entity of their run its loaded function, the host's function of its name, or
+/// that it is an object, and none where nothing defines it. It is what the programs mean, and each function in it goes on
+/// from step to step (C11 6.2.2p2, 6.9.1).
 ///
 /// Memory also comes where a number would not fit.
-pub fn load_table(
-    alloc: Global,
-    l: &Loaded,
-    definers: &[Definer],
-) -> Result<Vec<Option<Entity>>, Memory>
-    requires ready { IsReady l.now }
-    requires table { IsTable (program_in l.now) definers.now }
-    ensures machine { IfOk result (λ t. IsLoadedTable (program_in l.now) definers.now t.items) }
+pub fn load_table(alloc: Global, l: &LoadedUnits) -> Result<Vec<Option<Entity>>, Memory>
+    requires { AreReady l.now }
+    ensures machine { IfOk result (λ t. IsLoadedTable (programs_in l.now.linked) l.now.linked.entities.now.definers.items t.items) }
     ensures leads { IfOk result (λ t. AllLead t.items) }
 {
+    let definers = &l.linked.entities.definers;
     let mut table = Vec::new(alloc);
     for i in 0..definers.len() {
         table.push(load_entity(alloc, l, definers[i])?)?;

@@ -1,13 +1,27 @@
-use Rattle.std.proofs.Common.{◌≡◌, get_or, rules}
-use Rattle.cil_start.proofs.ObjectLaws.{one_there, global_at, numbered_made}
+use Rattle.std.proofs.Common.{◌≡◌, get_or, rules, arith}
+use Rattle.cil_link.specs.Units.{units_in}
+use Rattle.cil_link.proofs.UnitLaws.{unit_there}
+use Rattle.cil_start.proofs.UnitLaws.{loaded_low}
+use Rattle.cil_start.proofs.ObjectLaws.{global_at, numbered_made}
 use Rattle.cil_start.proofs.objects.make_numbered.Goals as goal
+
+pub unit-u-requires-clause-there : goal.unit-u-requires-clause-there
+unit-u-requires-clause-there c = unit_there c.args.l.now.linked c.args.unit c.args.global c.requires.there
+
+pub index-x-requires : goal.index-x-requires
+index-x-requires c =
+    let r = c.unit-u.result in
+    omega (arith, loaded_low c.args.l.now.linked c.args.unit c.args.global r c.requires.there c.unit-u.ensures.unit, r.unit.now.globals.ok.0)
 
 pub make_global-requires-clause-fits : goal.make_global-requires-clause-fits
 make_global-requires-clause-fits c =
-    let is : c.index.result.now ≡ get_or c.args.l.now.unit.now.globals.items c.args.global.0 c.index.result.now = search rules in
-    global_at c.args.l.now.unit.now c.args.l.now.names.now c.args.global.0 c.index.result.now c.requires.ready.program (one_there c.args.l.now.unit.now c.args.l.now.names.now c.args.global c.requires.one) is
+    let r = c.unit-u.result in
+    let is : c.index-x.result.now ≡ get_or r.unit.now.globals.items c.args.global.0 c.index-x.result.now = search rules in
+    global_at r c.args.global.0 c.index-x.result.now c.unit-u.ensures.ready (loaded_low c.args.l.now.linked c.args.unit c.args.global r c.requires.there c.unit-u.ensures.unit) is
 
 pub returns : goal.returns
 returns c =
-    let is : c.index.result.now ≡ get_or c.args.l.now.unit.now.globals.items c.args.global.0 c.index.result.now = search rules in
-    numbered_made c.args.l.now c.make_global.result c.args.mem.now c.make_global.new.mem c.args.e c.args.global c.index.result.now (one_there c.args.l.now.unit.now c.args.l.now.names.now c.args.global c.requires.one) is c.make_global.ensures
+    let r = c.unit-u.result in
+    let is : c.index-x.result.now ≡ get_or r.unit.now.globals.items c.args.global.0 c.index-x.result.now = search rules in
+    numbered_made (units_in c.args.l.now.linked) r c.make_global.result c.args.mem.now c.make_global.new.mem c.args.e c.args.global c.args.unit c.index-x.result.now c.unit-u.ensures.unit
+    (loaded_low c.args.l.now.linked c.args.unit c.args.global r c.requires.there c.unit-u.ensures.unit) is c.make_global.ensures

@@ -1,9 +1,8 @@
-use Rattle.std.proofs.Common.{◌≡◌, ◌+◌, List, [], Option, map, take}
-use Rattle.std.specs.String.{string_bytes}
+use Rattle.std.proofs.Common.{◌≡◌, ◌+◌, List, [], Option, take}
 use Rattle.byte_mem.specs.Object.{Held}
 use Rattle.byte_mem.specs.Store.{memory}
 use Rattle.execution.specs.Runs.{memory_of, words_held}
 use Rattle.cil_start.proofs.words.make_arguments.Given as goal
 
 abbrev pub invariant-loop-i : goal.invariant-loop-i
-invariant-loop-i l = (entities : List (Option Held)) → memory l.fn.mem ≡ memory_of entities [] → memory l.mem ≡ memory_of entities (take (l.i + 1) (words_held l.fn.abi (map string_bytes l.words)))
+invariant-loop-i l = (entities : List (Option Held)) → memory l.fn.mem ≡ memory_of entities [] → memory l.mem ≡ memory_of entities (take (l.i + 1) (words_held l.fn.abi l.words))

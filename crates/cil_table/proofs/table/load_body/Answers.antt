@@ -5,7 +5,7 @@ use Rattle.type_graph.specs.Arena.{EachType, NamesBelow}
 use Rattle.cil_tree.specs.Typing.{scope_of}
 use Rattle.cil_tree.specs.View.{body_of, definition_of, global_of}
 use Rattle.cil_check.proofs.TypeSteps.{names_there}
-use Rattle.cil_start.specs.Loads.{program_in}
+use Rattle.cil_start.specs.Loads.{program_in, loaded_in}
 use Rattle.cil_table.specs.Parts.{HasParts}
 use Rattle.cil_table.proofs.EntryLaws.{fits, type_there, function_entry}
 use Rattle.cil_table.proofs.table.load_body.Goals as goal
@@ -40,5 +40,5 @@ returns-in_ok-f-in-Func c =
     let type : x.type ≡ Some (FuncType ret params c.in-Func.proto c.in-Func.variadic) =
     (fits l c.args.x.now c.requires.ready c.requires.global).type
     ∙ ap Some (c.node.ensures.shape ∙ ap (shape_of at) c.in-Func.is ∙ ap (λ (ps : List TypeId). FuncType ret (shapes_of at ps) c.in-Func.proto c.in-Func.variadic) (sym c.as_slice.ensures)) in
-    function_entry p x b ret params c.in-Func.proto c.in-Func.variadic l.entities.now c.in_ok-f-in-Func.f c.requires.ready.program c.requires.global c.requires.ready.numbers (ap (definition_of g.nodes l.names.now) c.requires.body) type
+    function_entry (loaded_in l) x b ret params c.in-Func.proto c.in-Func.variadic c.in_ok-f-in-Func.f c.requires.ready.program c.requires.global (ap (definition_of g.nodes l.names.now) c.requires.body) type
     (subst (λ (main : Bool). HasParts (scope_of p b) l.entities.now main b ret params c.in_ok-f-in-Func.f) c.is_main.ensures c.in_ok-f-in-Func.ensures)

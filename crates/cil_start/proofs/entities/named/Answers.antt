@@ -1,5 +1,0 @@
-use Rattle.cil_start.proofs.HostNames.{named_is}
-use Rattle.cil_start.proofs.entities.named.Goals as goal
-
-pub returns : goal.returns
-returns c = named_is c.of.result c.args.text.now c.of.ensures
