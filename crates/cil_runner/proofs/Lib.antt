@@ -1,3 +1,4 @@
 pub mod Outcomes
 pub mod Loads
 pub mod Running
+pub mod Telling

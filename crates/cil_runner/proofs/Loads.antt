@@ -1,8 +1,9 @@
 -- Device: a loaded machine is fresh.
-use Rattle.std.proofs.Common.{◌≡◌, ℕ, zero, suc, ◌+◌, List, [], ◌∷◌, Option, Some, None, option_map, length, map, slice_get, String, Global, refl, sym, ap, ◌∙◌, subst, arith}
-use Rattle.std.specs.String.{string_bytes}
+use Rattle.std.proofs.Common.{◌≡◌, ℕ, zero, suc, ◌+◌, ◌<◌, ◌≤◌, List, [], ◌∷◌, ◌++◌, All, Option, Some, None, option_map, length, take, get_or, slice_get, refl, sym, ap, ◌∙◌, subst, arith}
+use Rattle.std.proofs.lemmas.List.Elements.{All-weaker}
 use Rattle.type_graph.specs.Arena.{Graph}
-use Rattle.layout_lp64.specs.Tables.{IsLeastTooBig}
+use Rattle.layout_lp64.specs.declared.layouts.Layouts.{Layouts}
+use Rattle.layout_lp64.specs.Tables.{InStep, IsLeastTooBig}
 use Rattle.cil_base.specs.declared.kinds.Abi.{Abi}
 use Rattle.byte_mem.specs.declared.pointers.ObjName.TheVariants.{Heap}
 use Rattle.byte_mem.specs.declared.stores.Store.{Store}
@@ -12,7 +13,10 @@ use Rattle.byte_mem.specs.Store.{memory}
 use Rattle.host_calls.specs.Counted.{IsCounted}
 use Rattle.execution.specs.Calls as meaning
 use Rattle.execution.specs.Calls.{Enter, Meaning, Object, Code, Host, Linked}
+use Rattle.cil_tree.specs.declared.globals.CilUnit.{CilUnit}
 use Rattle.cil_tree.specs.Tree.{Program}
+use Rattle.cil_tree.specs.View.{program_of}
+use Rattle.cil_tree.specs.Programs.{IsProgram}
 use Rattle.cil_tree.specs.WellFormedTypes.{TypesAreSmall}
 use Rattle.cil_semantics.specs.Laws.{calls_in}
 use Rattle.cil_frames.specs.declared.frames.Function.{Function}
@@ -20,11 +24,12 @@ use Rattle.cil_frames.specs.declared.frames.Entity.{Entity}
 use Rattle.cil_frames.specs.declared.frames.Entity.TheVariants.{Data as OfData, Program as OfProgram, Host as OfHost}
 use Rattle.cil_frames.specs.Frames.{Courses, AllLead, IsFunction, IsEntity, IsTable, IsMachine}
 use Rattle.cil_streams.specs.Held.{StreamsState, fresh, host_part}
-use Rattle.cil_start.specs.declared.entities.Definer.{Definer}
-use Rattle.cil_start.specs.Entities.{linked_alone}
+use Rattle.cil_link.specs.declared.entities.Definer.{Definer}
+use Rattle.cil_link.specs.Entities.{linked_in}
+use Rattle.cil_start.specs.Ready.{AreInStep}
 use Rattle.cil_start.specs.Starts.{Starts}
-use Rattle.cil_start.specs.declared.mains.Main.{Main}
-use Rattle.cil_start.specs.Mains.{BeginsWith}
+use Rattle.cil_link.specs.declared.mains.Main.{Main}
+use Rattle.cil_link.specs.Mains.{BeginsWith}
 use Rattle.cil_table.specs.Courses.{courses_in}
 use Rattle.cil_table.specs.Entries.{IsLoadedTable}
 use Rattle.cil_turns.specs.Standing.{IsFresh as IsNew}
@@ -60,41 +65,67 @@ function_loaded abi enter at (m ∷ link) (e ∷ table) i (suc n) f t there =
     record { code = r.code; there = r.there; is = subst (λ j. IsFunction abi enter (at j) f r.code) along r.is }
 
 -- what a program begins with is loaded in its table
-pub main_there : (p : Program) (abi : Abi) (at : Courses) (table : List (Option Entity)) (o : Option Main) → IsMachine abi (linked_alone p) (calls_in (p ∷ [])) at table → BeginsWith p o → IsThere table o
-main_there p abi at table None machine h = tt
-main_there p abi at table (Some m) machine h =
-    let r = function_loaded abi (calls_in (p ∷ [])) at (linked_alone p) table 0 m.entity h.function machine.entries h.means in
+pub main_there : (programs : List Program) (abi : Abi) (at : Courses) (table : List (Option Entity)) (o : Option Main) → IsMachine abi (linked_in programs) (calls_in programs) at table → BeginsWith programs o → IsThere table o
+main_there programs abi at table None machine h = tt
+main_there programs abi at table (Some m) machine h =
+    let r = function_loaded abi (calls_in programs) at (linked_in programs) table 0 m.entity h.function machine.entries h.means in
     record { code = r.code; running = r.there; there = r.is.there }
 
 no_heap : (m n : Memory) (i : ℕ) → m ≡ n → n (Heap i) ≡ None → live_size m (Heap i) ≡ None
 no_heap m n i e none = ap (λ m. live_size m (Heap i)) e ∙ ap (λ o. option_map (λ (h : Held). length h.bytes) o) none
 
 -- nothing was allocated before a run
-counted_at_start : (s : Store) (p : Program) (words : List (List ℕ)) (held : StreamsState) → Starts s p words → held ≡ fresh → IsCounted (host_part (memory s) held)
-counted_at_start s p words held h e =
+counted_at_start : (s : Store) (programs : List Program) (words : List (List ℕ)) (held : StreamsState) → Starts s programs words → held ≡ fresh → IsCounted (host_part (memory s) held)
+counted_at_start s programs words held h e =
     subst (λ held. IsCounted (host_part (memory s) held)) (sym e) (record { live = refl; fresh = λ i above. no_heap (memory s) _ i (h.memory [] 0) refl })
 
-as_many : (words : List (String Global)) → length words ≡ length (map string_bytes words)
-as_many [] = refl
-as_many (w ∷ words) = ap suc (as_many words)
-
 -- a machine whose parts are loaded stands before the first step
-pub machine_loads : (m : Machine) (p : Program) (words : List (String Global)) (definers : List Definer) (s : Store) (held : StreamsState) → IsLoadedTable p definers m.table.items → Starts s p (map string_bytes words) → m.run.mem ≡ s → held ≡ fresh → m.run.streams ≡ held
-    → BeginsWith p m.main → m.words ≡ length words → Loads m p (map string_bytes words)
-machine_loads m p words definers s held table start mem new streams main count = record {
-  at = courses_in p definers;
-  table = table;
-  store = subst (λ s. Starts s p (map string_bytes words)) (sym mem) start;
+pub machine_loads : (m : Machine) (programs : List Program) (words : List (List ℕ)) (definers : List Definer) (s : Store) (held : StreamsState) → IsLoadedTable programs definers m.table.items → Starts s programs words → m.run.mem ≡ s → held ≡ fresh → m.run.streams ≡ held
+    → BeginsWith programs m.main → m.words ≡ length words → Loads m programs words
+machine_loads m programs words definers s held table start mem new streams main count = record {
+  at = courses_in programs definers;
+  table = table m.run.mem.abi;
+  store = subst (λ s. Starts s programs words) (sym mem) start;
   streams = streams ∙ new;
   main = main;
-  count = count ∙ as_many words;
+  count = count;
 }
 
-pub machine_is_fresh : (m : Machine) (p : Program) (words : List (List ℕ)) → Loads m p words → AllLead m.table.items → IsNew m.run → m.used ≡ 0 → IsFresh m
-machine_is_fresh m p words loads leads new used = record {
+pub machine_is_fresh : (m : Machine) (programs : List Program) (words : List (List ℕ)) → Loads m programs words → AllLead m.table.items → IsNew m.run → m.used ≡ 0 → IsFresh m
+machine_is_fresh m programs words loads leads new used = record {
   leads = leads;
-  main = main_there p p.graph.abi loads.at m.table.items m.main loads.table loads.main;
+  main = main_there programs m.run.mem.abi loads.at m.table.items m.main loads.table loads.main;
   run = new;
-  counted = counted_at_start m.run.mem p words m.run.streams loads.store loads.streams;
+  counted = counted_at_start m.run.mem programs words m.run.streams loads.store loads.streams;
   used = used;
 }
+
+-- the layouts of programs, one after another
+in_step_push : (ys : List Layouts) (us : List CilUnit) (y : Layouts) (u : CilUnit) → AreInStep ys us → InStep y u.graph → AreInStep (ys ++ y ∷ []) (us ++ u ∷ [])
+in_step_push [] [] y u h step = (step, tt)
+in_step_push [] (v ∷ us) y u h step = absurd h
+in_step_push (x ∷ ys) [] y u h step = absurd h
+in_step_push (x ∷ ys) (v ∷ us) y u h step = (h.0, in_step_push ys us y u h.1 step)
+
+taken_next : (us : List CilUnit) (i : ℕ) (u : CilUnit) → i < length us → u ≡ get_or us i u → take (suc i) us ≡ take i us ++ u ∷ []
+taken_next [] i u h at = absurd (omega (arith, h))
+taken_next (v ∷ us) zero u h at = ap (λ w. w ∷ []) (sym at)
+taken_next (v ∷ us) (suc i) u h at = ap (λ ws. v ∷ ws) (taken_next us i u (omega (arith, h)) at)
+
+pub layouts_next : (us : List CilUnit) (i j : ℕ) (u : CilUnit) (old new : List Layouts) (y : Layouts) → i < length us → j ≡ suc i → u ≡ get_or us i u → AreInStep old (take i us) → InStep y u.graph → new ≡ old ++ y ∷ [] → AreInStep new (take j us)
+layouts_next us i j u old new y h next at all step push =
+    subst (λ (ys : List Layouts). AreInStep ys (take j us)) (sym push)
+    (subst (AreInStep (old ++ y ∷ [])) (sym (ap (λ k. take k us) next ∙ taken_next us i u h at)) (in_step_push old (take i us) y u all step))
+
+pub layouts_end : (us : List CilUnit) (i : ℕ) (ys : List Layouts) → length us ≤ i → AreInStep ys (take i us) → AreInStep ys us
+layouts_end us i ys h all = subst (AreInStep ys) (take_all us i h) all
+  where
+    take_all : (us : List CilUnit) (n : ℕ) → length us ≤ n → take n us ≡ us
+    take_all [] zero h = refl
+    take_all [] (suc n) h = refl
+    take_all (v ∷ us) zero h = absurd (omega (arith, h))
+    take_all (v ∷ us) (suc n) h = ap (λ ws. v ∷ ws) (take_all us n (omega (arith, h)))
+
+-- types of well-formed programs are small
+pub all_small : (names : List (List ℕ)) (us : List CilUnit) → All (λ u. IsProgram (program_of names u)) us → All (λ u. TypesAreSmall u.graph) us
+all_small names us all = All-weaker (λ u. IsProgram (program_of names u)) (λ u. TypesAreSmall u.graph) (λ u is. is.types.fit.small) us all

@@ -7,7 +7,7 @@ use byte_mem::{ObjName, Pointer, Scalar, Value};
 use cil_base::{IntKind, Memory};
 use cil_code::{Datum, Kind};
 use cil_frames::Argument;
-use cil_start::Main;
+use cil_link::Main;
 use cil_turns::FirstCall;
 use std::alloc::Global;
 

@@ -1,4 +1,4 @@
-ghost use Rattle.std.specs.Prelude.{◌≡◌, ◌≤◌, ℕ, List, Some, IfOk, map};
+ghost use Rattle.std.specs.Prelude.{◌≡◌, ◌≤◌, ◌∷◌, ℕ, List, [], Some, All, IfOk, map};
 ghost use Rattle.std.specs.String.{string_bytes};
 ghost use Rattle.outside.specs.Counts.{KeepsLimit};
 ghost use Rattle.cil_tree.specs.Tree.{Program};
@@ -9,10 +9,11 @@ ghost use Rattle.cil_runner.specs.Machine.{Loads, RunsAs};
 ghost use Rattle.cil_runner.specs.Beginning.{IsFresh};
 
 use crate::arguments::call_of_main;
-use crate::loading::layouts_of;
-use cil_base::{Memory, NamePool};
+use crate::loading::{all_layouts, words_of};
+use cil_base::{Bytes, Memory, NamePool};
 use cil_frames::Entity;
-use cil_start::{Loaded, Main, definers_of, entities_of, main_of, start};
+use cil_link::{Main, Units, entities_of, main_of};
+use cil_start::{LoadedUnits, start};
 use cil_streams::Streams;
 use cil_table::load_table;
 use cil_tree::CilUnit;
@@ -20,7 +21,7 @@ use cil_turns::{Run, RunEnd, run_call};
 use outside::{Sink, Source};
 use std::alloc::Global;
 
-/// A machine, which runs one program once.
+/// A machine, which runs linked programs once.
 #[derive(Drop)]
 pub struct Machine {
     alloc: Global,
@@ -48,41 +49,62 @@ impl Machine {
         args: &[String],
     ) -> Result<Machine, Memory>
         requires { IsProgram (program_of names.now u.now) }
-        ensures loads { IfOk result (λ m. Loads m (program_of names.now u.now) (map string_bytes args.now)) }
+        ensures loads { IfOk result (λ m. Loads m (program_of names.now u.now ∷ []) (map string_bytes args.now)) }
         ensures fresh { IfOk result IsFresh }
     {
-        let layouts = layouts_of(alloc, &u.graph)?;
-        let entities = entities_of(alloc, u, names)?;
-        let definers = definers_of(alloc, u, names)?;
-        let l = Loaded {
-            unit: u,
+        let words = words_of(alloc, args)?;
+        Machine::link(alloc, std::slice::from_ref(u), names, &words)
+    }
+
+    /// A machine that stands before the first step of the run of well-formed programs, which are linked, with these
+    /// argument words, the first of which names them (C11 5.1.1.2p1 phase 8, 5.1.2.2.1p2). `names` are the texts of the
+    /// names of all of them.
+    ///
+    /// Memory comes for want of memory, and where a number would not fit.
+    pub fn link(
+        alloc: Global,
+        units: &[CilUnit],
+        names: &NamePool,
+        words: &[Bytes],
+    ) -> Result<Machine, Memory>
+        requires { All (λ u. IsProgram (program_of names.now u)) units.now }
+        ensures loads { IfOk result (λ m. Loads m (map (program_of names.now) units.now) words.now) }
+        ensures fresh { IfOk result IsFresh }
+    {
+        let layouts = all_layouts(alloc, units)?;
+        let entities = entities_of(alloc, units, names)?;
+        let linked = Units {
+            units,
             names,
-            layouts: &layouts,
             entities: &entities,
         };
-        let table = load_table(alloc, &l, &definers)?;
-        let mem = start(alloc, &l, &definers, args)?;
+        let l = LoadedUnits {
+            linked,
+            layouts: &layouts,
+        };
+        let table = load_table(alloc, &l)?;
+        let mem = start(alloc, &l, words)?;
         let streams = Streams::new(alloc)?;
         Ok(Machine {
             alloc,
             table,
             run: Run::new(alloc, mem, streams, 0),
-            main: main_of(u, names, &entities),
-            words: args.len(),
+            main: main_of(&linked),
+            words: words.len(),
             used: 0,
         })
     }
 
-    /// Runs the program, which may spend at most `steps` units: each entry of a function of the program spends one, and
-    /// so does each turn of a loop and each jump back (own). It reads `input` where the program asks for a byte and none
+    /// Runs the programs, which may spend at most `steps` units: each entry of a function of theirs spends one, and
+    /// so does each turn of a loop and each jump back (own). It reads `input` where they ask for a byte and none
     /// is at hand, and `out` gets all output, unless a write fails.
     ///
-    /// Undefined also where the program has no main (own). After a fault and after Memory the sink got a front of the
+    /// Undefined also where they have no main (own). After a fault and after Memory the sink got a front of the
     /// output, whatever the source has still to give. No more bytes are asked for at once than 4,096.
     pub fn run<S: Source, O: Sink>(&mut self, steps: u64, input: &mut S, out: &mut O) -> RunEnd
         requires { IsFresh self.old }
-        ensures runs { (p : Program) (words : List (List ℕ)) → Loads self.old p words
-            → RunsAs result p words steps self.new.used (S.left input.old) (S.left input.new) (O.taken out.old) (O.taken out.new) }
+        ensures runs { (programs : List Program) (words : List (List ℕ)) → Loads self.old programs words
+            → RunsAs result programs words steps self.new.used (S.left input.old) (S.left input.new) (O.taken out.old) (O.taken out.new) }
         ensures within { self.new.used ≤ steps }
         ensures reads { CountsReads result (S.faults input.old) (S.faults input.new) }
         ensures writes { CountsWrites result (O.faults out.old) (O.faults out.new) }
@@ -95,7 +117,7 @@ impl Machine {
         }
     }
 
-    /// Runs the program from its main on.
+    /// Runs the programs from their main on.
     fn run_main<S: Source, O: Sink>(
         &mut self,
         main: Main,
@@ -105,8 +127,8 @@ impl Machine {
     ) -> RunEnd
         requires fresh { IsFresh self.old }
         requires main { self.old.main ≡ Some main }
-        ensures runs { (p : Program) (words : List (List ℕ)) → Loads self.old p words
-            → RunsAs result p words steps self.new.used (S.left input.old) (S.left input.new) (O.taken out.old) (O.taken out.new) }
+        ensures runs { (programs : List Program) (words : List (List ℕ)) → Loads self.old programs words
+            → RunsAs result programs words steps self.new.used (S.left input.old) (S.left input.new) (O.taken out.old) (O.taken out.new) }
         ensures within { self.new.used ≤ steps }
         ensures reads { CountsReads result (S.faults input.old) (S.faults input.new) }
         ensures writes { CountsWrites result (O.faults out.old) (O.faults out.new) }

@@ -1,9 +1,18 @@
-use Rattle.std.proofs.Common.{refl}
-use Rattle.cil_runner.proofs.Loads.{machine_loads, machine_is_fresh}
+use Rattle.std.proofs.Common.{ℕ, List, [], ◌∷◌, map, IfOk, Global, sym, subst, ◌∙◌}
+use Rattle.std.specs.String.{string_bytes}
+use Rattle.std.proofs.lemmas.List.Elements.{All-same, All-cons, All-nil}
+use Rattle.cil_tree.specs.declared.globals.CilUnit.{CilUnit}
+use Rattle.cil_tree.specs.View.{program_of}
+use Rattle.cil_tree.specs.Programs.{IsProgram}
+use Rattle.cil_runner.specs.Machine.{Loads}
 use Rattle.cil_runner.proofs.machine.Machine.load.Goals as goal
 
-pub returns-clause-loads : goal.returns-clause-loads
-returns-clause-loads c = machine_loads _ _ _ _ _ _ c.in_ok-table.ensures.machine c.in_ok-mem.ensures c.new-2.ensures.mem c.in_ok-streams.ensures c.new-2.ensures.streams c.main_of.ensures refl
+pub link-requires : goal.link-requires
+link-requires c =
+    let is_program = λ (u : CilUnit). IsProgram (program_of c.args.names.now u) in
+    All-same is_program c.from_ref.result.now (c.args.u.now ∷ []) c.from_ref.ensures.value (All-cons is_program c.args.u.now [] c.requires (All-nil is_program))
 
-pub returns-clause-fresh : goal.returns-clause-fresh
-returns-clause-fresh c = machine_is_fresh _ _ _ (returns-clause-loads c) c.in_ok-table.ensures.leads c.new-2.ensures.fresh refl
+pub returns-clause-loads : goal.returns-clause-loads
+returns-clause-loads c =
+    subst (λ (us : List CilUnit). IfOk c.link.result (λ m. Loads m (map (program_of c.args.names.now) us) (map (string_bytes {Z = Global}) c.args.args.now))) c.from_ref.ensures.value
+    (subst (λ (ws : List (List ℕ)). IfOk c.link.result (λ m. Loads m (map (program_of c.args.names.now) c.from_ref.result.now) ws)) (c.deref.ensures.value ∙ c.in_ok-words.ensures) c.link.ensures.loads)
