@@ -1,23 +1,14 @@
 -- Which answer is left where the others are excluded.
-use Rattle.std.proofs.Common.{◌≡◌, ◌≢◌, ℕ, List, [], ◌∷◌, length, Option, Some, None, IfSome, ◌⊎◌, inl, inr, refl, ap, sym, subst, ◌∙◌, lit<, append-nil}
+use Rattle.std.proofs.Common.{◌≡◌, ◌≢◌, ℕ, List, [], Option, Some, None, IfSome, ◌⊎◌, inl, inr, refl, ap, sym, append-nil}
 use Rattle.cil_base.specs.declared.faults.Refusal.{Refusal}
-use Rattle.cil_base.specs.declared.runs.Env.{Env}
 use Rattle.c_meaning.specs.SourceFile.{SourceFile}
 use Rattle.c_meaning.specs.Grammar.{Expression, IsUnit}
 use Rattle.outside.specs.Named.{Told}
 use Rattle.cil_meaning.specs.Program.{Exp}
-use Rattle.cil_meaning.specs.Meaning.{RunCil}
-use Rattle.cil_meaning.specs.Text.{IsTextOf}
-use Rattle.cil_meaning.proofs.ReadBack.{same_program}
-use Rattle.cil_tree.specs.LaidOut.{bad_place}
-use Rattle.cil_reader.specs.Stops.{IsNoText}
-use Rattle.cil.specs.Execute.{IsOtherText, IsRunAnswer, RanAs, RunSays, Tells}
 use Rattle.cil.specs.Lowering.{Merges}
 use Rattle.cil.specs.Command.{steps_asked}
-use Rattle.cil.specs.Merge.{unit_asked, IsMergeAnswer, IsRefused, IsRefusedLike, IfRefused, not_built}
-use Rattle.cil.specs.Messages.{HasFiles, AreNames, names_asked, line_of}
-use Rattle.cil.proofs.SmallPrograms.{whole_program}
-use Rattle.cil.proofs.SmallTexts.{is_whole_text}
+use Rattle.cil.specs.Merge.{unit_asked, IsMergeAnswer, IsRefused, IsRefusedLike, IfRefused}
+use Rattle.cil.specs.Messages.{AreNames, names_asked, line_of}
 use Rattle.cil.proofs.Units.{not_both, like_refusal}
 use Rattle.cil.specs.declared.status.Status.{Status}
 use Rattle.cil.specs.declared.status.Status.TheVariants.{Done, Exited, StillRunning, WentUndefined, Usage, Refused, NotCil, ReadFault, WriteFault, Memory}
@@ -82,83 +73,6 @@ pub refused_by : (asked : Option SourceFile) (status : Status) (names : List (Li
     → IfSome asked (λ unit. IfRefused status (λ refusal. (others : List (List ℕ)) × IsRefused unit refusal others))
 refused_by None status names refused = tt
 refused_by (Some unit) status names refused = some_names status unit names refused
-
--- the run of the bytes' one program
-told_of : (bytes : List ℕ) (steps : ℕ) (status : Status) (p : Exp) → RanAs bytes steps status → IsTextOf bytes p → (env : Env) → Tells status (RunCil p env steps)
-told_of bytes steps status p ran is env =
-    subst (λ q. Tells status (RunCil q env steps)) (same_program ran.program p ran.text.program is.program (sym ran.text.text ∙ is.text)) (ran.told env)
-
--- of the text of a program
-runs_as : (bytes : List ℕ) (steps : ℕ) (status : Status) (files : Type 0) → IsRunAnswer status → (status ≡ ReadFault → files) → RunSays bytes steps status
-    → (p : Exp) → IsTextOf bytes p → ¬ files → ((env : Env) → Tells status (RunCil p env steps)) ⊎ (status ≡ Memory)
-runs_as bytes steps Done files kind read says p is calm = absurd kind
-runs_as bytes steps (Exited s) files kind read says p is calm = inl (told_of bytes steps (Exited s) p says is)
-runs_as bytes steps StillRunning files kind read says p is calm = inl (told_of bytes steps StillRunning p says is)
-runs_as bytes steps WentUndefined files kind read says p is calm = inl (told_of bytes steps WentUndefined p says is)
-runs_as bytes steps Usage files kind read says p is calm = absurd kind
-runs_as bytes steps (Refused r) files kind read says p is calm = absurd (says.other p is)
-runs_as bytes steps (NotCil k) files kind read says p is calm = absurd (says.1 (whole_program p) (is_whole_text bytes p is))
-runs_as bytes steps ReadFault files kind read says p is calm = absurd (calm (read refl))
-runs_as bytes steps WriteFault files kind read says p is calm = absurd kind
-runs_as bytes steps Memory files kind read says p is calm = inr refl
-
--- of another text
-other_text_as : (bytes : List ℕ) (steps : ℕ) (status : Status) (files : Type 0) → IsRunAnswer status → (status ≡ ReadFault → files) → RunSays bytes steps status
-    → IsOtherText bytes → ¬ files → (status ≡ Refused not_built) ⊎ (status ≡ Memory)
-other_text_as bytes steps Done files kind read says is calm = absurd kind
-other_text_as bytes steps (Exited s) files kind read says is calm = absurd (is.other says.program says.text)
-other_text_as bytes steps StillRunning files kind read says is calm = absurd (is.other says.program says.text)
-other_text_as bytes steps WentUndefined files kind read says is calm = absurd (is.other says.program says.text)
-other_text_as bytes steps Usage files kind read says is calm = absurd kind
-other_text_as bytes steps (Refused r) files kind read says is calm = inl (ap Refused kind)
-other_text_as bytes steps (NotCil k) files kind read says is calm = absurd (says.1 is.program is.text)
-other_text_as bytes steps ReadFault files kind read says is calm = absurd (calm (read refl))
-other_text_as bytes steps WriteFault files kind read says is calm = absurd kind
-other_text_as bytes steps Memory files kind read says is calm = inr refl
-
--- of other bytes: a text of the form is one of the whole language
-no_ran : (bytes : List ℕ) (steps : ℕ) (status : Status) → RanAs bytes steps status → ¬ (IsNoText bytes)
-no_ran bytes steps status ran none = none (whole_program ran.program) (is_whole_text bytes ran.program ran.text)
-
-not_cil_as : (bytes : List ℕ) (steps : ℕ) (status : Status) (files : Type 0) → IsRunAnswer status → (status ≡ ReadFault → files) → RunSays bytes steps status
-    → IsNoText bytes → ¬ files → (status ≡ NotCil (bad_place bytes)) ⊎ (status ≡ Memory)
-not_cil_as bytes steps Done files kind read says none calm = absurd kind
-not_cil_as bytes steps (Exited s) files kind read says none calm = absurd (no_ran bytes steps (Exited s) says none)
-not_cil_as bytes steps StillRunning files kind read says none calm = absurd (no_ran bytes steps StillRunning says none)
-not_cil_as bytes steps WentUndefined files kind read says none calm = absurd (no_ran bytes steps WentUndefined says none)
-not_cil_as bytes steps Usage files kind read says none calm = absurd kind
-not_cil_as bytes steps (Refused r) files kind read says none calm = absurd (none says.program says.text)
-not_cil_as bytes steps (NotCil k) files kind read says none calm = inl (ap NotCil says.0)
-not_cil_as bytes steps ReadFault files kind read says none calm = absurd (calm (read refl))
-not_cil_as bytes steps WriteFault files kind read says none calm = absurd kind
-not_cil_as bytes steps Memory files kind read says none calm = inr refl
-
-pub runs_by : (asked : Option (List ℕ)) (steps : ℕ) (status : Status) (files : Type 0) → IsRunAnswer status → (status ≡ ReadFault → files)
-    → IfSome asked (λ bytes. RunSays bytes steps status)
-    → IfSome asked (λ bytes. (p : Exp) → IsTextOf bytes p → ¬ files → ((env : Env) → Tells status (RunCil p env steps)) ⊎ (status ≡ Memory))
-runs_by None steps status files kind read says = tt
-runs_by (Some bytes) steps status files kind read says = runs_as bytes steps status files kind read says
-
-pub other_text_by : (asked : Option (List ℕ)) (steps : ℕ) (status : Status) (files : Type 0) → IsRunAnswer status → (status ≡ ReadFault → files)
-    → IfSome asked (λ bytes. RunSays bytes steps status)
-    → IfSome asked (λ bytes. IsOtherText bytes → ¬ files → (status ≡ Refused not_built) ⊎ (status ≡ Memory))
-other_text_by None steps status files kind read says = tt
-other_text_by (Some bytes) steps status files kind read says = other_text_as bytes steps status files kind read says
-
-pub not_cil_by : (asked : Option (List ℕ)) (steps : ℕ) (status : Status) (files : Type 0) → IsRunAnswer status → (status ≡ ReadFault → files)
-    → IfSome asked (λ bytes. RunSays bytes steps status)
-    → IfSome asked (λ bytes. IsNoText bytes → ¬ files → (status ≡ NotCil (bad_place bytes)) ⊎ (status ≡ Memory))
-not_cil_by None steps status files kind read says = tt
-not_cil_by (Some bytes) steps status files kind read says = not_cil_as bytes steps status files kind read says
-
--- the place of a refusal of `run` names the pool's first name, which is there
-refused_files : (refusal : Refusal) (names : List (List ℕ)) (name : List ℕ) → refusal ≡ not_built → names ≡ name ∷ [] → HasFiles (length names) (Refused refusal)
-refused_files refusal names name same is =
-    subst (λ r. HasFiles (length names) (Refused r)) (sym same) (subst (λ ns. HasFiles (length ns) (Refused not_built)) (sym is) (lit< tt, λ place e. let clash : not_built.other ≡ Some place = e in cc))
-
-pub run_files : (status : Status) (names : List (List ℕ)) (name : List ℕ) → IsRunAnswer status → (status ≢ Memory → names ≡ name ∷ []) → HasFiles (length names) status
-run_files (Refused refusal) names name kind known = refused_files refusal names name kind (known (λ e. let is : Refused refusal ≡ Memory = e in cc))
-run_files _ names name kind known = tt
 
 -- a status is told by one line, also where the names are not known because memory is wanting
 pub record IsLine (told : Option Told) (words names : List (List ℕ)) (given : ℕ) (status : Status) : Type 0 where

@@ -1,6 +1,5 @@
 pub mod Answered
 pub mod Bounds
-pub mod Candidates
 pub mod Fronts
 pub mod Lengths
 pub mod LongTexts
@@ -8,6 +7,8 @@ pub mod Numbers
 pub mod Merging
 pub mod Pieces
 pub mod Printing
+pub mod Ran
+pub mod Runs
 pub mod SmallPrograms
 pub mod SmallTexts
 pub mod SmallUnits

@@ -4,9 +4,9 @@ use Rattle.cil_tree.specs.Programs.{text_limit}
 use Rattle.cil_tree.specs.LaidOut.{bad_place, first_bad, lines_from}
 use Rattle.cil_reader.specs.Stops.{IsNoText}
 use Rattle.cil.specs.Merge.{IsFrontOf}
-use Rattle.cil.specs.Execute.{RunSays}
+use Rattle.cil.specs.Execute.{Ran, RunSays}
 use Rattle.cil.specs.declared.status.Status.{Status}
-use Rattle.cil.specs.declared.status.Status.TheVariants.{Exited, StillRunning, WentUndefined, Refused, NotCil}
+use Rattle.cil.specs.declared.status.Status.TheVariants.{Done, Exited, StillRunning, WentUndefined, Usage, Refused, NotCil, ReadFault, WriteFault, Memory}
 
 -- too many bytes are no text, and are refused at the limit
 pub too_long : (bytes : List ℕ) → text_limit < length bytes → (text_limit ≡ bad_place bytes) × IsNoText bytes
@@ -35,15 +35,37 @@ refused_of_front bytes file byte front place none = refused_front bytes file byt
     cases : (m n : ℕ) → (m ≤ n) ⊎ (n < m)
     cases m n = grind arith
 
-says_file : (bytes file : List ℕ) (steps : ℕ) (status : Status) → IsFrontOf 268435457 bytes file → RunSays bytes steps status → RunSays file steps status
-says_file bytes file steps (Exited s) front says = subst (λ bs. RunSays bs steps (Exited s)) (sym (all_read bytes file front says.text.short)) says
-says_file bytes file steps StillRunning front says = subst (λ bs. RunSays bs steps StillRunning) (sym (all_read bytes file front says.text.short)) says
-says_file bytes file steps WentUndefined front says = subst (λ bs. RunSays bs steps WentUndefined) (sym (all_read bytes file front says.text.short)) says
-says_file bytes file steps (Refused r) front says = subst (λ bs. RunSays bs steps (Refused r)) (sym (all_read bytes file front says.text.short)) says
-says_file bytes file steps (NotCil k) front says = refused_of_front bytes file k front says.0 says.1
-says_file bytes file steps _ front says = tt
+refused_asked : (asked : Option (List ℕ)) (bytes : List ℕ) (byte : ℕ) → IfSome asked (IsFrontOf 268435457 bytes) → (byte ≡ bad_place bytes) × IsNoText bytes → IfSome asked (λ file. (byte ≡ bad_place file) × IsNoText file)
+refused_asked None bytes byte front says = tt
+refused_asked (Some file) bytes byte front says = refused_of_front bytes file byte front says.0 says.1
+
+-- a program whose text was read is that of the whole file
+is_file : (asked : Option (List ℕ)) (bytes text : List ℕ) → IfSome asked (IsFrontOf 268435457 bytes) → bytes ≡ text → length text ≤ text_limit → IfSome asked (λ file. file ≡ text)
+is_file None bytes text front same short = tt
+is_file (Some file) bytes text front same short = all_read bytes file front (subst (λ bs. length bs ≤ text_limit) (sym same) short) ∙ same
+
+ran_file : (asked : Option (List ℕ)) (bytes : List ℕ) (words : List (List ℕ)) (steps : ℕ) (status : Status) (left left' taken taken' : Option (List ℕ)) → IfSome asked (IsFrontOf 268435457 bytes)
+    → Ran (Some bytes) words steps status left left' taken taken' → Ran asked words steps status left left' taken taken'
+ran_file asked bytes words steps status left left' taken taken' front ran = record {
+  program = ran.program;
+  bytes = ran.bytes;
+  file = is_file asked bytes ran.bytes front ran.file ran.text.short;
+  text = ran.text;
+  run = ran.run;
+}
 
 -- of a file that may not be told
-pub says_asked : (asked : Option (List ℕ)) (bytes : List ℕ) (steps : ℕ) (status : Status) → IfSome asked (IsFrontOf 268435457 bytes) → RunSays bytes steps status → IfSome asked (λ file. RunSays file steps status)
-says_asked None bytes steps status front says = tt
-says_asked (Some file) bytes steps status front says = says_file bytes file steps status front says
+pub says_file : (idle unread failed failed' : Type 0) (asked : Option (List ℕ)) (bytes : List ℕ) (words : List (List ℕ)) (steps : ℕ) (status : Status) (left left' taken taken' : Option (List ℕ)) → IfSome asked (IsFrontOf 268435457 bytes) → (failed → failed')
+    → RunSays idle ⊥ failed (Some bytes) words steps status left left' taken taken' → RunSays idle unread failed' asked words steps status left left' taken taken'
+says_file idle unread failed failed' asked bytes words steps (Exited s) left left' taken taken' front carry says = ran_file asked bytes words steps (Exited s) left left' taken taken' front says
+says_file idle unread failed failed' asked bytes words steps StillRunning left left' taken taken' front carry says = ran_file asked bytes words steps StillRunning left left' taken taken' front says
+says_file idle unread failed failed' asked bytes words steps WentUndefined left left' taken taken' front carry says = ran_file asked bytes words steps WentUndefined left left' taken taken' front says
+says_file idle unread failed failed' asked bytes words steps (NotCil k) left left' taken taken' front carry says = (says.0, refused_asked asked bytes k front says.1)
+says_file idle unread failed failed' asked bytes words steps ReadFault left left' taken taken' front carry (inl says) = absurd says.0
+says_file idle unread failed failed' asked bytes words steps ReadFault left left' taken taken' front carry (inr says) = inr (carry says.0, ran_file asked bytes words steps ReadFault left left' taken taken' front says.1)
+says_file idle unread failed failed' asked bytes words steps WriteFault left left' taken taken' front carry says = ran_file asked bytes words steps WriteFault left left' taken taken' front says
+says_file idle unread failed failed' asked bytes words steps Memory left left' taken taken' front carry (inl says) = inl says
+says_file idle unread failed failed' asked bytes words steps Memory left left' taken taken' front carry (inr says) = inr (ran_file asked bytes words steps Memory left left' taken taken' front says)
+says_file idle unread failed failed' asked bytes words steps Done left left' taken taken' front carry says = absurd says
+says_file idle unread failed failed' asked bytes words steps Usage left left' taken taken' front carry says = absurd says
+says_file idle unread failed failed' asked bytes words steps (Refused r) left left' taken taken' front carry says = absurd says

@@ -1,6 +1,6 @@
 -- Where a command's file stands among the words.
-use Rattle.std.proofs.Common.{◌≡◌, ℕ, suc, ◌<◌, Bool, true, false, List, [], ◌∷◌, append-nil, String, map, length, get_or, codes, Option, Some, None, IfSome, unwrap_or, slice_get, ap, sym, subst, ◌∙◌, arith}
-use Rattle.std.proofs.lemmas.List.{length-map}
+use Rattle.std.proofs.Common.{◌≡◌, ℕ, suc, ◌<◌, Bool, true, false, List, [], ◌∷◌, append-nil, String, map, length, drop, get_or, codes, Option, Some, None, IsSome, IfSome, unwrap_or, slice_get, refl, ap, sym, subst, ◌∙◌, arith}
+use Rattle.std.proofs.lemmas.List.{length-map, drop-map}
 use Rattle.std.specs.Prelude.{if◌then◌else◌}
 use Rattle.std.specs.Global.{Global}
 use Rattle.std.specs.Option.{option_map, option_and_then, option_to_list}
@@ -8,8 +8,8 @@ use Rattle.std.specs.Str.{bytes_eq}
 use Rattle.std.specs.String.{string_bytes}
 use Rattle.std.proofs.lemmas.Option.{slice_get-map, slice_get-get_or}
 use Rattle.outside.specs.Named.{Told}
-use Rattle.cil.specs.Command.{command_of, command_in, merge_of, run_of, run_bounded_of, steps_of, are_words, names_file, file_position, merged_position, run_position, bound_of, file_of, steps_asked}
-use Rattle.cil.specs.Execute.{text_asked, RunSays}
+use Rattle.cil.specs.Command.{command_of, command_in, merge_of, run_of, run_bounded_of, steps_of, are_words, names_file, file_position, merged_position, run_position, bound_of, file_of, run_file, steps_asked, words_given}
+use Rattle.cil.specs.Execute.{RunSays}
 use Rattle.cil.specs.Merge.{unit_asked, bytes_under, file_under, IsRefused, IfRefused}
 use Rattle.cil.specs.Messages.{names_asked, Begins, AreNames, HasFiles}
 use Rattle.cil.specs.declared.command.Command.{Command}
@@ -85,12 +85,6 @@ unit_asked_is told words first d is =
 pub no_unit_asked : (told : Option Told) (words : List (List ℕ)) (steps file : ℕ) → command_of words ≡ Some (Run steps file) → unit_asked told words ≡ None
 no_unit_asked told words steps file is = ap (λ command. option_and_then (file_under told) (option_and_then (slice_get words) (option_and_then merged_position command))) is
 
-pub text_asked_is : (told : Option Told) (words : List (String Global)) (steps file : ℕ) (d : String Global) → command_of (map string_bytes words) ≡ Some (Run steps file)
-    → text_asked told (map string_bytes words) ≡ bytes_under told (string_bytes (get_or words file d))
-text_asked_is told words steps file d is =
-    ap (λ command. option_and_then (bytes_under told) (option_and_then (slice_get (map string_bytes words)) (option_and_then run_position command))) is
-    ∙ ap (option_and_then (bytes_under told)) (word_at words file d (run_within words steps file is))
-
 pub merge_file_is : (words : List (String Global)) (first : ℕ) (d : String Global) → command_of (map string_bytes words) ≡ Some (Merge first)
     → file_of (map string_bytes words) ≡ Some (string_bytes (get_or words first d))
 merge_file_is words first d is =
@@ -101,17 +95,40 @@ pub run_file_is : (words : List (String Global)) (steps file : ℕ) (d : String 
 run_file_is words steps file d is =
     ap (option_and_then (λ command. slice_get (map string_bytes words) (file_position command))) is ∙ word_at words file d (run_within words steps file is)
 
-pub steps_asked_is : (words : List (List ℕ)) (steps file : ℕ) → command_of words ≡ Some (Run steps file) → steps_asked words ≡ steps
+run_name_is : (words : List (String Global)) (steps file : ℕ) (d : String Global) → command_of (map string_bytes words) ≡ Some (Run steps file)
+    → run_file (map string_bytes words) ≡ Some (string_bytes (get_or words file d))
+run_name_is words steps file d is =
+    ap (λ command. option_and_then (slice_get (map string_bytes words)) (option_and_then run_position command)) is ∙ word_at words file d (run_within words steps file is)
+
+words_given_are : (words : List (List ℕ)) (steps file : ℕ) → command_of words ≡ Some (Run steps file) → words_given words ≡ drop file words
+words_given_are words steps file is = ap (λ command. unwrap_or (option_map (λ at. drop at words) (option_and_then run_position command)) []) is
+
+-- `run` asks for one
+pub run_is_asked : (words : List (String Global)) (steps file : ℕ) (d : String Global) → command_of (map string_bytes words) ≡ Some (Run steps file) → IsSome (run_file (map string_bytes words))
+run_is_asked words steps file d is = subst IsSome (sym (run_name_is words steps file d is)) refl
+
+pub is_asked : (asked : Option (List ℕ)) → IsSome asked → asked ≡ None → ⊥
+is_asked None some none = let clash : false ≡ true = some in cc
+is_asked (Some name) some none = let clash : Some name ≡ None = none in cc
+
+steps_asked_is : (words : List (List ℕ)) (steps file : ℕ) → command_of words ≡ Some (Run steps file) → steps_asked words ≡ steps
 steps_asked_is words steps file is = ap (λ command. unwrap_or (option_map bound_of command) 0) is
 
 -- what is said of one value is said of an equal one
 pub if_some_by : {A : Type 0} (asked there : Option A) (P : A → Type 0) → asked ≡ there → IfSome there P → IfSome asked P
 if_some_by asked there P is says = subst (λ o. IfSome o P) (sym is) says
 
-pub ran_by : (asked there : Option (List ℕ)) (given steps : ℕ) (status : Status) → asked ≡ there → given ≡ steps
-    → IfSome there (λ bytes. RunSays bytes steps status) → IfSome asked (λ bytes. RunSays bytes given status)
-ran_by asked there given steps status is same says =
-    if_some_by asked there (λ bytes. RunSays bytes given status) is (subst (λ bound. IfSome there (λ bytes. RunSays bytes bound status)) (sym same) says)
+-- what `run` answers, said in terms of the words
+pub asked_run : (idle unread failed : Type 0) (told : Option Told) (words args : List (String Global)) (steps file : ℕ) (d : String Global) (name : List ℕ) (status : Status) (left left' taken taken' : Option (List ℕ))
+    → command_of (map string_bytes words) ≡ Some (Run steps file) → name ≡ string_bytes (get_or words file d) → args ≡ drop file words
+    → RunSays idle unread failed (bytes_under told name) (map string_bytes args) steps status left left' taken taken'
+    → IfSome (run_file (map string_bytes words)) (λ n. RunSays idle unread failed (bytes_under told n) (words_given (map string_bytes words)) (steps_asked (map string_bytes words)) status left left' taken taken')
+asked_run idle unread failed told words args steps file d name status left left' taken taken' is same behind says =
+    if_some_by (run_file (map string_bytes words)) (Some name) (λ n. RunSays idle unread failed (bytes_under told n) (words_given (map string_bytes words)) (steps_asked (map string_bytes words)) status left left' taken taken')
+    (run_name_is words steps file d is ∙ ap Some (sym same))
+    (subst (λ given. RunSays idle unread failed (bytes_under told name) given (steps_asked (map string_bytes words)) status left left' taken taken')
+    (ap (map string_bytes) behind ∙ sym (words_given_are (map string_bytes words) steps file is ∙ drop-map string_bytes file words))
+    (subst (λ n. RunSays idle unread failed (bytes_under told name) (map string_bytes args) n status left left' taken taken') (sym (steps_asked_is (map string_bytes words) steps file is)) says))
 
 -- the names behind a command
 pub names_begin : (names : List (List ℕ)) (words : List (List ℕ)) (name word : List ℕ) → Begins (name ∷ []) names → file_of words ≡ Some word → name ≡ word → Begins (names_asked words) names

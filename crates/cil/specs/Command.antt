@@ -1,5 +1,5 @@
 -- Definition: which words are a command (own).
-use Rattle.std.specs.Prelude.{ℕ, ◌-◌, ◌^◌, Bool, false, not, ◌==◌, ◌&&◌, nat_lt, nat_le, List, [], ◌∷◌, length, codes, decimal, Option, Some, None, slice_get, unwrap_or, if◌then◌else◌}
+use Rattle.std.specs.Prelude.{ℕ, ◌-◌, ◌^◌, Bool, false, not, ◌==◌, ◌&&◌, nat_lt, nat_le, List, [], ◌∷◌, length, drop, codes, decimal, Option, Some, None, slice_get, unwrap_or, if◌then◌else◌}
 use Rattle.std.specs.List.{list_any, list_all}
 use Rattle.std.specs.Option.{option_map, option_and_then}
 use Rattle.std.specs.Str.{bytes_eq}
@@ -86,3 +86,7 @@ bound_of (Run steps file) = steps
 
 abbrev pub steps_asked : List (List ℕ) → ℕ
 steps_asked words = unwrap_or (option_map bound_of (command_of words)) 0
+
+-- the words that the program to be run is given: FILE, which names it, and those behind it (C11 5.1.2.2.1p2)
+abbrev pub words_given : List (List ℕ) → List (List ℕ)
+words_given words = unwrap_or (option_map (λ at. drop at words) (option_and_then run_position (command_of words))) []

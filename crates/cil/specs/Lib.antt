@@ -1,12 +1,11 @@
 pub mod Answers
 pub mod Command
 pub mod Execute
-pub mod Found
 pub mod Grammatical
 pub mod Lowering
 pub mod Merge
 pub mod Merged
 pub mod Messages
 pub mod Reader
-pub mod ReaderView
+pub mod RunEnds
 pub mod Sent

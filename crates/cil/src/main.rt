@@ -1,4 +1,4 @@
-//! The program `cil`: it merges a C translation unit into a CIL program, each answer under its theorem.
+//! The program `cil`: it merges a C translation unit into a CIL program, and runs CIL programs, each answer under its theorem.
 //!
 //! The contract of the function `cil` says what each command answers, what it writes and when each refusal comes;
 //! `main` only hands it the real files and streams.
@@ -12,7 +12,6 @@ mod file;
 mod lower;
 mod merge;
 mod printer;
-mod program_reader;
 mod reader;
 mod report;
 mod status;
@@ -20,7 +19,6 @@ mod status;
 mod tests;
 #[cfg(test)]
 mod tests_reader;
-mod text_reader;
 mod top;
 
 use cil_base::NamePool;

@@ -10,7 +10,7 @@ use itoa::Buffer;
 use std::alloc::{AllocError, Global};
 
 /// What stands in a text in front of the expression.
-pub const FRONT: &[u8] = b"int main ( void ) ;\nint main ( void ) {\n  return ";
+const FRONT: &[u8] = b"int main ( void ) ;\nint main ( void ) {\n  return ";
 
 /// What stands in a text behind the expression.
 const BACK: &[u8] = b";\n}\n";

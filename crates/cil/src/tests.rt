@@ -19,9 +19,25 @@ const USAGE: &str =
 
 const NOT_BUILT: &str = "cil: a.c:1: not built\n";
 
-// A CIL text with what programs of the form have not.
+// A CIL text with a loop, which returns in its first turn.
 const LOOP_TEXT: &str =
     "static int x ;\nint main ( void ) ;\nint main ( void ) {\n  int y ;\n  y = ( x + 1 ) ;\n  while ( 1 ) {\n    return y ;\n  }\n}\n";
+
+// A CIL text that writes what it reads, and returns 7.
+const ECHO_TEXT: &str =
+    "int getchar ( void ) ;\nint putchar ( int ) ;\nint main ( void ) ;\nint main ( void ) {\n  int c ;\n  while ( 1 ) {\n    c = getchar ( ) ;\n    if ( ( c == ( - 1 ) ) ) {\n      break ;\n    } else {\n    }\n    putchar ( c ) ;\n  }\n  return 7 ;\n}\n";
+
+// A CIL text that writes the first byte of its second word, and returns the number of its words.
+const WORDS_TEXT: &str =
+    "int putchar ( int ) ;\nint main ( int , char * * ) ;\nint main ( int argc , char * * argv ) {\n  char * word ;\n  word = ( * ( argv + 1L ) ) ;\n  putchar ( ( ( int ) ( * word ) ) ) ;\n  return argc ;\n}\n";
+
+// A CIL text that writes `a` and exits with 300.
+const EXITS_TEXT: &str =
+    "void exit ( int ) ;\nint putchar ( int ) ;\nint main ( void ) ;\nint main ( void ) {\n  putchar ( 97 ) ;\n  exit ( 300 ) ;\n  return 0 ;\n}\n";
+
+// A CIL text that writes `a` and divides by zero.
+const WRITES_TEXT: &str =
+    "int putchar ( int ) ;\nint main ( void ) ;\nint main ( void ) {\n  putchar ( 97 ) ;\n  return ( 1 / 0 ) ;\n}\n";
 
 const SYNTAX: &str = "cil: a.c:1: syntax fault, stopped at a.c:1\n";
 
@@ -31,6 +47,15 @@ struct Answer {
     status: u8,
     written: Vec<u8>,
     told: Vec<u8>,
+}
+
+// The numbers of the calls that fail.
+#[derive(Clone, Copy, Debug)]
+struct Failing<'a> {
+    files: &'a [u64],
+    input: &'a [u64],
+    out: &'a [u64],
+    err: &'a [u64],
 }
 
 // The answer to the words, where `a.c` has these bytes and the calls of these numbers fail on files, on standard output (which
@@ -43,22 +68,51 @@ fn answer_to(
     out: &[u64],
     err: &[u64],
 ) -> Result<Answer, Fail> {
+    let failing = Failing {
+        files,
+        input: &[0],
+        out,
+        err,
+    };
+    answer_over(alloc, words, unit, b"", failing)
+}
+
+// The same over these bytes of standard input, which gives one a call.
+fn answer_over(
+    alloc: Global,
+    words: &[&str],
+    unit: &[u8],
+    given: &[u8],
+    failing: Failing<'_>,
+) -> Result<Answer, Fail> {
     let words = owned(alloc, words)?;
-    let mut there = Vec::new(alloc);
-    there.push((
-        String::from_str(alloc, "a.c")?,
-        Vec::from_slice(alloc, unit)?,
-    ))?;
-    let mut files = MemFiles::new(there, Vec::from_slice(alloc, files)?);
-    let mut input = MemSource::new(Vec::new(alloc), 1, vec![in alloc; 0]?);
-    let mut out = MemSink::new(alloc, 10, 4096, Vec::from_slice(alloc, out)?)?;
-    let mut err = MemSink::new(alloc, 5, 4096, Vec::from_slice(alloc, err)?)?;
+    let mut files = MemFiles::new(
+        only_file(alloc, unit)?,
+        Vec::from_slice(alloc, failing.files)?,
+    );
+    let mut input = MemSource::new(
+        Vec::from_slice(alloc, given)?,
+        1,
+        Vec::from_slice(alloc, failing.input)?,
+    );
+    let mut out = MemSink::new(alloc, 10, 4096, Vec::from_slice(alloc, failing.out)?)?;
+    let mut err = MemSink::new(alloc, 5, 4096, Vec::from_slice(alloc, failing.err)?)?;
     let status = cil(alloc, &words, &mut files, &mut input, &mut out, &mut err);
     Ok(Answer {
         status: status.code(),
         written: Vec::from_slice(alloc, out.taken())?,
         told: Vec::from_slice(alloc, err.taken())?,
     })
+}
+
+// The file `a.c` with these bytes.
+fn only_file(alloc: Global, unit: &[u8]) -> Result<Vec<(String, Vec<u8>)>, Fail> {
+    let mut there = Vec::new(alloc);
+    there.push((
+        String::from_str(alloc, "a.c")?,
+        Vec::from_slice(alloc, unit)?,
+    ))?;
+    Ok(there)
 }
 
 fn owned(alloc: Global, words: &[&str]) -> Result<Vec<String>, Fail> {
@@ -380,42 +434,180 @@ fn tells_words_that_are_no_command(rt: HostRuntime) -> Result<(), Fail> {
     Ok(())
 }
 
-// Words, the bytes of `a.c`, and the exit status and what was told.
-fn runs() -> &'static [(&'static [&'static str], &'static str, u8, &'static str)] {
+// A run: its words, the bytes of `a.c`, those of standard input, and the exit status, what was written and what was told.
+type Run = (
+    &'static [&'static str],
+    &'static str,
+    &'static str,
+    u8,
+    &'static str,
+    &'static str,
+);
+
+const UNDEFINED: &str = "cil: undefined behaviour\n";
+
+fn runs() -> &'static [Run] {
     &[
-        (&["run", "a.c"], SUM_TEXT, 5, ""),
-        (&["run", "--steps", "1", "a.c"], SUM_TEXT, 5, ""),
-        (&["run", "--steps", "1000000000000", "a.c"], SUM_TEXT, 5, ""),
-        (&["run", "a.c", "-x", "--steps", ""], SUM_TEXT, 5, ""),
+        (&["run", "a.c"], SUM_TEXT, "", 5, "", ""),
+        (&["run", "--steps", "1", "a.c"], SUM_TEXT, "", 5, "", ""),
+        (
+            &["run", "--steps", "1000000000000", "a.c"],
+            SUM_TEXT,
+            "",
+            5,
+            "",
+            "",
+        ),
+        (
+            &["run", "a.c", "-x", "--steps", ""],
+            SUM_TEXT,
+            "",
+            5,
+            "",
+            "",
+        ),
         (
             &["run", "a.c"],
             "int main ( void ) ;\nint main ( void ) {\n  return ( 2147483647 + 1 ) ;\n}\n",
+            "",
             125,
-            "cil: undefined behaviour\n",
+            "",
+            UNDEFINED,
         ),
         (
             &["run", "a.c"],
             "int main ( void ) ;\nint main ( void ) {\n  return 258 ;\n}\n",
+            "",
             2,
             "",
+            "",
         ),
-        (&["run", "a.c"], LOOP_TEXT, 65, NOT_BUILT),
-        (&["run", "a.c"], "", 65, NOT_BUILT),
-        (&["run", "b.c"], SUM_TEXT, 74, "cil: read fault\n"),
+        // a unit for the entry of main, and one for each turn of a loop
+        (&["run", "a.c"], LOOP_TEXT, "", 1, "", ""),
+        (&["run", "--steps", "2", "a.c"], LOOP_TEXT, "", 1, "", ""),
+        (
+            &["run", "--steps", "1", "a.c"],
+            LOOP_TEXT,
+            "",
+            124,
+            "",
+            "cil: still running after 1 steps\n",
+        ),
+        // input and output
+        (&["run", "a.c"], ECHO_TEXT, "", 7, "", ""),
+        (
+            &["run", "a.c"],
+            ECHO_TEXT,
+            "all that is given\n",
+            7,
+            "all that is given\n",
+            "",
+        ),
+        (
+            &["run", "--steps", "3", "a.c"],
+            ECHO_TEXT,
+            "given",
+            124,
+            "gi",
+            "cil: still running after 3 steps\n",
+        ),
+        (&["run", "a.c", "xyz"], WORDS_TEXT, "", 2, "x", ""),
+        (&["run", "a.c", "", "a.c"], WORDS_TEXT, "", 3, "\0", ""),
+        (&["run", "a.c"], WORDS_TEXT, "", 125, "", UNDEFINED),
+        (&["run", "a.c"], EXITS_TEXT, "", 44, "a", ""),
+        (&["run", "a.c"], WRITES_TEXT, "", 125, "a", UNDEFINED),
+        // programs without a main
+        (&["run", "a.c"], "", "", 125, "", UNDEFINED),
+        (
+            &["run", "a.c"],
+            "int main ( void ) ;\n",
+            "",
+            125,
+            "",
+            UNDEFINED,
+        ),
+        (&["run", "b.c"], SUM_TEXT, "", 74, "", "cil: read fault\n"),
     ]
 }
 
 #[test]
-fn runs_texts_of_programs_and_refuses_others(rt: HostRuntime) -> Result<(), Fail> {
-    for (words, text, status, told) in runs() {
-        let answer = answer_to(rt.alloc(), words, text.as_bytes(), &[], &[], &[])?;
+fn runs_programs(rt: HostRuntime) -> Result<(), Fail> {
+    let failing = Failing {
+        files: &[],
+        input: &[],
+        out: &[],
+        err: &[],
+    };
+    for (words, text, given, status, written, told) in runs() {
+        let answer = answer_over(
+            rt.alloc(),
+            words,
+            text.as_bytes(),
+            given.as_bytes(),
+            failing,
+        )?;
         assert_eq!(rt; answer.status, *status, "{words:?} {text}");
         assert_eq!(rt;
             answer.written.as_slice(),
-            b"".as_slice(),
+            written.as_bytes(),
             "{words:?} {text}"
         );
         assert_eq!(rt; answer.told.as_slice(), told.as_bytes(), "{words:?} {text}");
+    }
+    Ok(())
+}
+
+// Calls that fail on files, standard input, standard output and standard error while `ab` is echoed, and the exit status, what was
+// written and what was told. Each byte is read by a call of its own, once those before it were written, and one call more finds the end.
+fn failing_runs() -> &'static [(
+    &'static [u64],
+    &'static [u64],
+    &'static [u64],
+    &'static [u64],
+    u8,
+    &'static str,
+    &'static str,
+)] {
+    &[
+        (&[0], &[], &[], &[], 74, "", "cil: read fault\n"),
+        (&[1], &[], &[], &[], 74, "", "cil: read fault\n"),
+        (&[2], &[], &[], &[], 74, "", "cil: read fault\n"),
+        (&[], &[0], &[], &[], 74, "", "cil: read fault\n"),
+        (&[], &[1], &[], &[], 74, "a", "cil: read fault\n"),
+        (&[], &[2], &[], &[], 74, "ab", "cil: read fault\n"),
+        (&[], &[3], &[], &[], 7, "ab", ""),
+        (&[], &[], &[0], &[], 74, "", "cil: write fault\n"),
+        (&[], &[], &[1], &[], 74, "a", "cil: write fault\n"),
+        (&[], &[], &[2], &[], 7, "ab", ""),
+        (&[], &[2], &[1], &[], 74, "a", "cil: write fault\n"),
+        (&[], &[2], &[], &[1], 74, "ab", "cil: "),
+        (&[], &[], &[], &[0], 7, "ab", ""),
+    ]
+}
+
+#[test]
+fn tells_each_failed_call_of_a_run(rt: HostRuntime) -> Result<(), Fail> {
+    for (files, input, out, err, status, written, told) in failing_runs() {
+        let failing = Failing {
+            files,
+            input,
+            out,
+            err,
+        };
+        let answer = answer_over(
+            rt.alloc(),
+            &["run", "a.c"],
+            ECHO_TEXT.as_bytes(),
+            b"ab",
+            failing,
+        )?;
+        assert_eq!(rt; answer.status, *status, "{failing:?}");
+        assert_eq!(rt;
+            answer.written.as_slice(),
+            written.as_bytes(),
+            "{failing:?}"
+        );
+        assert_eq!(rt; answer.told.as_slice(), told.as_bytes(), "{failing:?}");
     }
     Ok(())
 }
@@ -477,11 +669,11 @@ fn tells_where_bytes_are_no_text(rt: HostRuntime) -> Result<(), Fail> {
     Ok(())
 }
 
-// The line that tells of the sum's text cut after so many bytes: without a byte, and with the declaration of main alone, it is
-// still a CIL text; any other is refused where the line begins that is cut, or at the end.
-fn told_of_cut(alloc: Global, count: usize) -> Result<String, Fail> {
+// The exit status and the line that tell of the sum's text cut after so many bytes: without a byte, and with the declaration of main
+// alone, it is still a CIL text, of a program without a main; any other is refused where the line begins that is cut, or at the end.
+fn told_of_cut(alloc: Global, count: usize) -> Result<(u8, String), Fail> {
     if count == 0 || count == 20 {
-        return Ok(String::from_str(alloc, NOT_BUILT)?);
+        return Ok((125, String::from_str(alloc, UNDEFINED)?));
     }
     let place = if count < 20 {
         0
@@ -492,7 +684,8 @@ fn told_of_cut(alloc: Global, count: usize) -> Result<String, Fail> {
     } else {
         61
     };
-    Ok(format!(in alloc; "cil: not CIL at byte {place}\n")?)
+    let line = format!(in alloc; "cil: not CIL at byte {place}\n")?;
+    Ok((65, line))
 }
 
 #[test]
@@ -504,8 +697,8 @@ fn tells_where_a_text_is_cut(rt: HostRuntime) -> Result<(), Fail> {
             .get(..count)
             .ok_or("a count past the text")?;
         let answer = answer_to(alloc, &["run", "a.c"], text, &[], &[], &[])?;
-        let line = told_of_cut(alloc, count)?;
-        assert_eq!(rt; answer.status, 65, "{count}");
+        let (status, line) = told_of_cut(alloc, count)?;
+        assert_eq!(rt; answer.status, status, "{count}");
         assert_eq!(rt; answer.told.as_slice(), line.as_bytes(), "{count}");
     }
     Ok(())

@@ -1,22 +1,23 @@
-ghost use Rattle.std.specs.Prelude.{◌≡◌, ◌≢◌, ◌≤◌, ◌↔◌, ◌⊎◌, ℕ, List, [], None, Some, length, map, unwrap_or, IfSome};
+ghost use Rattle.std.specs.Prelude.{◌≡◌, ◌≢◌, ◌≤◌, ◌↔◌, ◌⊎◌, ◌∷◌, ℕ, List, [], None, Some, length, map, unwrap_or, IfSome, IsSome};
 ghost use Rattle.std.specs.String.{string_bytes};
 ghost use Rattle.c_meaning.specs.Grammar.{Expression, IsUnit};
 ghost use Rattle.cil_meaning.specs.Program.{Exp};
-ghost use Rattle.cil_meaning.specs.Meaning.{RunCil};
 ghost use Rattle.cil_meaning.specs.Text.{Text, IsTextOf};
+ghost use Rattle.cil_tree.specs.Tree.{Program};
+ghost use Rattle.cil_tree.specs.Programs.{IsTextOf as IsCilTextOf};
 ghost use Rattle.cil_tree.specs.LaidOut.{bad_place};
+ghost use Rattle.cil_semantics.specs.Runs.{RunCil};
 ghost use Rattle.cil_reader.specs.Stops.{IsNoText};
 ghost use Rattle.outside.specs.Counts.{Rose};
 ghost use Rattle.outside.specs.Moves.{Began, Wrote};
 ghost use Rattle.outside.specs.Named.{find_file, names_of};
 ghost use Rattle.std.specs.Option.{option_map, option_and_then};
-ghost use Rattle.cil_base.specs.declared.runs.Env.{Env};
 ghost use Rattle.cil_base.specs.declared.faults.Refusal.{Refusal};
 ghost use Rattle.cil.specs.Answers.{IsAnswerTo};
-ghost use Rattle.cil.specs.Command.{command_of, file_of, bound_of, steps_asked};
-ghost use Rattle.cil.specs.Execute.{text_asked, IsOtherText, IsRunAnswer, RunSays, Tells};
+ghost use Rattle.cil.specs.Command.{command_of, file_of, run_file, bound_of, steps_asked, words_given};
+ghost use Rattle.cil.specs.Execute.{text_asked, IsRunAnswer, IsEnd, RanAs, RunSays, AnswersAs};
 ghost use Rattle.cil.specs.Lowering.{Merges};
-ghost use Rattle.cil.specs.Merge.{unit_asked, bytes_under, IsMergeAnswer, IsRefused, IsRefusedLike, IfRefused, not_built};
+ghost use Rattle.cil.specs.Merge.{unit_asked, bytes_under, IsMergeAnswer, IsRefused, IsRefusedLike, IfRefused};
 ghost use Rattle.cil.specs.Messages.{line_of, AreNames, IsQuiet, HasFiles};
 ghost use Rattle.cil.specs.Sent.{Sent};
 
@@ -39,14 +40,16 @@ use std::alloc::Global;
 /// places: that of the token at which, behind whole external declarations, none begins, and that of one up to which none does.
 /// Then, as in each other case but `Done` and `WriteFault`, out took nothing.
 ///
-/// `run [--steps N] FILE [ARG...]` reads the file as a CIL text and runs its program: it is `Exited`, `StillRunning` or
-/// `WentUndefined` as the program's run in every environment is, bounded by N steps. Where no call on the files failed it is `NotCil`
-/// exactly where the bytes are the text of no CIL program, at the place that is defined for them, and `Refused` exactly where they are
-/// the text of a CIL program, but of none of the form.
+/// `run [--steps N] FILE [ARG...]` reads the file as a CIL text and runs its program with the words from FILE on, bounded by N
+/// steps: it is `Exited`, `StillRunning` or `WentUndefined` as the program's run on the bytes of input ends, and then out took just
+/// that run's output. Where no call on the files failed it is `NotCil` exactly where the bytes are the text of no CIL program, at the
+/// place that is defined for them, and nothing was run. A `ReadFault` comes where the file could not be read, and nothing was run, or
+/// where the program wanted a byte of input that could not be read; then, as after a `WriteFault` or want of memory, out took a front
+/// of the output, whatever input has still to give. What was read of input last, at most 4,096 bytes or its end, was needed.
 ///
-/// `Usage` comes exactly where the words are no command; `ReadFault` and `WriteFault` only where a call on files or on out failed,
-/// and every such failure is told; `Memory` wherever memory is wanting. Each status but `Done` and `Exited` is told by one line on
-/// err. Own.
+/// `Usage` comes exactly where the words are no command; `ReadFault` and `WriteFault` only where a call on files, on input or on out
+/// failed, and every such failure is told; `Memory` wherever memory is wanting. Only `run` reads input. Each status but `Done` and
+/// `Exited` is told by one line on err. Own.
 pub fn cil<F: Files, I: Source, O: Sink, E: Sink>(
     alloc: Global,
     words: &[String],
@@ -65,23 +68,25 @@ pub fn cil<F: Files, I: Source, O: Sink, E: Sink>(
     ensures refuses { IfSome (unit_asked (F.told files.old) (map string_bytes words.now)) (λ unit. (refusal : Refusal) (names : List (List ℕ)) → IsRefused unit refusal names → ¬ (Rose (F.faults files.old) (F.faults files.new)) → IsRefusedLike result refusal ⊎ (result ≡ Status.Memory)) }
 
     // Where a write failed, out took a front of the text of such a program.
-    ensures part { result ≡ Status.WriteFault → (p : Exp) × IsTextOf (Text p) p × Began (O.taken out.old) (O.taken out.new) (Text p) × IfSome (unit_asked (F.told files.old) (map string_bytes words.now)) (λ unit. Merges unit p) }
+    ensures part { run_file (map string_bytes words.now) ≡ None → result ≡ Status.WriteFault → (p : Exp) × IsTextOf (Text p) p × Began (O.taken out.old) (O.taken out.new) (Text p) × IfSome (unit_asked (F.told files.old) (map string_bytes words.now)) (λ unit. Merges unit p) }
 
     // run
-    ensures ran { IfSome (text_asked (F.told files.old) (map string_bytes words.now)) (λ bytes. RunSays bytes (steps_asked (map string_bytes words.now)) result) }
-    ensures runs { IfSome (text_asked (F.told files.old) (map string_bytes words.now)) (λ bytes. (p : Exp) → IsTextOf bytes p → ¬ (Rose (F.faults files.old) (F.faults files.new)) → ((env : Env) → Tells result (RunCil p env (steps_asked (map string_bytes words.now)))) ⊎ (result ≡ Status.Memory)) }
-    ensures other_text { IfSome (text_asked (F.told files.old) (map string_bytes words.now)) (λ bytes. IsOtherText bytes → ¬ (Rose (F.faults files.old) (F.faults files.new)) → (result ≡ Status.Refused not_built) ⊎ (result ≡ Status.Memory)) }
+    ensures ran { IfSome (run_file (map string_bytes words.now)) (λ name. RunSays ((input.new ≡ input.old) × (out.new ≡ out.old)) (Rose (F.faults files.old) (F.faults files.new)) ((F.faults files.new ≡ F.faults files.old) × Rose (I.faults input.old) (I.faults input.new)) (bytes_under (F.told files.old) name) (words_given (map string_bytes words.now)) (steps_asked (map string_bytes words.now)) result (I.left input.old) (I.left input.new) (O.taken out.old) (O.taken out.new)) }
+    ensures runs { IfSome (text_asked (F.told files.old) (map string_bytes words.now)) (λ bytes. (p : Program) → IsCilTextOf bytes p → ¬ (Rose (F.faults files.old) (F.faults files.new)) → ¬ (Rose (I.faults input.old) (I.faults input.new)) → ¬ (Rose (O.faults out.old) (O.faults out.new)) → (IsEnd result × RanAs p (words_given (map string_bytes words.now)) (steps_asked (map string_bytes words.now)) result (I.left input.old) (I.left input.new) (O.taken out.old) (O.taken out.new)) ⊎ (result ≡ Status.Memory)) }
+    ensures answers { IfSome (text_asked (F.told files.old) (map string_bytes words.now)) (λ bytes. IfSome (I.left input.old) (λ given. (p : Program) → IsCilTextOf bytes p → ¬ (Rose (F.faults files.old) (F.faults files.new)) → ¬ (Rose (I.faults input.old) (I.faults input.new)) → ¬ (Rose (O.faults out.old) (O.faults out.new)) → AnswersAs (RunCil (p ∷ []) (words_given (map string_bytes words.now)) given (steps_asked (map string_bytes words.now))) result (O.taken out.old) (O.taken out.new) ⊎ (result ≡ Status.Memory))) }
     ensures not_cil { IfSome (text_asked (F.told files.old) (map string_bytes words.now)) (λ bytes. IsNoText bytes → ¬ (Rose (F.faults files.old) (F.faults files.new)) → (result ≡ Status.NotCil (bad_place bytes)) ⊎ (result ≡ Status.Memory)) }
 
-    ensures read { result ≡ Status.ReadFault → Rose (F.faults files.old) (F.faults files.new) }
+    ensures read { result ≡ Status.ReadFault → Rose (F.faults files.old) (F.faults files.new) ⊎ (IsSome (run_file (map string_bytes words.now)) × Rose (I.faults input.old) (I.faults input.new)) }
     ensures read_told { result ≢ Status.ReadFault → F.faults files.new ≡ F.faults files.old }
+    ensures input_told { result ≢ Status.ReadFault → I.faults input.new ≡ I.faults input.old }
     ensures write { result ≡ Status.WriteFault → Rose (O.faults out.old) (O.faults out.new) }
     ensures write_told { result ≢ Status.WriteFault → O.faults out.new ≡ O.faults out.old }
-    ensures nothing_written { result ≢ Status.Done → result ≢ Status.WriteFault → out.new ≡ out.old }
+    ensures nothing_written { run_file (map string_bytes words.now) ≡ None → result ≢ Status.Done → result ≢ Status.WriteFault → out.new ≡ out.old }
     ensures nothing_read { result ≡ Status.Usage → files.new ≡ files.old }
-    ensures input { input.new ≡ input.old }
+    ensures input { run_file (map string_bytes words.now) ≡ None → input.new ≡ input.old }
     ensures missing { IfSome (F.told files.old) (λ t. IfSome (file_of (map string_bytes words.now)) (λ name. find_file name t.names ≡ None → (result ≡ Status.ReadFault) ⊎ (result ≡ Status.Memory))) }
     ensures files_later { F.faults files.old ≤ F.faults files.new }
+    ensures input_later { I.faults input.old ≤ I.faults input.new }
     ensures names_stay { names_of (F.told files.new) ≡ names_of (F.told files.old) }
     ensures out_later { O.faults out.old ≤ O.faults out.new }
     ensures strays { IfSome (option_and_then (bytes_under (F.told files.old)) (file_of (map string_bytes words.now))) (λ _. F.strays files.new ≡ F.strays files.old) }
@@ -109,6 +114,7 @@ fn steps_of(command: &Option<Command>) -> u64
 }
 
 // Does what the command asks for; the files of places in the answer are numbers in `names`.
+#[tactic(auto, using(crate::proofs::Words::is_asked))]
 fn run_command<F: Files, I: Source, O: Sink>(
     alloc: Global,
     words: &[String],
@@ -128,20 +134,19 @@ fn run_command<F: Files, I: Source, O: Sink>(
     ensures accepted { IfSome (unit_asked (F.told files.old) (map string_bytes words.now)) (λ unit. (e : Expression) → IsUnit unit e → ¬ (Rose (F.faults files.old) (F.faults files.new)) → ¬ (Rose (O.faults out.old) (O.faults out.new)) → (result ≡ Status.Done) ⊎ (result ≡ Status.Memory)) }
     ensures refuses { IfSome (unit_asked (F.told files.old) (map string_bytes words.now)) (λ unit. (refusal : Refusal) (names : List (List ℕ)) → IsRefused unit refusal names → ¬ (Rose (F.faults files.old) (F.faults files.new)) → IsRefusedLike result refusal ⊎ (result ≡ Status.Memory)) }
     ensures refused { IfSome (unit_asked (F.told files.old) (map string_bytes words.now)) (λ unit. IfRefused result (λ refusal. (others : List (List ℕ)) × IsRefused unit refusal others)) }
-    ensures runs { IfSome (text_asked (F.told files.old) (map string_bytes words.now)) (λ bytes. (p : Exp) → IsTextOf bytes p → ¬ (Rose (F.faults files.old) (F.faults files.new)) → ((env : Env) → Tells result (RunCil p env (steps_asked (map string_bytes words.now)))) ⊎ (result ≡ Status.Memory)) }
-    ensures other_text { IfSome (text_asked (F.told files.old) (map string_bytes words.now)) (λ bytes. IsOtherText bytes → ¬ (Rose (F.faults files.old) (F.faults files.new)) → (result ≡ Status.Refused not_built) ⊎ (result ≡ Status.Memory)) }
-    ensures not_cil { IfSome (text_asked (F.told files.old) (map string_bytes words.now)) (λ bytes. IsNoText bytes → ¬ (Rose (F.faults files.old) (F.faults files.new)) → (result ≡ Status.NotCil (bad_place bytes)) ⊎ (result ≡ Status.Memory)) }
-    ensures ran { IfSome (text_asked (F.told files.old) (map string_bytes words.now)) (λ bytes. RunSays bytes (steps_asked (map string_bytes words.now)) result) }
-    ensures read { result ≡ Status.ReadFault → Rose (F.faults files.old) (F.faults files.new) }
+    ensures ran { IfSome (run_file (map string_bytes words.now)) (λ name. RunSays ((input.new ≡ input.old) × (out.new ≡ out.old)) (Rose (F.faults files.old) (F.faults files.new)) ((F.faults files.new ≡ F.faults files.old) × Rose (I.faults input.old) (I.faults input.new)) (bytes_under (F.told files.old) name) (words_given (map string_bytes words.now)) (steps_asked (map string_bytes words.now)) result (I.left input.old) (I.left input.new) (O.taken out.old) (O.taken out.new)) }
+    ensures read { result ≡ Status.ReadFault → Rose (F.faults files.old) (F.faults files.new) ⊎ (IsSome (run_file (map string_bytes words.now)) × Rose (I.faults input.old) (I.faults input.new)) }
     ensures read_told { result ≢ Status.ReadFault → F.faults files.new ≡ F.faults files.old }
+    ensures input_told { result ≢ Status.ReadFault → I.faults input.new ≡ I.faults input.old }
     ensures write { result ≡ Status.WriteFault → Rose (O.faults out.old) (O.faults out.new) }
     ensures write_told { result ≢ Status.WriteFault → O.faults out.new ≡ O.faults out.old }
-    ensures part { result ≡ Status.WriteFault → (p : Exp) × IsTextOf (Text p) p × Began (O.taken out.old) (O.taken out.new) (Text p) × IfSome (unit_asked (F.told files.old) (map string_bytes words.now)) (λ unit. Merges unit p) }
-    ensures nothing_written { result ≢ Status.Done → result ≢ Status.WriteFault → out.new ≡ out.old }
+    ensures part { run_file (map string_bytes words.now) ≡ None → result ≡ Status.WriteFault → (p : Exp) × IsTextOf (Text p) p × Began (O.taken out.old) (O.taken out.new) (Text p) × IfSome (unit_asked (F.told files.old) (map string_bytes words.now)) (λ unit. Merges unit p) }
+    ensures nothing_written { run_file (map string_bytes words.now) ≡ None → result ≢ Status.Done → result ≢ Status.WriteFault → out.new ≡ out.old }
     ensures nothing_read { result ≡ Status.Usage → files.new ≡ files.old }
-    ensures input { input.new ≡ input.old }
+    ensures input { run_file (map string_bytes words.now) ≡ None → input.new ≡ input.old }
     ensures missing { IfSome (F.told files.old) (λ t. IfSome (file_of (map string_bytes words.now)) (λ name. find_file name t.names ≡ None → (result ≡ Status.ReadFault) ⊎ (result ≡ Status.Memory))) }
     ensures files_later { F.faults files.old ≤ F.faults files.new }
+    ensures input_later { I.faults input.old ≤ I.faults input.new }
     ensures names_stay { names_of (F.told files.new) ≡ names_of (F.told files.old) }
     ensures out_later { O.faults out.old ≤ O.faults out.new }
     ensures strays { IfSome (option_and_then (bytes_under (F.told files.old)) (file_of (map string_bytes words.now))) (λ _. F.strays files.new ≡ F.strays files.old) }
@@ -190,7 +195,7 @@ fn merge_words<F: Files, O: Sink>(
 }
 
 // Runs the text of the file at that position of the words, with the words from there on.
-#[tactic(auto, using(crate::proofs::Words::run_within, crate::proofs::Words::text_asked_is, crate::proofs::Words::run_file_is, crate::proofs::Words::steps_asked_is))]
+#[tactic(auto, using(crate::proofs::Words::run_within, crate::proofs::Words::run_file_is))]
 fn run_words<F: Files, I: Source, O: Sink>(
     alloc: Global,
     words: &[String],
@@ -206,18 +211,19 @@ fn run_words<F: Files, I: Source, O: Sink>(
     ensures kind { IsRunAnswer result }
     ensures names { result ≢ Status.Memory → AreNames (F.told files.old) (map string_bytes words.now) result names.new }
     ensures files { HasFiles (length names.new) result }
-    ensures runs { IfSome (text_asked (F.told files.old) (map string_bytes words.now)) (λ bytes. (p : Exp) → IsTextOf bytes p → ¬ (Rose (F.faults files.old) (F.faults files.new)) → ((env : Env) → Tells result (RunCil p env (steps_asked (map string_bytes words.now)))) ⊎ (result ≡ Status.Memory)) }
-    ensures other_text { IfSome (text_asked (F.told files.old) (map string_bytes words.now)) (λ bytes. IsOtherText bytes → ¬ (Rose (F.faults files.old) (F.faults files.new)) → (result ≡ Status.Refused not_built) ⊎ (result ≡ Status.Memory)) }
-    ensures not_cil { IfSome (text_asked (F.told files.old) (map string_bytes words.now)) (λ bytes. IsNoText bytes → ¬ (Rose (F.faults files.old) (F.faults files.new)) → (result ≡ Status.NotCil (bad_place bytes)) ⊎ (result ≡ Status.Memory)) }
-    ensures ran { IfSome (text_asked (F.told files.old) (map string_bytes words.now)) (λ bytes. RunSays bytes (steps_asked (map string_bytes words.now)) result) }
-    ensures read { result ≡ Status.ReadFault → Rose (F.faults files.old) (F.faults files.new) }
+    ensures named { IsSome (run_file (map string_bytes words.now)) }
+    ensures ran { IfSome (run_file (map string_bytes words.now)) (λ name. RunSays ((input.new ≡ input.old) × (out.new ≡ out.old)) (Rose (F.faults files.old) (F.faults files.new)) ((F.faults files.new ≡ F.faults files.old) × Rose (I.faults input.old) (I.faults input.new)) (bytes_under (F.told files.old) name) (words_given (map string_bytes words.now)) (steps_asked (map string_bytes words.now)) result (I.left input.old) (I.left input.new) (O.taken out.old) (O.taken out.new)) }
+    ensures read { result ≡ Status.ReadFault → Rose (F.faults files.old) (F.faults files.new) ⊎ (IsSome (run_file (map string_bytes words.now)) × Rose (I.faults input.old) (I.faults input.new)) }
     ensures read_told { result ≢ Status.ReadFault → F.faults files.new ≡ F.faults files.old }
+    ensures input_told { result ≢ Status.ReadFault → I.faults input.new ≡ I.faults input.old }
+    ensures write { result ≡ Status.WriteFault → Rose (O.faults out.old) (O.faults out.new) }
+    ensures write_told { result ≢ Status.WriteFault → O.faults out.new ≡ O.faults out.old }
     ensures missing { IfSome (F.told files.old) (λ t. IfSome (file_of (map string_bytes words.now)) (λ name. find_file name t.names ≡ None → (result ≡ Status.ReadFault) ⊎ (result ≡ Status.Memory))) }
     ensures files_later { F.faults files.old ≤ F.faults files.new }
+    ensures input_later { I.faults input.old ≤ I.faults input.new }
+    ensures out_later { O.faults out.old ≤ O.faults out.new }
     ensures names_stay { names_of (F.told files.new) ≡ names_of (F.told files.old) }
     ensures strays { IfSome (option_and_then (bytes_under (F.told files.old)) (file_of (map string_bytes words.now))) (λ _. F.strays files.new ≡ F.strays files.old) }
-    ensures input { input.new ≡ input.old }
-    ensures out { out.new ≡ out.old }
 {
     let args = &words[file as usize..];
     execute(

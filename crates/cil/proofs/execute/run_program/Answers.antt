@@ -1,25 +1,18 @@
-use Rattle.std.proofs.Common.{ap, sym, ◌∙◌}
-use Rattle.cil_meaning.specs.Meaning.{RunCil}
-use Rattle.cil_meaning.specs.View.{exp_of}
+use Rattle.std.proofs.Common.{[], ◌∷◌, map, sym, subst}
+use Rattle.std.specs.String.{string_bytes}
+use Rattle.cil_tree.specs.View.{program_of}
+use Rattle.cil.specs.Execute.{RanAs}
+use Rattle.cil.proofs.Runs.{ran_nothing, ran_by}
 use Rattle.cil.proofs.execute.run_program.Goals as goal
 
-pub returns-in-Exited-clause-says : goal.returns-in-Exited-clause-says
-returns-in-Exited-clause-says g c = λ bytes text. record {
-  program = exp_of c.args.program;
-  text = text;
-  told = λ env. ap (λ m. RunCil (exp_of m.program) env c.args.steps) (sym c.in-Ok.ensures) ∙ c.in-Exited.ensures.run env;
-}
+pub returns-in_default-clause-ran : goal.returns-in_default-clause-ran
+returns-in_default-clause-ran g c =
+    ran_nothing (program_of c.args.names.now c.args.unit.now) (map string_bytes c.args.words.now) c.args.steps (g.I.Source.left c.args.input.now) (g.O.Sink.taken c.args.out.now)
 
-pub returns-in-StillRunning-clause-says : goal.returns-in-StillRunning-clause-says
-returns-in-StillRunning-clause-says g c = λ bytes text. record {
-  program = exp_of c.args.program;
-  text = text;
-  told = λ env. ap (λ m. RunCil (exp_of m.program) env c.args.steps) (sym c.in-Ok.ensures) ∙ c.in-StillRunning.ensures.run env;
-}
-
-pub returns-in-Undefined-clause-says : goal.returns-in-Undefined-clause-says
-returns-in-Undefined-clause-says g c = λ bytes text. record {
-  program = exp_of c.args.program;
-  text = text;
-  told = λ env. ap (λ m. RunCil (exp_of m.program) env c.args.steps) (sym c.in-Ok.ensures) ∙ c.in-Undefined.ensures.run env;
-}
+pub returns-clause-ran : goal.returns-clause-ran
+returns-clause-ran g c =
+    subst (λ status. RanAs (program_of c.args.names.now c.args.unit.now) (map string_bytes c.args.words.now) c.args.steps status
+    (g.I.Source.left c.args.input.now) (g.I.Source.left c.run.new.input) (g.O.Sink.taken c.args.out.now) (g.O.Sink.taken c.run.new.out)) (sym c.status_of.ensures)
+    (ran_by c.run.result (program_of c.args.names.now c.args.unit.now) (map string_bytes c.args.words.now) c.args.steps c.run.new.self.used
+    (g.I.Source.left c.args.input.now) (g.I.Source.left c.run.new.input) (g.O.Sink.taken c.args.out.now) (g.O.Sink.taken c.run.new.out)
+    (c.run.ensures.runs (program_of c.args.names.now c.args.unit.now ∷ []) (map string_bytes c.args.words.now) c.in-Ok.ensures.loads))

@@ -1,10 +1,30 @@
 use Rattle.std.proofs.Common.{◌∙◌, ap, subst, map, unwrap_or}
 use Rattle.std.specs.Option.{option_map}
 use Rattle.std.specs.String.{string_bytes}
-use Rattle.cil.specs.Command.{bound_of}
+use Rattle.outside.specs.Counts.{Rose}
+use Rattle.cil.specs.Command.{bound_of, run_file, words_given, steps_asked}
+use Rattle.cil.specs.Execute.{text_asked}
+use Rattle.cil.specs.Merge.{bytes_under}
 use Rattle.cil.specs.Sent.{Sent}
 use Rattle.cil.proofs.Answered.{line_by}
+use Rattle.cil.proofs.Ran.{runs_asked, answers_by, not_cil_asked}
 use Rattle.cil.proofs.top.cil.Goals as goal
+
+pub returns-clause-runs : goal.returns-clause-runs
+returns-clause-runs g c =
+    runs_asked _ _ _ (Rose (g.I.Source.faults c.args.input.now) (g.I.Source.faults c.run_command-status.new.input)) (Rose (g.O.Sink.faults c.args.out.now) (g.O.Sink.faults c.run_command-status.new.out))
+    (bytes_under (g.F.Files.told c.args.files.now)) (run_file (map string_bytes c.args.words.now)) (words_given (map string_bytes c.args.words.now)) (steps_asked (map string_bytes c.args.words.now))
+    c.run_command-status.result _ _ _ _ c.run_command-status.ensures.write c.run_command-status.ensures.ran
+
+pub returns-clause-answers : goal.returns-clause-answers
+returns-clause-answers g c =
+    answers_by _ _ _ (text_asked (g.F.Files.told c.args.files.now) (map string_bytes c.args.words.now)) (g.I.Source.left c.args.input.now) (words_given (map string_bytes c.args.words.now)) (steps_asked (map string_bytes c.args.words.now))
+    c.run_command-status.result _ _ _ (returns-clause-runs g c)
+
+pub returns-clause-not_cil : goal.returns-clause-not_cil
+returns-clause-not_cil g c =
+    not_cil_asked _ _ _ (bytes_under (g.F.Files.told c.args.files.now)) (run_file (map string_bytes c.args.words.now)) (words_given (map string_bytes c.args.words.now)) (steps_asked (map string_bytes c.args.words.now))
+    c.run_command-status.result _ _ _ _ c.run_command-status.ensures.ran
 
 pub returns-clause-line : goal.returns-clause-line
 returns-clause-line g c =

@@ -1,26 +1,35 @@
-use Rattle.std.proofs.Common.{◌∙◌, ap, sym, map, get_or}
+use Rattle.std.proofs.Common.{◌∙◌, ap, sym, map, get_or, length}
 use Rattle.std.specs.Option.{option_and_then}
+use Rattle.std.proofs.lemmas.List.{take_rest}
 use Rattle.std.specs.String.{string_bytes}
-use Rattle.cil.specs.Command.{file_of, steps_asked}
-use Rattle.cil.specs.Execute.{text_asked}
+use Rattle.cil.specs.Command.{file_of}
 use Rattle.cil.specs.Merge.{bytes_under}
-use Rattle.cil.proofs.Answered.{runs_by, other_text_by, not_cil_by, run_files}
-use Rattle.cil.proofs.Words.{text_asked_is, run_file_is, steps_asked_is, if_some_by, ran_by, run_names}
+use Rattle.cil.proofs.Ran.{run_kind, run_files, read_failed}
+use Rattle.cil.proofs.Words.{run_file_is, run_is_asked, asked_run, if_some_by, run_names}
 use Rattle.cil.proofs.top.run_words.Goals as goal
+
+pub returns-clause-kind : goal.returns-clause-kind
+returns-clause-kind g c = run_kind _ _ _ _ _ _ c.execute.result _ _ _ _ c.execute.ensures.says
 
 pub returns-clause-names : goal.returns-clause-names
 returns-clause-names g c = λ known.
     run_names (g.F.Files.told c.args.files.now) (map string_bytes c.args.words.now) c.execute.new.names c.execute.result c.args.steps c.args.file c.as_str.result.now (string_bytes (get_or c.args.words.now c.args.file c.index-words-file.result))
     c.requires.command (c.execute.ensures.names known) (run_file_is c.args.words.now c.args.steps c.args.file c.index-words-file.result c.requires.command)
-    (c.as_str.ensures.value ∙ ap string_bytes c.index-words-file.is) (run_files c.execute.result c.execute.new.names c.as_str.result.now c.execute.ensures.kind c.execute.ensures.names)
+    (c.as_str.ensures.value ∙ ap string_bytes c.index-words-file.is) (run_files c.execute.result (length c.execute.new.names) (run_kind _ _ _ _ _ _ c.execute.result _ _ _ _ c.execute.ensures.says))
+
+pub returns-clause-files : goal.returns-clause-files
+returns-clause-files g c = run_files c.execute.result (length c.execute.new.names) (run_kind _ _ _ _ _ _ c.execute.result _ _ _ _ c.execute.ensures.says)
 
 pub returns-clause-ran : goal.returns-clause-ran
 returns-clause-ran g c =
-    ran_by (text_asked (g.F.Files.told c.args.files.now) (map string_bytes c.args.words.now))
-    (bytes_under (g.F.Files.told c.args.files.now) c.as_str.result.now) (steps_asked (map string_bytes c.args.words.now)) c.args.steps c.execute.result
-    (text_asked_is (g.F.Files.told c.args.files.now) c.args.words.now c.args.steps c.args.file c.index-words-file.result c.requires.command
-    ∙ ap (λ name. bytes_under (g.F.Files.told c.args.files.now) name) (sym (c.as_str.ensures.value ∙ ap string_bytes c.index-words-file.is)))
-    (steps_asked_is (map string_bytes c.args.words.now) c.args.steps c.args.file c.requires.command) c.execute.ensures.says
+    asked_run _ _ _ (g.F.Files.told c.args.files.now) c.args.words.now _ c.args.steps c.args.file c.index-words-file.result c.as_str.result.now c.execute.result _ _ _ _
+    c.requires.command (c.as_str.ensures.value ∙ ap string_bytes c.index-words-file.is) (take_rest c.args.words.now c.args.file) c.execute.ensures.says
+
+pub returns-clause-named : goal.returns-clause-named
+returns-clause-named g c = run_is_asked c.args.words.now c.args.steps c.args.file c.index-words-file.result c.requires.command
+
+pub returns-clause-read : goal.returns-clause-read
+returns-clause-read g c = read_failed _ _ _ _ _ _ _ _ c.execute.result _ _ _ _ c.execute.ensures.says (returns-clause-named g c)
 
 pub returns-clause-strays : goal.returns-clause-strays
 returns-clause-strays g c =
@@ -30,21 +39,3 @@ returns-clause-strays g c =
     (run_file_is c.args.words.now c.args.steps c.args.file c.index-words-file.result c.requires.command)
     ∙ ap (λ name. bytes_under (g.F.Files.told c.args.files.now) name) (sym (c.as_str.ensures.value ∙ ap string_bytes c.index-words-file.is)))
     c.execute.ensures.strays
-
-pub returns-clause-runs : goal.returns-clause-runs
-returns-clause-runs g c =
-    runs_by (text_asked (g.F.Files.told c.args.files.now) (map string_bytes c.args.words.now)) (steps_asked (map string_bytes c.args.words.now)) c.execute.result _
-    c.execute.ensures.kind c.execute.ensures.read (returns-clause-ran g c)
-
-pub returns-clause-other_text : goal.returns-clause-other_text
-returns-clause-other_text g c =
-    other_text_by (text_asked (g.F.Files.told c.args.files.now) (map string_bytes c.args.words.now)) (steps_asked (map string_bytes c.args.words.now)) c.execute.result _
-    c.execute.ensures.kind c.execute.ensures.read (returns-clause-ran g c)
-
-pub returns-clause-not_cil : goal.returns-clause-not_cil
-returns-clause-not_cil g c =
-    not_cil_by (text_asked (g.F.Files.told c.args.files.now) (map string_bytes c.args.words.now)) (steps_asked (map string_bytes c.args.words.now)) c.execute.result _
-    c.execute.ensures.kind c.execute.ensures.read (returns-clause-ran g c)
-
-pub returns-clause-files : goal.returns-clause-files
-returns-clause-files g c = run_files c.execute.result c.execute.new.names c.as_str.result.now c.execute.ensures.kind c.execute.ensures.names

@@ -1,0 +1,3 @@
+mod ValuesAlike
+mod StatementsAlike
+pub mod ProgramsAlike
