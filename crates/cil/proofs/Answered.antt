@@ -4,7 +4,7 @@ use Rattle.cil_base.specs.declared.faults.Refusal.{Refusal}
 use Rattle.c_meaning.specs.SourceFile.{SourceFile}
 use Rattle.c_meaning.specs.Grammar.{Expression, IsUnit}
 use Rattle.outside.specs.Named.{Told}
-use Rattle.cil_meaning.specs.Program.{Exp}
+use Rattle.cil_tree.specs.Tree.{Program}
 use Rattle.cil.specs.Lowering.{Merges}
 use Rattle.cil.specs.Command.{steps_asked}
 use Rattle.cil.specs.Merge.{unit_asked, IsMergeAnswer, IsRefused, IsRefusedLike, IfRefused}
@@ -60,7 +60,7 @@ refuses_by (Some unit) status names files kind read done write refused = λ refu
     refused_as status unit refusal names others files kind read (λ s. not_both unit (done s).0 refusal others (done s).1 is) (λ s. not_both unit (write s).0 refusal others (write s).1 is) refused is calm
 
 -- what is merged is a unit
-pub unit_of_merged : (asked : Option SourceFile) (p : Exp) → IfSome asked (λ unit. Merges unit p) → IfSome asked (λ unit. (e : Expression) × IsUnit unit e)
+pub unit_of_merged : (asked : Option SourceFile) (p : Program) → IfSome asked (λ unit. Merges unit p) → IfSome asked (λ unit. (e : Expression) × IsUnit unit e)
 unit_of_merged None p merged = tt
 unit_of_merged (Some unit) p merged = (merged.made.tree, merged.made.unit_of)
 

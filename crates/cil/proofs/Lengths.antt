@@ -16,7 +16,7 @@ use Rattle.c_meaning.specs.Grammar.{Expression, Constant, Parentheses, Binary, L
 use Rattle.cil_meaning.specs.Text.{Text, exp_tokens}
 use Rattle.cil_meaning.specs.Spaced.{spaced, text_front, text_back}
 use Rattle.cil_meaning.proofs.SpacedText.{text_spaced, spaced_binary}
-use Rattle.cil.specs.Lowering.{lowered}
+use Rattle.cil.specs.Small.{small}
 
 -- the bytes of constants
 size : Spelled → ℕ
@@ -57,7 +57,7 @@ length-additive Sub is = refl
 length-additive _ is = absurd is
 
 -- the blanks between tokens count too
-length-spaced : (level : Level) (e : Expression) → IsAt level e → length (spaced (exp_tokens (lowered e))) + 6 ≤ 8 * total (spell e)
+length-spaced : (level : Level) (e : Expression) → IsAt level e → length (spaced (exp_tokens (small e))) + 6 ≤ 8 * total (spell e)
 unfolding total size
 length-spaced level (Constant value) at =
     omega (arith, length-append (decimal value) (32 ∷ []), decimal_nonempty value (omega (arith, at)))
@@ -65,11 +65,11 @@ length-spaced level (Parentheses inner) at = omega (arith, length-spaced Additiv
 length-spaced Primary (Binary op left right) at = absurd at
 length-spaced Additive (Binary op left right) at =
     let words = operator_spelling op in
-    let l = spaced (exp_tokens (lowered left)) in
-    let r = spaced (exp_tokens (lowered right)) in
+    let l = spaced (exp_tokens (small left)) in
+    let r = spaced (exp_tokens (small right)) in
     omega (
       arith,
-      ap length (spaced_binary op (lowered left) (lowered right)),
+      ap length (spaced_binary op (small left) (small right)),
       length-append l (words ++ 32 ∷ (r ++ codes ") ")),
       length-append words (32 ∷ (r ++ codes ") ")),
       length-append r (codes ") "),
@@ -94,13 +94,13 @@ total_file file tokens has =
     )
 
 -- a text is a CIL text: it has at most 268,435,456 bytes
-pub length-lowered : (unit : SourceFile) (e : Expression) → IsUnit unit e → length (Text (lowered e)) ≤ 268435456
+pub length-lowered : (unit : SourceFile) (e : Expression) → IsUnit unit e → length (Text (small e)) ≤ 268435456
 length-lowered unit e is =
     omega (
       arith,
-      ap length (text_spaced (lowered e)),
-      length-append text_front (spaced (exp_tokens (lowered e)) ++ text_back),
-      length-append (spaced (exp_tokens (lowered e))) text_back,
+      ap length (text_spaced (small e)),
+      length-append text_front (spaced (exp_tokens (small e)) ++ text_back),
+      length-append (spaced (exp_tokens (small e))) text_back,
       length-spaced Additive e is.grammatical,
       total_file unit (spell_unit e) is.tokens,
       total_spell e,

@@ -10,6 +10,7 @@ pub mod Printing
 pub mod Ran
 pub mod Runs
 pub mod SmallPrograms
+pub mod SmallRuns
 pub mod SmallTexts
 pub mod SmallUnits
 pub mod Units

@@ -1,5 +1,5 @@
--- Device: the lowered program of a unit is a program of the form and keeps the unit's meaning.
-use Rattle.std.proofs.Common.{◌≡◌, ℕ, zero, suc, ◌≤◌, [], refl, ap, subst, inl, arith}
+-- Device: the small program of a unit is a program of the form and keeps the unit's meaning.
+use Rattle.std.proofs.Common.{◌≡◌, ℕ, zero, suc, ◌≤◌, [], ◌∷◌, refl, sym, ap, subst, ◌∙◌, inl, arith}
 use Rattle.std.specs.Option.{option_and_then}
 use Rattle.cil_base.specs.declared.kinds.IntKind.TheVariants.{Int}
 use Rattle.cil_base.specs.declared.runs.Env.{Env}
@@ -12,39 +12,64 @@ use Rattle.c_meaning.specs.Meaning.{value_of as c_value, RunC}
 use Rattle.c_meaning.proofs.Units.{same_expression}
 use Rattle.cil_meaning.specs.Program.{IsExp, IsProgram, depth}
 use Rattle.cil_meaning.specs.Meaning.{value_of, RunCil}
-use Rattle.cil.specs.Lowering.{lowered, Merges}
+use Rattle.cil_meaning.specs.Text.{Text}
+use Rattle.cil_semantics.specs.Runs.{RunCil as WholeRun}
+use Rattle.cil_text.proofs.OneText.{same_text as same_program}
+use Rattle.cil_tree.specs.Programs.{IsTextOf as WholeText}
+use Rattle.cil_tree.specs.Text as text
+use Rattle.cil.specs.Lowering.{lowered, returning, Merges}
+use Rattle.cil.specs.Small.{small, whole_exp, whole_program}
 use Rattle.cil.proofs.Lengths.{length-lowered}
+use Rattle.cil.proofs.SmallRuns.{runs_alike}
+use Rattle.cil.proofs.SmallTexts.{same_text, is_whole_text}
 use Rattle.cil.proofs.SmallUnits.{small_is_grammatical}
 
-lowered-IsExp : (level : Level) (e : Expression) → IsAt level e → IsExp (lowered e)
-lowered-IsExp level (Constant value) at = at
-lowered-IsExp level (Parentheses inner) at = lowered-IsExp Additive inner at
-lowered-IsExp Primary (Binary op left right) at = absurd at
-lowered-IsExp Additive (Binary op left right) at = (at.0, (lowered-IsExp Additive left at.1.0, lowered-IsExp Primary right at.1.1))
+small-IsExp : (level : Level) (e : Expression) → IsAt level e → IsExp (small e)
+small-IsExp level (Constant value) at = at
+small-IsExp level (Parentheses inner) at = small-IsExp Additive inner at
+small-IsExp Primary (Binary op left right) at = absurd at
+small-IsExp Additive (Binary op left right) at = (at.0, (small-IsExp Additive left at.1.0, small-IsExp Primary right at.1.1))
 
-depth-lowered : (e : Expression) → depth (lowered e) ≤ height e
-depth-lowered (Constant value) = omega arith
-depth-lowered (Parentheses inner) = omega (arith, depth-lowered inner)
-depth-lowered (Binary op left right) = omega (arith, depth-lowered left, depth-lowered right)
+depth-small : (e : Expression) → depth (small e) ≤ height e
+depth-small (Constant value) = omega arith
+depth-small (Parentheses inner) = omega (arith, depth-small inner)
+depth-small (Binary op left right) = omega (arith, depth-small left, depth-small right)
 
-lowered-IsProgram : (unit : SourceFile) (e : Expression) → IsUnit unit e → IsProgram (lowered e)
-lowered-IsProgram unit e is = record { well_formed = lowered-IsExp Additive e is.grammatical; low = omega (arith, depth-lowered e, is.low) }
+pub small-well_formed : (unit : SourceFile) (e : Expression) → IsUnit unit e → IsExp (small e)
+small-well_formed unit e is = small-IsExp Additive e is.grammatical
 
-value_of-lowered : (e : Expression) → c_value e ≡ value_of (lowered e)
-value_of-lowered (Constant value) = refl
-value_of-lowered (Parentheses inner) = value_of-lowered inner
-value_of-lowered (Binary op left right) =
-    subst (λ l. c_value (Binary op left right) ≡ option_and_then (λ a. option_and_then (λ b. arith_of op Int a b) (value_of (lowered right))) l) (value_of-lowered left)
-    (ap (λ r. option_and_then (λ a. option_and_then (λ b. arith_of op Int a b) r) (c_value left)) (value_of-lowered right))
+small-IsProgram : (unit : SourceFile) (e : Expression) → IsUnit unit e → IsProgram (small e)
+small-IsProgram unit e is = record { well_formed = small-well_formed unit e is; low = omega (arith, depth-small e, is.low) }
 
-same_run : (e : Expression) (env : Env) (steps : ℕ) → RunC e env steps ≡ RunCil (lowered e) env steps
+value_of-small : (e : Expression) → c_value e ≡ value_of (small e)
+value_of-small (Constant value) = refl
+value_of-small (Parentheses inner) = value_of-small inner
+value_of-small (Binary op left right) =
+    subst (λ l. c_value (Binary op left right) ≡ option_and_then (λ a. option_and_then (λ b. arith_of op Int a b) (value_of (small right))) l) (value_of-small left)
+    (ap (λ r. option_and_then (λ a. option_and_then (λ b. arith_of op Int a b) r) (c_value left)) (value_of-small right))
+
+same_run : (e : Expression) (env : Env) (steps : ℕ) → RunC e env steps ≡ RunCil (small e) env steps
 same_run e env zero = refl
-same_run e env (suc steps) = ap (λ v. returned v []) (value_of-lowered e)
+same_run e env (suc steps) = ap (λ v. returned v []) (value_of-small e)
 
-pub lowered-Merges : (unit : SourceFile) (e : Expression) → IsUnit unit e → Merges unit (lowered e)
-lowered-Merges unit e is = record {
-  made = record { grammatical = small_is_grammatical unit e is; tree = e; unit_of = is; lowered_is = refl };
-  program = lowered-IsProgram unit e is;
-  short = length-lowered unit e is;
-  allowed = λ f also env steps. subst (λ g. Allows (RunC g env steps) (RunCil (lowered e) env steps)) (same_expression unit e f is also) (inl (same_run e env steps));
+whole-lowered : (e : Expression) → whole_exp (small e) ≡ lowered e
+whole-lowered (Constant value) = refl
+whole-lowered (Parentheses inner) = whole-lowered inner
+whole-lowered (Binary op left right) = rw (whole-lowered left, whole-lowered right) refl
+
+whole-run : (e : Expression) → IsExp (small e) → (env : Env) (steps : ℕ) → RunC e env steps ≡ WholeRun (whole_program (small e) ∷ []) env.args.items env.input steps
+whole-run e is env steps = same_run e env steps ∙ sym (runs_alike (small e) is env.args.items env.input env steps)
+
+-- its text
+whole-text : (unit : SourceFile) (e : Expression) → IsUnit unit e → WholeText (text.Text (whole_program (small e))) (whole_program (small e))
+whole-text unit e is =
+    subst (λ bytes. WholeText bytes (whole_program (small e))) (sym (same_text (small e) (small-well_formed unit e is)))
+    (is_whole_text (Text (small e)) (small e) (record { program = small-IsProgram unit e is; text = refl; short = length-lowered unit e is }))
+
+pub small-Merges : (unit : SourceFile) (e : Expression) → IsUnit unit e → Merges unit (whole_program (small e))
+small-Merges unit e is = record {
+  made = record { grammatical = small_is_grammatical unit e is; tree = e; unit_of = is; made_is = ap returning (whole-lowered e) };
+  text = whole-text unit e is;
+  one = λ q also. same_program (text.Text (whole_program (small e))) (whole_program (small e)) q (whole-text unit e is) also;
+  allowed = λ f also env steps. subst (λ g. Allows (RunC g env steps) (WholeRun (whole_program (small e) ∷ []) env.args.items env.input steps)) (same_expression unit e f is also) (inl (whole-run e (small-well_formed unit e is) env steps));
 }

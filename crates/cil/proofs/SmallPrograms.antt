@@ -1,43 +1,20 @@
 -- Device: a program of the form as a program of the whole language, and as a tree of the code that it is what is seen of.
-use Rattle.std.proofs.Common.{◌≡◌, false, true, List, [], ◌∷◌, codes, Some, Vec, Box, refl, ap, ◌∙◌, arith}
+use Rattle.std.proofs.Common.{◌≡◌, false, [], ◌∷◌, codes, Some, Vec, Box, refl, ap, ◌∙◌, arith}
 use Rattle.std.specs.Global.{Global}
 use denote.RawPtr.{null_ptr}
-use Rattle.cil_base.specs.declared.kinds.Abi.TheVariants.{Lp64}
 use Rattle.cil_base.specs.declared.kinds.IntKind.TheVariants.{Int as int}
-use Rattle.type_graph.specs.declared.nodes.Node.{Node}
-use Rattle.type_graph.specs.declared.nodes.Node.TheVariants.{Int, Func}
-use Rattle.type_graph.specs.Shapes.{IntType, FuncType, NoTypes, shape}
-use Rattle.type_graph.specs.Arena.{Graph}
+use Rattle.type_graph.specs.Shapes.{shape}
 use Rattle.cil_tree.specs.declared.expressions.Exp.{Exp as CodeExp, Const as CodeConst, Bin' as CodeBin}
 use Rattle.cil_tree.specs.declared.statements.Stmt.{Return as CodeReturn}
 use Rattle.cil_tree.specs.declared.globals.Body.{Body as CodeBody}
 use Rattle.cil_tree.specs.declared.globals.GlobalDef.TheVariants.{Body as HasBody}
 use Rattle.cil_tree.specs.declared.globals.GlobalDecl.{GlobalDecl as CodeGlobal}
 use Rattle.cil_tree.specs.declared.globals.CilUnit.{CilUnit}
-use Rattle.cil_tree.specs.Tree.{Exp, Const, Bin, Return, Done, Seq, Body, Function, GlobalDecl, Program}
+use Rattle.cil_tree.specs.Tree.{Bin}
 use Rattle.cil_tree.specs.View.{exp_of, program_of}
 use Rattle.cil_meaning.specs.Program.{Exp as Small, Const as SmallConst, Bin as SmallBin}
-
--- the types int, and int ( void )
-abbrev pub main_types : List Node
-main_types = Int int ∷ Func true false (record { 0 = 0 }) [] ∷ []
-
-abbrev pub main_graph : Graph
-main_graph = record { abi = Lp64; nodes = main_types; aggs = []; completed = [] }
-
-abbrev pub whole_exp : Small → Exp
-whole_exp (SmallConst value) = Const int value
-whole_exp (SmallBin op left right) = Bin op (whole_exp left) (whole_exp right)
-
-abbrev pub main_body : Small → Body
-main_body e = record { params = []; locals = []; labels = []; stmts = Seq (Return (Some (whole_exp e))) Done }
-
--- main, which returns the expression
-abbrev pub main_global : Small → GlobalDecl
-main_global e = record { name = codes "main"; type = Some (FuncType (IntType int) NoTypes true false); internal = false; definition = Function (main_body e) }
-
-abbrev pub whole_program : Small → Program
-whole_program e = record { graph = main_graph; names = codes "main" ∷ []; globals = main_global e ∷ [] }
+use Rattle.cil.specs.Lowering.{main_types, main_graph}
+use Rattle.cil.specs.Small.{whole_exp, whole_program}
 
 -- the tree, in memory that nobody looks at
 

@@ -28,7 +28,9 @@ use Rattle.std.specs.Str.Parse.{digits_value, AllDigits}
 use Rattle.std.proofs.lemmas.Bool.Decides.{nat_tests}
 use Rattle.std.proofs.lemmas.Fmt.{digits_decimal, decimal_nonempty}
 use Rattle.std.proofs.lemmas.Str.Parse.{IsNumeralModel, digit_at}
-use Rattle.cil.proofs.SmallPrograms.{main_graph, whole_exp, main_body, main_global, whole_program, code_unit, unit_seen}
+use Rattle.cil.specs.Lowering.{main_graph, returning_body, returning_main}
+use Rattle.cil.specs.Small.{whole_exp, whole_program}
+use Rattle.cil.proofs.SmallPrograms.{code_unit, unit_seen}
 
 -- the types
 
@@ -83,7 +85,7 @@ are_names e = record { globals = refl; enumerators = refl; internals = refl; fil
 -- the expression has type int
 
 scope : Exp → Scope
-scope e = scope_of (whole_program e) (main_body e)
+scope e = scope_of (whole_program e) (returning_body (whole_exp e))
 
 int_fits : (v : ℕ) → v < 2 ^ 31 → fits int (pos v) ≡ true
 int_fits v small = le-leb v 2147483647 (omega arith)
@@ -106,14 +108,14 @@ additive_type c And is = absurd is
 additive_type c Xor is = absurd is
 additive_type c Or is = absurd is
 
-typed : (p e : Exp) → IsExp e → type_of (scope_of (whole_program p) (main_body p)) (whole_exp e) ≡ Some (IntType int)
+pub typed : (p e : Exp) → IsExp e → type_of (scope_of (whole_program p) (returning_body (whole_exp p))) (whole_exp e) ≡ Some (IntType int)
 typed p (Const v) small = rw (int_fits v small) refl
 typed p (Bin op left right) is =
-    ap (λ (o : Option Shape). option_and_then (λ s. option_and_then (binary_type (scope_of (whole_program p) (main_body p)) op s) (type_of (scope_of (whole_program p) (main_body p)) (whole_exp right))) o) (typed p left is.1.0)
-    ∙ ap (λ (o : Option Shape). option_and_then (binary_type (scope_of (whole_program p) (main_body p)) op (IntType int)) o) (typed p right is.1.1)
-    ∙ additive_type (scope_of (whole_program p) (main_body p)) op is.0
+    ap (λ (o : Option Shape). option_and_then (λ s. option_and_then (binary_type (scope_of (whole_program p) (returning_body (whole_exp p))) op s) (type_of (scope_of (whole_program p) (returning_body (whole_exp p))) (whole_exp right))) o) (typed p left is.1.0)
+    ∙ ap (λ (o : Option Shape). option_and_then (binary_type (scope_of (whole_program p) (returning_body (whole_exp p))) op (IntType int)) o) (typed p right is.1.1)
+    ∙ additive_type (scope_of (whole_program p) (returning_body (whole_exp p))) op is.0
 
-main_fits : (e : Exp) → IsExp e → list_all (global_fits (whole_program e)) (main_global e ∷ []) ≡ true
+main_fits : (e : Exp) → IsExp e → list_all (global_fits (whole_program e)) (returning_main (whole_exp e) ∷ []) ≡ true
 main_fits e is = rw (typed e e is) refl
 
 whole_is_program : (e : Exp) → IsExp e → IsProgram (whole_program e)
@@ -183,15 +185,15 @@ abbrev main_line : Token → Line
 main_line last = codes "int" ∷ codes "main" ∷ codes "(" ∷ codes "void" ∷ codes ")" ∷ last ∷ []
 
 -- the bytes of the lines that return tokens
-abbrev returning : List Token → List ℕ
-returning ts = lines_bytes 0 (main_line (codes ";") ∷ main_line (codes "{") ∷ (codes "return" ∷ (ts ++ codes ";" ∷ [])) ∷ (codes "}" ∷ []) ∷ [])
+abbrev returned_bytes : List Token → List ℕ
+returned_bytes ts = lines_bytes 0 (main_line (codes ";") ∷ main_line (codes "{") ∷ (codes "return" ∷ (ts ++ codes ";" ∷ [])) ∷ (codes "}" ∷ []) ∷ [])
 
 -- the last line, where so many braces are open before it
 abbrev ending : List Token → ℕ → List ℕ
 ending ts braces = line_bytes 0 (main_line (codes ";")) ++ (line_bytes 0 (main_line (codes "{")) ++ (line_bytes 1 (codes "return" ∷ (ts ++ codes ";" ∷ [])) ++ lines_bytes braces ((codes "}" ∷ []) ∷ [])))
 
-same_text : (e : Exp) → IsExp e → text.Text (whole_program e) ≡ Text e
-same_text e is = ap returning (same_tokens (scope_of (whole_program e) (main_body e)) e) ∙ ap (ending (exp_tokens e)) (no_brace 1 e (codes ";" ∷ []) is)
+pub same_text : (e : Exp) → IsExp e → text.Text (whole_program e) ≡ Text e
+same_text e is = ap returned_bytes (same_tokens (scope_of (whole_program e) (returning_body (whole_exp e))) e) ∙ ap (ending (exp_tokens e)) (no_brace 1 e (codes ";" ∷ []) is)
 
 -- bytes that are the text of a program of the form are a text of the whole language
 pub is_whole_text : (bytes : List ℕ) (e : Exp) → IsTextOf bytes e → whole.IsTextOf bytes (whole_program e)

@@ -26,7 +26,7 @@ use Rattle.c_tree.specs.Units.{UnitTree}
 use Rattle.c_exprs.specs.Lexemes.{lexemes}
 use Rattle.c_parser.specs.UnitAnswers.{ReadsUnit, IsSyntaxFault}
 use Rattle.c_parser.proofs.UnitLaws.{one_start}
-use Rattle.cil_meaning.specs.Program.{Exp}
+use Rattle.cil_tree.specs.Tree.{Program}
 use Rattle.cil.specs.Lowering.{Merges}
 use Rattle.cil_base.specs.declared.faults.Fault.{Fault}
 use Rattle.cil_base.specs.declared.faults.Fault.TheVariants.{Lexical, Excluded, Syntax, Constraint, Limit, Duplicate, Incompatible, NotBuilt}
@@ -50,7 +50,7 @@ same_file name bytes file P front small says =
     let below : length bytes < 4194305 = omega arith in
     subst (λ bs. P (record { name = name; bytes = bs })) (sym (whole 4194305 bytes file front below)) says
 
-merges_file : (name bytes file : List ℕ) (p : Exp) → IsFrontOf 4194305 bytes file → Merges (record { name = name; bytes = bytes }) p → Merges (record { name = name; bytes = file }) p
+merges_file : (name bytes file : List ℕ) (p : Program) → IsFrontOf 4194305 bytes file → Merges (record { name = name; bytes = bytes }) p → Merges (record { name = name; bytes = file }) p
 merges_file name bytes file p front merges = same_file name bytes file (λ f. Merges f p) front merges.made.unit_of.tokens.small merges
 
 refused_file : (name bytes file : List ℕ) (names : List (List ℕ)) (refusal : Refusal) → IsFrontOf 4194305 bytes file → IsRefused (record { name = name; bytes = bytes }) refusal names → IsRefused (record { name = name; bytes = file }) refusal names
@@ -60,7 +60,7 @@ refused_file name bytes file _ _ front (OfGrammar refusal names tokens are fault
 refused_file name bytes file _ _ front (NotOfForm names reads none) = same_file name bytes file (λ f. IsRefused f not_built names) front reads.are.small (NotOfForm names reads none)
 
 -- of a file that may not be told
-pub merges_asked : (asked : Option (List ℕ)) (name bytes : List ℕ) (p : Exp) → IfSome asked (IsFrontOf 4194305 bytes) → Merges (record { name = name; bytes = bytes }) p
+pub merges_asked : (asked : Option (List ℕ)) (name bytes : List ℕ) (p : Program) → IfSome asked (IsFrontOf 4194305 bytes) → Merges (record { name = name; bytes = bytes }) p
     → IfSome (option_map (λ (bs : List ℕ). let f : SourceFile = record { name = name; bytes = bs } in f) asked) (λ unit. Merges unit p)
 merges_asked None name bytes p front merges = tt
 merges_asked (Some file) name bytes p front merges = merges_file name bytes file p front merges

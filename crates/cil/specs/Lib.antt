@@ -9,3 +9,4 @@ pub mod Messages
 pub mod Reader
 pub mod RunEnds
 pub mod Sent
+pub mod Small

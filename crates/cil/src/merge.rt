@@ -1,7 +1,8 @@
 ghost use Rattle.std.specs.Prelude.{◌≡◌, ◌≢◌, ◌≤◌, ◌⊎◌, None, [], ◌∷◌, length, IfOk, IfSome};
 ghost use Rattle.c_lexer.specs.Lexed.{Grows, PlacesWithin, IfRefused as IfStopped};
-ghost use Rattle.cil_meaning.specs.Program.{Exp};
-ghost use Rattle.cil_meaning.specs.Text.{Text, IsTextOf};
+ghost use Rattle.cil_tree.specs.Tree.{Program};
+ghost use Rattle.cil_tree.specs.Text.{Text};
+ghost use Rattle.cil_tree.specs.Programs.{IsTextOf};
 ghost use Rattle.outside.specs.Counts.{Rose};
 ghost use Rattle.outside.specs.Moves.{Began, Wrote};
 ghost use Rattle.outside.specs.Named.{find_file, names_of};
@@ -78,7 +79,7 @@ fn merged_text(
 ) -> Result<Vec<u8>, Stop>
     requires first { file.0 ≡ 0 }
     requires alone { IsAlone names.old }
-    ensures merged { IfOk result (λ text. (p : Exp) × Merges (file_in names.old unit.now) p × (text.items ≡ Text p)) }
+    ensures merged { IfOk result (λ text. (p : Program) × Merges (file_in names.old unit.now) p × (text.items ≡ Text p)) }
     ensures refused { IfStopped result (λ refusal. IsRefused (file_in names.old unit.now) refusal names.new) }
     ensures refusal { IfStopped result (IsMergeRefusal (length names.new)) }
     ensures pool { Grows names.old names.new }
@@ -120,8 +121,8 @@ fn merge_unit<O: Sink>(
     ensures kind { IsMergeAnswer result }
     ensures files { HasFiles (length names.new) result }
     ensures pool { Grows names.old names.new }
-    ensures done { result ≡ Status.Done → (p : Exp) × Merges (file_in names.old unit.now) p × Wrote (O.taken out.old) (O.taken out.new) (Text p) }
-    ensures part { result ≡ Status.WriteFault → (p : Exp) × Merges (file_in names.old unit.now) p × Began (O.taken out.old) (O.taken out.new) (Text p) }
+    ensures done { result ≡ Status.Done → (p : Program) × Merges (file_in names.old unit.now) p × Wrote (O.taken out.old) (O.taken out.new) (Text p) }
+    ensures part { result ≡ Status.WriteFault → (p : Program) × Merges (file_in names.old unit.now) p × Began (O.taken out.old) (O.taken out.new) (Text p) }
     ensures idle { result ≢ Status.Done → result ≢ Status.WriteFault → out.new ≡ out.old }
     ensures refused { IfRefused result (λ refusal. IsRefused (file_in names.old unit.now) refusal names.new) }
     ensures no_read { result ≢ Status.ReadFault }
@@ -148,8 +149,8 @@ pub fn merge<F: Files, O: Sink>(
     ensures kind { IsMergeAnswer result }
     ensures names { result ≢ Status.Memory → Begins (name.now ∷ []) names.new }
     ensures files { HasFiles (length names.new) result }
-    ensures done { result ≡ Status.Done → (p : Exp) × IsTextOf (Text p) p × Wrote (O.taken out.old) (O.taken out.new) (Text p) × IfSome (file_under (F.told files.old) name.now) (λ unit. Merges unit p) }
-    ensures part { result ≡ Status.WriteFault → (p : Exp) × IsTextOf (Text p) p × Began (O.taken out.old) (O.taken out.new) (Text p) × IfSome (file_under (F.told files.old) name.now) (λ unit. Merges unit p) }
+    ensures done { result ≡ Status.Done → (p : Program) × IsTextOf (Text p) p × Wrote (O.taken out.old) (O.taken out.new) (Text p) × IfSome (file_under (F.told files.old) name.now) (λ unit. Merges unit p) }
+    ensures part { result ≡ Status.WriteFault → (p : Program) × IsTextOf (Text p) p × Began (O.taken out.old) (O.taken out.new) (Text p) × IfSome (file_under (F.told files.old) name.now) (λ unit. Merges unit p) }
     ensures idle { result ≢ Status.Done → result ≢ Status.WriteFault → out.new ≡ out.old }
     ensures refused { IfSome (file_under (F.told files.old) name.now) (λ unit. IfRefused result (λ refusal. IsRefused unit refusal names.new)) }
     ensures read { result ≡ Status.ReadFault → Rose (F.faults files.old) (F.faults files.new) }

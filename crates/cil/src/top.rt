@@ -1,10 +1,9 @@
 ghost use Rattle.std.specs.Prelude.{◌≡◌, ◌≢◌, ◌≤◌, ◌↔◌, ◌⊎◌, ◌∷◌, ℕ, List, [], None, Some, length, map, unwrap_or, IfSome, IsSome};
 ghost use Rattle.std.specs.String.{string_bytes};
 ghost use Rattle.c_meaning.specs.Grammar.{Expression, IsUnit};
-ghost use Rattle.cil_meaning.specs.Program.{Exp};
-ghost use Rattle.cil_meaning.specs.Text.{Text, IsTextOf};
 ghost use Rattle.cil_tree.specs.Tree.{Program};
-ghost use Rattle.cil_tree.specs.Programs.{IsTextOf as IsCilTextOf};
+ghost use Rattle.cil_tree.specs.Text.{Text};
+ghost use Rattle.cil_tree.specs.Programs.{IsTextOf};
 ghost use Rattle.cil_tree.specs.LaidOut.{bad_place};
 ghost use Rattle.cil_semantics.specs.Runs.{RunCil};
 ghost use Rattle.cil_reader.specs.Stops.{IsNoText};
@@ -62,18 +61,18 @@ pub fn cil<F: Files, I: Source, O: Sink, E: Sink>(
     ensures usage { (result ≡ Status.Usage) ↔ (command_of (map string_bytes words.now) ≡ None) }
 
     // merge
-    ensures done { result ≡ Status.Done → (p : Exp) × IsTextOf (Text p) p × Wrote (O.taken out.old) (O.taken out.new) (Text p) × IfSome (unit_asked (F.told files.old) (map string_bytes words.now)) (λ unit. Merges unit p) }
+    ensures done { result ≡ Status.Done → (p : Program) × IsTextOf (Text p) p × Wrote (O.taken out.old) (O.taken out.new) (Text p) × IfSome (unit_asked (F.told files.old) (map string_bytes words.now)) (λ unit. Merges unit p) }
     ensures accepted { IfSome (unit_asked (F.told files.old) (map string_bytes words.now)) (λ unit. (e : Expression) → IsUnit unit e → ¬ (Rose (F.faults files.old) (F.faults files.new)) → ¬ (Rose (O.faults out.old) (O.faults out.new)) → (result ≡ Status.Done) ⊎ (result ≡ Status.Memory)) }
     ensures refused { IfSome (unit_asked (F.told files.old) (map string_bytes words.now)) (λ unit. IfRefused result (λ refusal. (names : List (List ℕ)) × IsRefused unit refusal names)) }
     ensures refuses { IfSome (unit_asked (F.told files.old) (map string_bytes words.now)) (λ unit. (refusal : Refusal) (names : List (List ℕ)) → IsRefused unit refusal names → ¬ (Rose (F.faults files.old) (F.faults files.new)) → IsRefusedLike result refusal ⊎ (result ≡ Status.Memory)) }
 
     // Where a write failed, out took a front of the text of such a program.
-    ensures part { run_file (map string_bytes words.now) ≡ None → result ≡ Status.WriteFault → (p : Exp) × IsTextOf (Text p) p × Began (O.taken out.old) (O.taken out.new) (Text p) × IfSome (unit_asked (F.told files.old) (map string_bytes words.now)) (λ unit. Merges unit p) }
+    ensures part { run_file (map string_bytes words.now) ≡ None → result ≡ Status.WriteFault → (p : Program) × IsTextOf (Text p) p × Began (O.taken out.old) (O.taken out.new) (Text p) × IfSome (unit_asked (F.told files.old) (map string_bytes words.now)) (λ unit. Merges unit p) }
 
     // run
     ensures ran { IfSome (run_file (map string_bytes words.now)) (λ name. RunSays ((input.new ≡ input.old) × (out.new ≡ out.old)) (Rose (F.faults files.old) (F.faults files.new)) ((F.faults files.new ≡ F.faults files.old) × Rose (I.faults input.old) (I.faults input.new)) (bytes_under (F.told files.old) name) (words_given (map string_bytes words.now)) (steps_asked (map string_bytes words.now)) result (I.left input.old) (I.left input.new) (O.taken out.old) (O.taken out.new)) }
-    ensures runs { IfSome (text_asked (F.told files.old) (map string_bytes words.now)) (λ bytes. (p : Program) → IsCilTextOf bytes p → ¬ (Rose (F.faults files.old) (F.faults files.new)) → ¬ (Rose (I.faults input.old) (I.faults input.new)) → ¬ (Rose (O.faults out.old) (O.faults out.new)) → (IsEnd result × RanAs p (words_given (map string_bytes words.now)) (steps_asked (map string_bytes words.now)) result (I.left input.old) (I.left input.new) (O.taken out.old) (O.taken out.new)) ⊎ (result ≡ Status.Memory)) }
-    ensures answers { IfSome (text_asked (F.told files.old) (map string_bytes words.now)) (λ bytes. IfSome (I.left input.old) (λ given. (p : Program) → IsCilTextOf bytes p → ¬ (Rose (F.faults files.old) (F.faults files.new)) → ¬ (Rose (I.faults input.old) (I.faults input.new)) → ¬ (Rose (O.faults out.old) (O.faults out.new)) → AnswersAs (RunCil (p ∷ []) (words_given (map string_bytes words.now)) given (steps_asked (map string_bytes words.now))) result (O.taken out.old) (O.taken out.new) ⊎ (result ≡ Status.Memory))) }
+    ensures runs { IfSome (text_asked (F.told files.old) (map string_bytes words.now)) (λ bytes. (p : Program) → IsTextOf bytes p → ¬ (Rose (F.faults files.old) (F.faults files.new)) → ¬ (Rose (I.faults input.old) (I.faults input.new)) → ¬ (Rose (O.faults out.old) (O.faults out.new)) → (IsEnd result × RanAs p (words_given (map string_bytes words.now)) (steps_asked (map string_bytes words.now)) result (I.left input.old) (I.left input.new) (O.taken out.old) (O.taken out.new)) ⊎ (result ≡ Status.Memory)) }
+    ensures answers { IfSome (text_asked (F.told files.old) (map string_bytes words.now)) (λ bytes. IfSome (I.left input.old) (λ given. (p : Program) → IsTextOf bytes p → ¬ (Rose (F.faults files.old) (F.faults files.new)) → ¬ (Rose (I.faults input.old) (I.faults input.new)) → ¬ (Rose (O.faults out.old) (O.faults out.new)) → AnswersAs (RunCil (p ∷ []) (words_given (map string_bytes words.now)) given (steps_asked (map string_bytes words.now))) result (O.taken out.old) (O.taken out.new) ⊎ (result ≡ Status.Memory))) }
     ensures not_cil { IfSome (text_asked (F.told files.old) (map string_bytes words.now)) (λ bytes. IsNoText bytes → ¬ (Rose (F.faults files.old) (F.faults files.new)) → (result ≡ Status.NotCil (bad_place bytes)) ⊎ (result ≡ Status.Memory)) }
 
     ensures read { result ≡ Status.ReadFault → Rose (F.faults files.old) (F.faults files.new) ⊎ (IsSome (run_file (map string_bytes words.now)) × Rose (I.faults input.old) (I.faults input.new)) }
@@ -130,7 +129,7 @@ fn run_command<F: Files, I: Source, O: Sink>(
     ensures usage { (result ≡ Status.Usage) ↔ (command_of (map string_bytes words.now) ≡ None) }
     ensures names { result ≢ Status.Memory → AreNames (F.told files.old) (map string_bytes words.now) result names.new }
     ensures files { HasFiles (length names.new) result }
-    ensures done { result ≡ Status.Done → (p : Exp) × IsTextOf (Text p) p × Wrote (O.taken out.old) (O.taken out.new) (Text p) × IfSome (unit_asked (F.told files.old) (map string_bytes words.now)) (λ unit. Merges unit p) }
+    ensures done { result ≡ Status.Done → (p : Program) × IsTextOf (Text p) p × Wrote (O.taken out.old) (O.taken out.new) (Text p) × IfSome (unit_asked (F.told files.old) (map string_bytes words.now)) (λ unit. Merges unit p) }
     ensures accepted { IfSome (unit_asked (F.told files.old) (map string_bytes words.now)) (λ unit. (e : Expression) → IsUnit unit e → ¬ (Rose (F.faults files.old) (F.faults files.new)) → ¬ (Rose (O.faults out.old) (O.faults out.new)) → (result ≡ Status.Done) ⊎ (result ≡ Status.Memory)) }
     ensures refuses { IfSome (unit_asked (F.told files.old) (map string_bytes words.now)) (λ unit. (refusal : Refusal) (names : List (List ℕ)) → IsRefused unit refusal names → ¬ (Rose (F.faults files.old) (F.faults files.new)) → IsRefusedLike result refusal ⊎ (result ≡ Status.Memory)) }
     ensures refused { IfSome (unit_asked (F.told files.old) (map string_bytes words.now)) (λ unit. IfRefused result (λ refusal. (others : List (List ℕ)) × IsRefused unit refusal others)) }
@@ -140,7 +139,7 @@ fn run_command<F: Files, I: Source, O: Sink>(
     ensures input_told { result ≢ Status.ReadFault → I.faults input.new ≡ I.faults input.old }
     ensures write { result ≡ Status.WriteFault → Rose (O.faults out.old) (O.faults out.new) }
     ensures write_told { result ≢ Status.WriteFault → O.faults out.new ≡ O.faults out.old }
-    ensures part { run_file (map string_bytes words.now) ≡ None → result ≡ Status.WriteFault → (p : Exp) × IsTextOf (Text p) p × Began (O.taken out.old) (O.taken out.new) (Text p) × IfSome (unit_asked (F.told files.old) (map string_bytes words.now)) (λ unit. Merges unit p) }
+    ensures part { run_file (map string_bytes words.now) ≡ None → result ≡ Status.WriteFault → (p : Program) × IsTextOf (Text p) p × Began (O.taken out.old) (O.taken out.new) (Text p) × IfSome (unit_asked (F.told files.old) (map string_bytes words.now)) (λ unit. Merges unit p) }
     ensures nothing_written { run_file (map string_bytes words.now) ≡ None → result ≢ Status.Done → result ≢ Status.WriteFault → out.new ≡ out.old }
     ensures nothing_read { result ≡ Status.Usage → files.new ≡ files.old }
     ensures input { run_file (map string_bytes words.now) ≡ None → input.new ≡ input.old }
@@ -175,11 +174,11 @@ fn merge_words<F: Files, O: Sink>(
     ensures kind { IsMergeAnswer result }
     ensures names { result ≢ Status.Memory → AreNames (F.told files.old) (map string_bytes words.now) result names.new }
     ensures files { HasFiles (length names.new) result }
-    ensures done { result ≡ Status.Done → (p : Exp) × IsTextOf (Text p) p × Wrote (O.taken out.old) (O.taken out.new) (Text p) × IfSome (unit_asked (F.told files.old) (map string_bytes words.now)) (λ unit. Merges unit p) }
+    ensures done { result ≡ Status.Done → (p : Program) × IsTextOf (Text p) p × Wrote (O.taken out.old) (O.taken out.new) (Text p) × IfSome (unit_asked (F.told files.old) (map string_bytes words.now)) (λ unit. Merges unit p) }
     ensures accepted { IfSome (unit_asked (F.told files.old) (map string_bytes words.now)) (λ unit. (e : Expression) → IsUnit unit e → ¬ (Rose (F.faults files.old) (F.faults files.new)) → ¬ (Rose (O.faults out.old) (O.faults out.new)) → (result ≡ Status.Done) ⊎ (result ≡ Status.Memory)) }
     ensures refuses { IfSome (unit_asked (F.told files.old) (map string_bytes words.now)) (λ unit. (refusal : Refusal) (names : List (List ℕ)) → IsRefused unit refusal names → ¬ (Rose (F.faults files.old) (F.faults files.new)) → IsRefusedLike result refusal ⊎ (result ≡ Status.Memory)) }
     ensures refused { IfSome (unit_asked (F.told files.old) (map string_bytes words.now)) (λ unit. IfRefused result (λ refusal. (others : List (List ℕ)) × IsRefused unit refusal others)) }
-    ensures part { result ≡ Status.WriteFault → (p : Exp) × IsTextOf (Text p) p × Began (O.taken out.old) (O.taken out.new) (Text p) × IfSome (unit_asked (F.told files.old) (map string_bytes words.now)) (λ unit. Merges unit p) }
+    ensures part { result ≡ Status.WriteFault → (p : Program) × IsTextOf (Text p) p × Began (O.taken out.old) (O.taken out.new) (Text p) × IfSome (unit_asked (F.told files.old) (map string_bytes words.now)) (λ unit. Merges unit p) }
     ensures read { result ≡ Status.ReadFault → Rose (F.faults files.old) (F.faults files.new) }
     ensures read_told { result ≢ Status.ReadFault → F.faults files.new ≡ F.faults files.old }
     ensures write { result ≡ Status.WriteFault → Rose (O.faults out.old) (O.faults out.new) }

@@ -3,10 +3,11 @@ use Rattle.c_meaning.specs.View.{expression_of}
 use Rattle.c_meaning.specs.Reading.{reading}
 use Rattle.c_meaning.specs.SourceFile.{spelled_in}
 use Rattle.cil_meaning.specs.Text.{Text}
-use Rattle.cil.specs.Lowering.{lowered}
+use Rattle.cil.specs.Small.{small, whole_program}
 use Rattle.cil.specs.Merge.{IsRefused}
 use Rattle.cil.specs.Merged.{file_in, IsMergeRefusal}
-use Rattle.cil.proofs.Merging.{lowered-Merges}
+use Rattle.cil.proofs.Merging.{small-Merges, small-well_formed}
+use Rattle.cil.proofs.SmallTexts.{same_text}
 use Rattle.cil.proofs.Units.{found_unit, found_none, first_within, not_built_is}
 use Rattle.cil.proofs.merge.merged_text.Goals as goal
 
@@ -25,4 +26,4 @@ pub returns-clause-merged : goal.returns-clause-merged
 returns-clause-merged c =
     let some : Some (expression_of c.in-Some.tree) ≡ reading (spelled_in c.in_ok-tokens.tokens.source c.in_ok-tokens.tokens.entries) = rw c.in-Some.is at c.in_ok-tree.ensures in
     let is = found_unit (file_in c.args.names.now c.args.unit.now) c.in_ok-tokens.tokens c.grammatical_tokens.new.names (expression_of c.in-Some.tree) c.in_ok-tokens.ensures.tokens (sym some) in
-    (lowered (expression_of c.in-Some.tree), lowered-Merges (file_in c.args.names.now c.args.unit.now) (expression_of c.in-Some.tree) is, c.in_ok-text.ensures ∙ ap Text c.in_ok-program.ensures)
+    (whole_program (small (expression_of c.in-Some.tree)), small-Merges (file_in c.args.names.now c.args.unit.now) (expression_of c.in-Some.tree) is, c.in_ok-text.ensures ∙ (ap Text c.in_ok-program.ensures ∙ sym (same_text (small (expression_of c.in-Some.tree)) (small-well_formed _ _ is))))
