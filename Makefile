@@ -2,7 +2,7 @@
 PREFIX = /usr/local
 PROGRAM = crates/cil/out/cil
 
-.PHONY: first test install check-docs bench bench-lex bench-parse bench-types bench-memory bench-text program
+.PHONY: first test install check-docs bench bench-lex bench-parse bench-run bench-types bench-memory bench-text program
 
 # Proves the program and builds it.
 program:
@@ -31,6 +31,9 @@ bench-lex: program
 
 bench-parse: program
 	bench/parse.sh $(PROGRAM)
+
+bench-run: program
+	bench/run.sh $(PROGRAM)
 
 bench-types:
 	bench/types.sh

@@ -5,6 +5,9 @@
 #   list        n nodes of malloc, linked, walked 8 times and given back
 #   calls       a recursive function that is called about 1.6 ^ n times
 #   output      n lines on standard output
+#   room        an object of n bytes of malloc, all of which are set
+#   deep        n activations of a function, each within the one before
+#   forever     a loop without an end
 #   text        n parts, each an enum, a struct, a union, globals, an image and functions with every statement: a long text
 function line(text) {
     print substr("                                        ", 1, 2 * depth - 2 * (text ~ /^}/)) text
@@ -148,6 +151,44 @@ function output() {
     line("return 0 ;")
     line("}")
 }
+function room() {
+    line("void * malloc ( unsigned long ) ;")
+    line("void * __builtin_memset ( void * , int , unsigned long ) ;")
+    line("int main ( void ) ;")
+    line("int main ( void ) {")
+    line("void * v ;")
+    line("unsigned char * p ;")
+    line("v = malloc ( " n "UL ) ;")
+    line("v = __builtin_memset ( v , 7 , " n "UL ) ;")
+    line("p = ( ( unsigned char * ) v ) ;")
+    line("return ( ( int ) ( * ( p + ( " n "L - 1L ) ) ) ) ;")
+    line("}")
+}
+function deep() {
+    line("static int depth ( int ) ;")
+    line("int main ( void ) ;")
+    line("static int depth ( int m ) {")
+    line("int below ;")
+    line("if ( ( m == 0 ) ) {")
+    line("return 0 ;")
+    line("} else {")
+    line("}")
+    line("below = depth ( ( m - 1 ) ) ;")
+    line("return ( below + 1 ) ;")
+    line("}")
+    line("int main ( void ) {")
+    line("int n ;")
+    line("n = depth ( " n " ) ;")
+    line("return ( n % 128 ) ;")
+    line("}")
+}
+function forever() {
+    line("int main ( void ) ;")
+    line("int main ( void ) {")
+    line("while ( 1 ) {")
+    line("}")
+    line("}")
+}
 function part_of_text(k) {
     line("static int step_" k " ( struct pair_" k " * p , int m ) {")
     line("union mixed_" k " u ;")
@@ -235,6 +276,9 @@ BEGIN {
     else if (kind == "list") list()
     else if (kind == "calls") calls()
     else if (kind == "output") output()
+    else if (kind == "room") room()
+    else if (kind == "deep") deep()
+    else if (kind == "forever") forever()
     else if (kind == "text") text()
     else exit 2
 }
