@@ -74,6 +74,13 @@ difference_for abi OfPointer v = None
 abbrev pub difference_at : Abi → Scalar → Memory → Value → Value → ℕ → Option Value
 difference_at abi s m v w size = difference_for abi s (pointer_difference m v w size)
 
+-- what an operand, or two of them, give goes on; undefined where one is
+abbrev pub of_one : Option Value → (Value → Option Value) → Option Value
+of_one v f = v >>= f
+
+abbrev pub of_two : Option Value → Option Value → (Value → Value → Option Value) → Option Value
+of_two v w f = v >>= λ v. w >>= f v
+
 abbrev mutual
   -- the value of a term, for an activation, as a value of the scalar
   pub term_value : Abi → Memory → ℕ → Scalar → Term → Option Value

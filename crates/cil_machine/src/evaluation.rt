@@ -4,7 +4,7 @@ ghost use Rattle.byte_mem.specs.Store.{memory};
 ghost use Rattle.byte_mem.specs.Memory.{load};
 ghost use Rattle.byte_mem.specs.Operator.{computed, unary, truth, converted, compared, number_in, pointer_in, pointer_sum, pointer_less, pointer_difference, member_place, element_place, place_of};
 ghost use Rattle.cil_base.specs.declared.kinds.Abi.{Abi};
-ghost use Rattle.cil_machine.specs.Terms.{number, number_from, told_from, term_value, spot_place, shifted, loaded, compared_number, unary_at, arithmetic_at, shifted_at, pointer_for, difference_at, pointer_at};
+ghost use Rattle.cil_machine.specs.Terms.{of_one, of_two, number, number_from, told_from, term_value, spot_place, shifted, loaded, compared_number, unary_at, arithmetic_at, shifted_at, pointer_for, difference_at, pointer_at};
 ghost use Rattle.cil_base.specs.Integer.{long_of};
 
 use crate::terms::{Spot, Term};
@@ -283,54 +283,230 @@ fn difference_at(mem: &Store, s: Scalar, v: Value, w: Value, size: u32) -> Optio
     }
 }
 
+// Each operator is a function of its own: a function fills its locals whenever it is entered, and terms are many.
+
+/// What stands at a place.
+#[cycle(evaluation)]
+fn value_at(mem: &Store, act: u64, s: Scalar, place: &Spot) -> Option<Value>
+    ensures value { result ≡ of_one (spot_place mem.now.abi (memory mem.now) act place.now) (loaded mem.now.abi (memory mem.now) s) }
+    ensures scalar { IfSome result (IsValue mem.now.abi s) }
+{
+    loaded(mem, s, spot_place(mem, act, place)?)
+}
+
+/// Whether an operand compares equal to 0.
+#[cycle(evaluation)]
+fn value_of_not(mem: &Store, act: u64, s: Scalar, of: Scalar, e: &Term) -> Option<Value>
+    ensures value { result ≡ of_one (term_value mem.now.abi (memory mem.now) act of e.now) (λ v. told_from mem.now.abi s (option_map not (truth (memory mem.now) of v))) }
+    ensures scalar { IfSome result (IsValue mem.now.abi s) }
+{
+    negated(mem, s, of, term_value(mem, act, of, e)?)
+}
+
+/// A unary operator on an operand.
+#[cycle(evaluation)]
+fn value_of_unary(mem: &Store, act: u64, s: Scalar, op: UnOp, e: &Term) -> Option<Value>
+    ensures value { result ≡ of_one (term_value mem.now.abi (memory mem.now) act s e.now) (unary_at s op) }
+    ensures scalar { IfSome result (IsValue mem.now.abi s) }
+{
+    unary_at(mem.abi(), s, op, term_value(mem, act, s, e)?)
+}
+
+/// An operator on two operands of a kind.
+#[cycle(evaluation)]
+fn value_of_arithmetic(
+    mem: &Store,
+    act: u64,
+    s: Scalar,
+    op: BinOp,
+    e: &Term,
+    f: &Term,
+) -> Option<Value>
+    ensures value { result ≡ of_two (term_value mem.now.abi (memory mem.now) act s e.now) (term_value mem.now.abi (memory mem.now) act s f.now) (arithmetic_at s op) }
+    ensures scalar { IfSome result (IsValue mem.now.abi s) }
+{
+    let v = term_value(mem, act, s, e)?;
+    arithmetic_at(mem.abi(), s, op, v, term_value(mem, act, s, f)?)
+}
+
+/// A shift of an operand by one of a kind.
+#[cycle(evaluation)]
+fn value_of_shift(
+    mem: &Store,
+    act: u64,
+    s: Scalar,
+    left: bool,
+    by: IntKind,
+    e: &Term,
+    f: &Term,
+) -> Option<Value>
+    ensures value { result ≡ of_two (term_value mem.now.abi (memory mem.now) act s e.now) (term_value mem.now.abi (memory mem.now) act (Scalar.Int by) f.now) (shifted_at s left) }
+    ensures scalar { IfSome result (IsValue mem.now.abi s) }
+{
+    let v = term_value(mem, act, s, e)?;
+    let by = Scalar::Int(by);
+    shifted_at(mem.abi(), s, left, v, term_value(mem, act, by, f)?)
+}
+
+/// A comparison of two operands of a kind.
+#[cycle(evaluation)]
+fn value_of_compare(
+    mem: &Store,
+    act: u64,
+    s: Scalar,
+    op: BinOp,
+    kind: IntKind,
+    e: &Term,
+    f: &Term,
+) -> Option<Value>
+    ensures value { result ≡ of_two (term_value mem.now.abi (memory mem.now) act (Scalar.Int kind) e.now) (term_value mem.now.abi (memory mem.now) act (Scalar.Int kind) f.now) (λ v w. number_from mem.now.abi s (compared_number op kind v w)) }
+    ensures scalar { IfSome result (IsValue mem.now.abi s) }
+{
+    let v = term_value(mem, act, Scalar::Int(kind), e)?;
+    let w = term_value(mem, act, Scalar::Int(kind), f)?;
+    compare(mem.abi(), s, op, kind, v, w)
+}
+
+/// The sum of a pointer and an integer of a kind.
+#[cycle(evaluation)]
+fn value_of_sum(
+    mem: &Store,
+    act: u64,
+    s: Scalar,
+    size: u32,
+    kind: IntKind,
+    e: &Term,
+    f: &Term,
+) -> Option<Value>
+    ensures value { result ≡ of_two (term_value mem.now.abi (memory mem.now) act Scalar.Ptr e.now) (term_value mem.now.abi (memory mem.now) act (Scalar.Int kind) f.now) (λ v i. pointer_for s (pointer_sum (memory mem.now) v i size)) }
+    ensures scalar { IfSome result (IsValue mem.now.abi s) }
+{
+    let v = term_value(mem, act, Scalar::Ptr, e)?;
+    let i = term_value(mem, act, Scalar::Int(kind), f)?;
+    pointer_for(mem.abi(), s, sum(mem, size, kind, v, i))
+}
+
+/// A pointer less an integer of a kind.
+#[cycle(evaluation)]
+fn value_of_less(
+    mem: &Store,
+    act: u64,
+    s: Scalar,
+    size: u32,
+    kind: IntKind,
+    e: &Term,
+    f: &Term,
+) -> Option<Value>
+    ensures value { result ≡ of_two (term_value mem.now.abi (memory mem.now) act Scalar.Ptr e.now) (term_value mem.now.abi (memory mem.now) act (Scalar.Int kind) f.now) (λ v i. pointer_for s (pointer_less (memory mem.now) v i size)) }
+    ensures scalar { IfSome result (IsValue mem.now.abi s) }
+{
+    let v = term_value(mem, act, Scalar::Ptr, e)?;
+    let i = term_value(mem, act, Scalar::Int(kind), f)?;
+    pointer_for(mem.abi(), s, less(mem, size, kind, v, i))
+}
+
+/// The difference of two pointers.
+#[cycle(evaluation)]
+fn value_of_difference(
+    mem: &Store,
+    act: u64,
+    s: Scalar,
+    size: u32,
+    e: &Term,
+    f: &Term,
+) -> Option<Value>
+    ensures value { result ≡ of_two (term_value mem.now.abi (memory mem.now) act Scalar.Ptr e.now) (term_value mem.now.abi (memory mem.now) act Scalar.Ptr f.now) (λ v w. difference_at mem.now.abi s (memory mem.now) v w size) }
+    ensures scalar { IfSome result (IsValue mem.now.abi s) }
+{
+    let v = term_value(mem, act, Scalar::Ptr, e)?;
+    difference_at(mem, s, v, term_value(mem, act, Scalar::Ptr, f)?, size)
+}
+
+/// A comparison of two pointers.
+#[cycle(evaluation)]
+fn value_of_relation(
+    mem: &Store,
+    act: u64,
+    s: Scalar,
+    op: BinOp,
+    e: &Term,
+    f: &Term,
+) -> Option<Value>
+    ensures value { result ≡ of_two (term_value mem.now.abi (memory mem.now) act Scalar.Ptr e.now) (term_value mem.now.abi (memory mem.now) act Scalar.Ptr f.now) (λ v w. told_from mem.now.abi s (compared (memory mem.now) op v w)) }
+    ensures scalar { IfSome result (IsValue mem.now.abi s) }
+{
+    let v = term_value(mem, act, Scalar::Ptr, e)?;
+    let w = term_value(mem, act, Scalar::Ptr, f)?;
+    relation(mem, s, op, v, w)
+}
+
+/// A conversion of an operand.
+#[cycle(evaluation)]
+fn value_of_conversion(mem: &Store, act: u64, s: Scalar, from: Scalar, e: &Term) -> Option<Value>
+    ensures value { result ≡ of_one (term_value mem.now.abi (memory mem.now) act from e.now) (λ v. Some (converted mem.now.abi s v)) }
+    ensures scalar { IfSome result (IsValue mem.now.abi s) }
+{
+    converted(mem, s, term_value(mem, act, from, e)?)
+}
+
 /// The value of a term, for an activation, as a value of a scalar. None exactly where it is undefined.
 #[cycle(evaluation)]
 pub fn term_value(mem: &Store, act: u64, s: Scalar, t: &Term) -> Option<Value>
     ensures value { result ≡ term_value mem.now.abi (memory mem.now) act s t.now }
     ensures scalar { IfSome result (IsValue mem.now.abi s) }
 {
-    let abi = mem.abi();
     match t {
-        Term::Number(n) => number(abi, s, i128::from(*n)),
-        Term::Load(place) => loaded(mem, s, spot_place(mem, act, place)?),
-        Term::Not(of, e) => negated(mem, s, *of, term_value(mem, act, *of, e)?),
-        Term::Unary(op, e) => unary_at(abi, s, *op, term_value(mem, act, s, e)?),
-        Term::Arithmetic(op, e, f) => {
-            let v = term_value(mem, act, s, e)?;
-            arithmetic_at(abi, s, *op, v, term_value(mem, act, s, f)?)
-        }
-        Term::Shift(left, by, e, f) => {
-            let v = term_value(mem, act, s, e)?;
-            shifted_at(abi, s, *left, v, term_value(mem, act, Scalar::Int(*by), f)?)
-        }
-        Term::Compare(op, kind, e, f) => {
-            let v = term_value(mem, act, Scalar::Int(*kind), e)?;
-            let w = term_value(mem, act, Scalar::Int(*kind), f)?;
-            compare(abi, s, *op, *kind, v, w)
-        }
-        Term::Sum(size, kind, e, f) => {
-            let v = term_value(mem, act, Scalar::Ptr, e)?;
-            let i = term_value(mem, act, Scalar::Int(*kind), f)?;
-            pointer_for(abi, s, sum(mem, *size, *kind, v, i))
-        }
-        Term::Less(size, kind, e, f) => {
-            let v = term_value(mem, act, Scalar::Ptr, e)?;
-            let i = term_value(mem, act, Scalar::Int(*kind), f)?;
-            pointer_for(abi, s, less(mem, *size, *kind, v, i))
-        }
-        Term::Difference(size, e, f) => {
-            let v = term_value(mem, act, Scalar::Ptr, e)?;
-            difference_at(mem, s, v, term_value(mem, act, Scalar::Ptr, f)?, *size)
-        }
-        Term::Relation(op, e, f) => {
-            let v = term_value(mem, act, Scalar::Ptr, e)?;
-            let w = term_value(mem, act, Scalar::Ptr, f)?;
-            relation(mem, s, *op, v, w)
-        }
-        Term::Convert(from, e) => converted(mem, s, term_value(mem, act, *from, e)?),
-        Term::Address(place) => pointer_for(abi, s, spot_place(mem, act, place)),
+        Term::Number(n) => number(mem.abi(), s, i128::from(*n)),
+        Term::Load(place) => value_at(mem, act, s, place),
+        Term::Not(of, e) => value_of_not(mem, act, s, *of, e),
+        Term::Unary(op, e) => value_of_unary(mem, act, s, *op, e),
+        Term::Arithmetic(op, e, f) => value_of_arithmetic(mem, act, s, *op, e, f),
+        Term::Shift(left, by, e, f) => value_of_shift(mem, act, s, *left, *by, e, f),
+        Term::Compare(op, kind, e, f) => value_of_compare(mem, act, s, *op, *kind, e, f),
+        Term::Sum(size, kind, e, f) => value_of_sum(mem, act, s, *size, *kind, e, f),
+        Term::Less(size, kind, e, f) => value_of_less(mem, act, s, *size, *kind, e, f),
+        Term::Difference(size, e, f) => value_of_difference(mem, act, s, *size, e, f),
+        Term::Relation(op, e, f) => value_of_relation(mem, act, s, *op, e, f),
+        Term::Convert(from, e) => value_of_conversion(mem, act, s, *from, e),
+        Term::Address(place) => pointer_for(mem.abi(), s, spot_place(mem, act, place)),
         Term::Wrong => None,
     }
+}
+
+/// What a pointer points to.
+#[cycle(evaluation)]
+fn place_pointed(mem: &Store, act: u64, e: &Term) -> Option<Value>
+    ensures value { result ≡ of_one (term_value mem.now.abi (memory mem.now) act Scalar.Ptr e.now) place_of }
+    ensures scalar { IfSome result (IsValue mem.now.abi Scalar.Ptr) }
+{
+    pointed(mem, term_value(mem, act, Scalar::Ptr, e)?)
+}
+
+/// The place of a member of an object.
+#[cycle(evaluation)]
+fn place_of_member(mem: &Store, act: u64, offset: u32, whole: &Spot) -> Option<Value>
+    ensures value { result ≡ of_one (spot_place mem.now.abi (memory mem.now) act whole.now) (λ v. member_place (memory mem.now) v offset) }
+    ensures scalar { IfSome result (IsValue mem.now.abi Scalar.Ptr) }
+{
+    member(mem, offset, spot_place(mem, act, whole)?)
+}
+
+/// The place of an element of an array.
+#[cycle(evaluation)]
+fn place_of_element(
+    mem: &Store,
+    act: u64,
+    size: u32,
+    kind: IntKind,
+    whole: &Spot,
+    e: &Term,
+) -> Option<Value>
+    ensures value { result ≡ of_two (spot_place mem.now.abi (memory mem.now) act whole.now) (term_value mem.now.abi (memory mem.now) act (Scalar.Int kind) e.now) (λ v i. element_place (memory mem.now) v i size) }
+    ensures scalar { IfSome result (IsValue mem.now.abi Scalar.Ptr) }
+{
+    let v = spot_place(mem, act, whole)?;
+    let i = term_value(mem, act, Scalar::Int(kind), e)?;
+    element(mem, size, kind, v, i)
 }
 
 /// The place that a resolved place is, for an activation. None exactly where it is undefined.
@@ -342,18 +518,9 @@ pub fn spot_place(mem: &Store, act: u64, place: &Spot) -> Option<Value>
     match place {
         Spot::Entity(e) => Some(to_name(mem, ObjName::Entity(*e))),
         Spot::Local(l) => Some(to_name(mem, ObjName::Local(act, *l))),
-        Spot::At(e) => pointed(mem, term_value(mem, act, Scalar::Ptr, e)?),
-        Spot::Member(offset, whole) => member(mem, *offset, spot_place(mem, act, whole)?),
-        Spot::Element(size, kind, whole, e) => {
-            let v = spot_place(mem, act, whole)?;
-            element(
-                mem,
-                *size,
-                *kind,
-                v,
-                term_value(mem, act, Scalar::Int(*kind), e)?,
-            )
-        }
+        Spot::At(e) => place_pointed(mem, act, e),
+        Spot::Member(offset, whole) => place_of_member(mem, act, *offset, whole),
+        Spot::Element(size, kind, whole, e) => place_of_element(mem, act, *size, *kind, whole, e),
         Spot::Wrong => None,
     }
 }
