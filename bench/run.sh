@@ -65,7 +65,7 @@ while read -r kind n turns; do
         of = t > 0 ? sprintf("%.0f", c / t) : "-"
         each = u > 0 ? sprintf("%.0f ns", c / u * 1000000000) : "-"
         printf "%-10s %9d %8s %6s %8s %8s %8s %8s %8s %9s %8.1f\n", k, n, c, r, t, of, a, v, g, each, cost[2] / 1024
-        if (k == "arithmetic" && t > 0 && c > 150 * t) { print "run.sh: more than 150 times the seconds of tcc -run"; bad = 1 }
+        if (k == "arithmetic" && t > 0 && c > 220 * t) { print "run.sh: more than 220 times the seconds of tcc -run"; bad = 1 }
         if (b > 0 && c > 2.5 * b) { print "run.sh: more than 2.5 times the seconds of half the size"; bad = 1 }
         exit bad
     }' || status=1
