@@ -1,4 +1,4 @@
--- Device: the bodies of a well-formed program fit, step by step.
+-- Device: the bodies of a unit fit, step by step.
 use Rattle.std.proofs.Common.{◌≡◌, ℕ, zero, suc, ◌+◌, Bool, true, false, ◌&&◌, not, nat_lt, List, [], ◌∷◌, ◌++◌, slice_get, Option, Some, None, refl, sym, ap, ◌∙◌, subst}
 use Rattle.std.specs.List.{list_all}
 use Rattle.std.proofs.lemmas.Bool.{and_parts}
@@ -9,7 +9,7 @@ use Rattle.cil_tree.specs.Tree.{Exp, Lval, Callee, Instr, Set, Call, Zero, Stmt,
 use Rattle.cil_tree.specs.Typing.{Scope, scope_of, is_void, global_at, type_of}
 use Rattle.cil_tree.specs.Bodies.{has_type, is_promoted, argument_is_promoted, arguments_fit, result_fits, callee_type, called_fits, call_fits, instr_fits, parts_fit, each_stmt, each_within, labels_of, numbers_from, labels_fit, goto_fits, cases_fit, cases_are_once, breaks_fit, return_fits, returns_fit, stmts_fit, local_fits, parameters_fit, body_fits}
 use Rattle.cil_tree.specs.Globals.{has_definition, internal_is_defined, object_is_complete, definition_fits, typed_fits, global_fits}
-use Rattle.cil_tree.specs.Programs.{IsProgram}
+use Rattle.cil_semantics.specs.Units.{IsUnit}
 use Rattle.cil_control.specs.Remains.{steps, steps_in}
 use Rattle.cil_control.specs.Flat as flat
 use Rattle.cil_control.specs.Flat.{jump, jump_by, break_to, steps_at, steps_from, body_steps, labels_from}
@@ -200,8 +200,8 @@ each_of_all of [] h i x e = cc
 each_of_all of (y ∷ ys) h zero x e = let same : y ≡ x = cc in subst (λ z. of z ≡ true) same (and_parts (of y) (list_all of ys) h).0
 each_of_all of (y ∷ ys) h (suc i) x e = each_of_all of ys (and_parts (of y) (list_all of ys) h).1 i x e
 
--- each function's body in a well-formed program fits
-pub bodies_fit : (p : Program) → IsProgram p → (n : ℕ) (x : GlobalDecl) (b : Body) → global_at p n ≡ Some x → x.definition ≡ Function b → BodyFits (scope_of p b) b.stmts
+-- each function's body in a unit fits
+pub bodies_fit : (p : Program) → IsUnit p → (n : ℕ) (x : GlobalDecl) (b : Body) → global_at p n ≡ Some x → x.definition ≡ Function b → BodyFits (scope_of p b) b.stmts
 bodies_fit p is n x b there body =
     let takes = functions_take p is n x b there body in
     let j = global_judged p x b body (each_of_all (global_fits p) p.globals is.globals n x there) in

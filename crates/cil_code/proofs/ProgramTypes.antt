@@ -1,4 +1,4 @@
--- Device: the types that a well-formed program's bodies speak of are its graph's.
+-- Device: the types that a unit's bodies speak of are its graph's.
 use Rattle.std.proofs.Common.{◌≡◌, ℕ, List, [], ◌∷◌, length, map, slice_get, Option, Some, None, option_map, nat_lt, sym, ap, ◌∙◌, subst}
 use Rattle.std.specs.Option.{option_and_then}
 use Rattle.std.proofs.lemmas.Option.{slice_get-map}
@@ -20,7 +20,7 @@ use Rattle.cil_tree.specs.declared.globals.GlobalDecl.{GlobalDecl}
 use Rattle.cil_tree.specs.Tree as plain
 use Rattle.cil_tree.specs.Typing.{scope_of, global_at, global_type, local_type}
 use Rattle.cil_tree.specs.View.{type_at, exp_of, host_of, callee_of, instr_of, stmt_of, block_of, stmts_of, local_of, body_of, definition_of, global_of}
-use Rattle.cil_tree.specs.Programs.{IsProgram}
+use Rattle.cil_semantics.specs.Units.{IsUnit}
 use Rattle.cil_code.proofs.ArgumentTypes.{TakesValues, MayTakeValues, types_take, if_takes, ScopeTakes, CastsTake, HostTakes, CalleeTakes}
 
 -- the types of what an instruction calls
@@ -135,9 +135,9 @@ pub record FunctionTakes (p : plain.Program) (b : plain.Body) : Type 0 where
   pub scope : ScopeTakes (scope_of p b)
   pub calls : StmtsTake b.stmts
 
-pub functions_take : (p : plain.Program) → IsProgram p → (n : ℕ) (x : plain.GlobalDecl) (b : plain.Body) → global_at p n ≡ Some x → x.definition ≡ plain.Function b → FunctionTakes p b
+pub functions_take : (p : plain.Program) → IsUnit p → (n : ℕ) (x : plain.GlobalDecl) (b : plain.Body) → global_at p n ≡ Some x → x.definition ≡ plain.Function b → FunctionTakes p b
 functions_take p is n x b there body = record {
-  scope = record { types = types_take p.graph is.arena is.types.fit.functions; globals = globals; locals = takes.locals };
+  scope = record { types = types_take p.graph is.arena is.types.functions; globals = globals; locals = takes.locals };
   calls = takes.calls;
 }
   where
@@ -148,7 +148,7 @@ functions_take p is n x b there body = record {
     whole = ap (λ (r : plain.Program). r.globals) is.seen
 
     nodes : Take is.unit.graph.nodes
-    nodes = subst (λ g. Take g.nodes) (sym same) (record { at = types_take p.graph is.arena is.types.fit.functions })
+    nodes = subst (λ g. Take g.nodes) (sym same) (record { at = types_take p.graph is.arena is.types.functions })
 
     globals : (i : ℕ) → MayTakeValues (global_type p i)
     globals i = subst (λ xs. MayTakeValues (option_and_then (λ (y : plain.GlobalDecl). y.type) (slice_get xs i))) whole

@@ -6,7 +6,7 @@ use Rattle.execution.specs.Calls.{returns}
 use Rattle.cil_tree.specs.Tree.{Block, Stmts, Body, Function, GlobalDecl, Program}
 use Rattle.cil_tree.specs.Typing.{Scope, scope_of, global_at}
 use Rattle.cil_tree.specs.Bodies.{labels_of, numbers_from}
-use Rattle.cil_tree.specs.Programs.{IsProgram}
+use Rattle.cil_semantics.specs.Units.{IsUnit}
 use Rattle.cil_semantics.specs.Statements.{statement}
 use Rattle.cil_semantics.specs.Laws.{calls_in}
 use Rattle.cil_control.specs.Remains.{Remains}
@@ -41,8 +41,8 @@ LoadedBodiesRun =
     (programs : List Program) (c : Scope) (entities : List ℕ) (end : Datum) (body : Stmts) (code : List Step) → labels_of body ≡ numbers_from 0 c.labels → AllFit c (steps_of body) → AreSteps c entities (steps_of body) code
     → Runs programs c entities end body code
 
--- each function's body in a well-formed program, loaded, runs from step to step
+-- each function's body in a unit, loaded, runs from step to step
 abbrev pub FittingBodiesRun : Type 0
 FittingBodiesRun =
-    (p : Program) → IsProgram p → (n : ℕ) (x : GlobalDecl) (b : Body) → global_at p n ≡ Some x → x.definition ≡ Function b
+    (p : Program) → IsUnit p → (n : ℕ) (x : GlobalDecl) (b : Body) → global_at p n ≡ Some x → x.definition ≡ Function b
     → (programs : List Program) (entities : List ℕ) (end : Datum) (code : List Step) → AreSteps (scope_of p b) entities (steps_of b.stmts) code → Runs programs (scope_of p b) entities end b.stmts code

@@ -7,8 +7,8 @@ pub fn loaded_bodies_run()
     ensures { LoadedBodiesRun }
 {}
 
-/// Each function's body in a well-formed program runs so once it is loaded: its labels are numbered in the order of the
-/// text, and its expressions and places fit, each argument of a call among them (C11 6.5.2.2, 6.9.1).
+/// Each function's body in a unit that can be linked runs so once it is loaded: its labels are numbered in the order of
+/// the text, and its expressions and places fit, each argument of a call among them (C11 6.5.2.2, 6.9.1).
 pub fn fitting_bodies_run()
     ensures { FittingBodiesRun }
 {}

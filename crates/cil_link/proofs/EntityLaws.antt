@@ -15,7 +15,7 @@ use Rattle.cil_tree.specs.declared.globals.CilUnit.{CilUnit}
 use Rattle.cil_tree.specs.declared.globals.GlobalDecl.{GlobalDecl}
 use Rattle.cil_tree.specs.Tree.{Program}
 use Rattle.cil_tree.specs.View.{global_of, program_of}
-use Rattle.cil_tree.specs.Programs.{IsProgram}
+use Rattle.cil_semantics.specs.Units.{IsUnit}
 use Rattle.cil_semantics.specs.Runs.{linkable, linkables}
 use Rattle.cil_link.specs.declared.entities.Definer.{Definer}
 use Rattle.cil_link.specs.declared.entities.Definer.TheVariants.{Nothing, Host as OfHost}
@@ -397,7 +397,7 @@ module _ (units : List InRun) (u : CilUnit) (names : List (List ℕ)) (entities 
   global_added (Err x) d low once known definer next few added kept = tt
 
 -- a global of a unit by its number
-pub global_of_unit : (units : List InRun) (u : CilUnit) (names : List (List ℕ)) (entities : List ℕ) (unit : UnitNo) (i : ℕ) (r : GlobalDecl) → IsProgram (program_of names u) → IsUnitOf units u names entities unit → i < length u.globals.items → r ≡ get_or u.globals.items i r
+pub global_of_unit : (units : List InRun) (u : CilUnit) (names : List (List ℕ)) (entities : List ℕ) (unit : UnitNo) (i : ℕ) (r : GlobalDecl) → IsUnit (program_of names u) → IsUnitOf units u names entities unit → i < length u.globals.items → r ≡ get_or u.globals.items i r
     → IsGlobalOf units u names entities (record { unit = unit; global = record { 0 = i } }) r
 global_of_unit units u names entities unit i r program is low at = record { program = program; unit = is.unit_is; global = global_there u names i r low at; numbers = is.numbers }
 

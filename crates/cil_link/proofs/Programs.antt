@@ -1,5 +1,5 @@
--- Device: what is known of the globals of a well-formed program.
-use Rattle.std.proofs.Common.{◌≡◌, ℕ, zero, suc, ◌+◌, ◌<◌, ◌≤◌, Bool, true, false, ◌&&◌, ◌||◌, not, cond, nat_lt, List, [], ◌∷◌, map, drop, get_or, slice_get, length, is_some, Option, Some, None, option_map, refl, sym, ap, ◌∙◌, arith}
+-- Device: what is known of the globals of a unit.
+use Rattle.std.proofs.Common.{◌≡◌, ℕ, zero, suc, ◌+◌, ◌<◌, ◌≤◌, Bool, true, false, ◌&&◌, not, cond, nat_lt, List, [], ◌∷◌, map, drop, get_or, slice_get, length, is_some, Option, Some, None, option_map, refl, sym, ap, ◌∙◌, arith}
 use Rattle.std.specs.Prelude.{slice_index_or}
 use Rattle.std.specs.List.{list_all}
 use Rattle.std.proofs.lemmas.Option.{slice_get-map, slice_get_read}
@@ -12,9 +12,9 @@ use Rattle.execution.specs.Linking.{symbol_of, host_names, named_among, host_mea
 use Rattle.cil_tree.specs.declared.globals.CilUnit.{CilUnit}
 use Rattle.cil_tree.specs.declared.globals.GlobalDecl.{GlobalDecl}
 use Rattle.cil_tree.specs.Tree as plain
-use Rattle.cil_tree.specs.Names.{is_name, is_builtin, is_memset, is_declared, global_is_named}
+use Rattle.cil_tree.specs.Names.{is_declared}
 use Rattle.cil_tree.specs.View.{global_of, program_of}
-use Rattle.cil_tree.specs.Programs.{IsProgram}
+use Rattle.cil_semantics.specs.Units.{is_nonempty, has_name, IsUnit}
 use Rattle.cil_tree.specs.Globals.{global_fits, typed_fits, has_definition, internal_is_defined, object_is_complete, definition_fits}
 use Rattle.cil_semantics.specs.Runs.{definition_meaning, global_meaning, has_function_type, is_main}
 use Rattle.cil_link.specs.declared.entities.Definer.TheVariants.{Global as OfGlobal}
@@ -96,14 +96,13 @@ no_global see (x ∷ xs) zero h = absurd (omega arith)
 no_global see (x ∷ xs) (suc i) h = no_global see xs i (omega arith)
 
 -- the name of a global is one of the pool
-pub name_there : (u : CilUnit) (names : List (List ℕ)) (i : ℕ) (r : GlobalDecl) → IsProgram (program_of names u) → i < length u.globals.items → r ≡ get_or u.globals.items i r → r.name.0 < length names
+pub name_there : (u : CilUnit) (names : List (List ℕ)) (i : ℕ) (r : GlobalDecl) → IsUnit (program_of names u) → i < length u.globals.items → r ≡ get_or u.globals.items i r → r.name.0 < length names
 name_there u names i r is h at =
     let p = program_of names u in
     let x = global_of u.graph.nodes names r in
-    let named : global_is_named p x ≡ true = each_at (global_is_named p) p.globals i x is.names.globals (global_there u names i r h at) in
-    there names r.name.0 (both (is_name x.name) (not (is_builtin x.name) || is_memset p x) named).0
+    there names r.name.0 (each_at has_name p.globals i x is.named (global_there u names i r h at))
   where
-    there : (names : List (List ℕ)) (n : ℕ) → is_name (slice_index_or names n []) ≡ true → n < length names
+    there : (names : List (List ℕ)) (n : ℕ) → is_nonempty (slice_index_or names n []) ≡ true → n < length names
     there [] zero e = cc
     there [] (suc n) e = cc
     there (y ∷ names) zero e = omega arith

@@ -12,7 +12,7 @@ use Rattle.cil_tree.specs.declared.globals.CilUnit.{CilUnit}
 use Rattle.cil_tree.specs.declared.globals.GlobalDecl as code
 use Rattle.cil_tree.specs.Tree.{GlobalDecl}
 use Rattle.cil_tree.specs.View.{global_of, program_of}
-use Rattle.cil_tree.specs.Programs.{IsProgram}
+use Rattle.cil_semantics.specs.Units.{IsUnit}
 use Rattle.cil_semantics.specs.Runs.{linkables, global_meaning}
 use Rattle.cil_link.specs.declared.entities.Definer.TheVariants.{Global as OfGlobal}
 use Rattle.cil_link.specs.declared.units.Units.{Units}
@@ -44,7 +44,7 @@ numbers_at (w ∷ vs) (x ∷ us) (suc k) v u e low h at =
 
 -- a unit of a run with the numbers of its globals
 pub record UnitIs (l : Units) (k : ℕ) (u : CilUnit) (numbers : List ℕ) : Type 0 where
-  pub program : IsProgram (program_of l.names.now u)
+  pub program : IsUnit (program_of l.names.now u)
   pub unit : slice_get (units_in l) k ≡ Some (record { program = program_of l.names.now u; entities = numbers })
   pub many : length numbers ≡ length (program_of l.names.now u).globals
 
@@ -55,7 +55,7 @@ unit_is l k u v numbers linked low unit at same =
     let found = unit_at programs k (program_of l.names.now u) there in
     let equal : numbers ≡ found.entities = same ∙ numbers_at l.entities.now.numbers.items (in_run programs) k v _ linked.numbers (numbers_there l k linked low) at found.unit_is in
     record {
-      program = subst (λ (w : CilUnit). IsProgram (program_of l.names.now w)) (sym unit) (All-get_or (λ (w : CilUnit). IsProgram (program_of l.names.now w)) l.units.now k u low linked.programs);
+      program = subst (λ (w : CilUnit). IsUnit (program_of l.names.now w)) (sym unit) (All-get_or (λ (w : CilUnit). IsUnit (program_of l.names.now w)) l.units.now k u low linked.programs);
       unit = found.unit_is ∙ ap (λ (es : List ℕ). Some (let w : InRun = record { program = program_of l.names.now u; entities = es } in w)) (sym equal);
       many = ap length equal ∙ found.many;
     }

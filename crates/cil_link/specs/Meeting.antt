@@ -10,7 +10,7 @@ use Rattle.cil_tree.specs.declared.globals.CilUnit.{CilUnit}
 use Rattle.cil_tree.specs.declared.globals.GlobalDecl.{GlobalDecl}
 use Rattle.cil_tree.specs.Tree.{Program}
 use Rattle.cil_tree.specs.View.{global_of, program_of}
-use Rattle.cil_tree.specs.Programs.{IsProgram}
+use Rattle.cil_semantics.specs.Units.{IsUnit}
 use Rattle.cil_semantics.specs.Runs.{linkable, linkables}
 use Rattle.cil_link.specs.declared.entities.Definer.{Definer}
 use Rattle.cil_link.specs.declared.entities.Definer.TheVariants.{Nothing, Global, Host as OfHost}
@@ -100,7 +100,7 @@ pub record Finds (units : List InRun) (names : List (List ℕ)) (m : Met) (f : F
 
 -- a global of the unit with that number in a run, whose names are those of the pool
 pub record IsGlobalOf (units : List InRun) (u : CilUnit) (names : List (List ℕ)) (entities : List ℕ) (at : Site) (x : GlobalDecl) : Type 0 where
-  pub program : IsProgram (program_of names u)
+  pub program : IsUnit (program_of names u)
   pub unit : slice_get units at.unit.0 ≡ Some (record { program = program_of names u; entities = entities })
   pub global : slice_get (program_of names u).globals at.global.0 ≡ Some (global_of u.graph.nodes names x)
   pub numbers : length entities ≡ length (program_of names u).globals

@@ -2,7 +2,7 @@
 use Rattle.std.specs.Prelude.{◌≡◌, List, map, All}
 use Rattle.cil_tree.specs.Tree.{Program}
 use Rattle.cil_tree.specs.View.{program_of}
-use Rattle.cil_tree.specs.Programs.{IsProgram}
+use Rattle.cil_semantics.specs.Units.{IsUnit}
 use Rattle.cil_link.specs.declared.units.Units.{Units}
 use Rattle.cil_link.specs.Entities.{InRun, in_run, entities_in, IsTable}
 
@@ -13,8 +13,8 @@ programs_in l = map (program_of l.names.now) l.units.now
 abbrev pub units_in : Units → List InRun
 units_in l = in_run (programs_in l)
 
--- each is well-formed, the numbers are those of their globals in the run, and the table tells what each entity is
+-- each is a unit that can be linked, the numbers are those of their globals in the run, and the table tells what each entity is
 pub record AreLinked (l : Units) : Type 0 where
-  pub programs : All (λ u. IsProgram (program_of l.names.now u)) l.units.now
+  pub programs : All (λ u. IsUnit (program_of l.names.now u)) l.units.now
   pub numbers : map (λ v. v.items) l.entities.now.numbers.items ≡ map entities_in (in_run (map (program_of l.names.now) l.units.now))
   pub table : IsTable (map (program_of l.names.now) l.units.now) l.entities.now.definers.items

@@ -3,7 +3,7 @@ ghost use Rattle.cil_base.specs.NamePool.{IsOnceEach};
 ghost use Rattle.type_graph.specs.declared.nodes.Node.{Node};
 ghost use Rattle.cil_tree.specs.Tree as plain;
 ghost use Rattle.cil_tree.specs.View.{text_at, type_at, global_of, program_of};
-ghost use Rattle.cil_tree.specs.Programs.{IsProgram};
+ghost use Rattle.cil_semantics.specs.Units.{IsUnit};
 ghost use Rattle.cil_semantics.specs.Runs.{has_function_type, linkables};
 ghost use Rattle.execution.specs.Linking.{host_names, named_among, memset_symbol};
 ghost use Rattle.cil_link.specs.Entities.{InRun, in_run, entities_in, IsTable};
@@ -238,7 +238,7 @@ fn meet_unit(
     names: &NamePool,
     found: &mut Found,
 ) -> Result<Vec<u32>, Memory>
-    requires program { IsProgram (program_of names.now u.now) }
+    requires program { IsUnit (program_of names.now u.now) }
     requires found { IsFound names.now found.old }
     ensures kept { OnOk result (IsFound names.now found.new) }
     ensures meets { (units : List InRun) (entities : List ℕ) (m : Met) → IsUnitOf units u.now names.now entities unit → Finds units names.now m found.old
@@ -263,7 +263,7 @@ fn meet_unit(
 ///
 /// Memory also comes where a number would not fit.
 pub fn entities_of(alloc: Global, units: &[CilUnit], names: &NamePool) -> Result<Entities, Memory>
-    requires { All (λ u. IsProgram (program_of names.now u)) units.now }
+    requires { All (λ u. IsUnit (program_of names.now u)) units.now }
     ensures numbers { IfOk result (λ e. map (λ v. v.items) e.numbers.items ≡ map entities_in (in_run (map (program_of names.now) units.now))) }
     ensures table { IfOk result (λ e. IsTable (map (program_of names.now) units.now) e.definers.items) }
 {

@@ -19,6 +19,8 @@ use Rattle.cil_tree.specs.View.{program_of}
 use Rattle.cil_tree.specs.Programs.{IsProgram}
 use Rattle.cil_tree.specs.WellFormedTypes.{TypesAreSmall}
 use Rattle.cil_semantics.specs.Laws.{calls_in}
+use Rattle.cil_semantics.specs.Units.{IsUnit}
+use Rattle.cil_semantics.proofs.ProgramUnits.{program_is_unit}
 use Rattle.cil_frames.specs.declared.frames.Function.{Function}
 use Rattle.cil_frames.specs.declared.frames.Entity.{Entity}
 use Rattle.cil_frames.specs.declared.frames.Entity.TheVariants.{Data as OfData, Program as OfProgram, Host as OfHost}
@@ -126,6 +128,10 @@ layouts_end us i ys h all = subst (AreInStep ys) (take_all us i h) all
     take_all (v ∷ us) zero h = absurd (omega (arith, h))
     take_all (v ∷ us) (suc n) h = ap (λ ws. v ∷ ws) (take_all us n (omega (arith, h)))
 
--- types of well-formed programs are small
-pub all_small : (names : List (List ℕ)) (us : List CilUnit) → All (λ u. IsProgram (program_of names u)) us → All (λ u. TypesAreSmall u.graph) us
-all_small names us all = All-weaker (λ u. IsProgram (program_of names u)) (λ u. TypesAreSmall u.graph) (λ u is. is.types.fit.small) us all
+-- types of units are small
+pub all_small : (names : List (List ℕ)) (us : List CilUnit) → All (λ u. IsUnit (program_of names u)) us → All (λ u. TypesAreSmall u.graph) us
+all_small names us all = All-weaker (λ u. IsUnit (program_of names u)) (λ u. TypesAreSmall u.graph) (λ u is. is.types.small) us all
+
+-- well-formed programs are units that can be linked
+pub all_units : (names : List (List ℕ)) (us : List CilUnit) → All (λ u. IsProgram (program_of names u)) us → All (λ u. IsUnit (program_of names u)) us
+all_units names us all = All-weaker (λ u. IsProgram (program_of names u)) (λ u. IsUnit (program_of names u)) (λ u is. program_is_unit (program_of names u) is) us all

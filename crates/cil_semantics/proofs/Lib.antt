@@ -6,3 +6,5 @@ mod MemoryRows
 pub mod Tameness
 pub mod ProgramLaws
 pub mod Quiet
+pub mod ProgramUnits
+mod UnitRows

@@ -2,3 +2,4 @@ pub mod Values
 pub mod Statements
 pub mod Runs
 pub mod Laws
+pub mod Units

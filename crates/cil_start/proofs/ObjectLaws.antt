@@ -35,7 +35,6 @@ use Rattle.cil_tree.specs.Tree as plain
 use Rattle.cil_tree.specs.Tree.{Item, Program, Body}
 use Rattle.cil_tree.specs.Typing.{is_function}
 use Rattle.cil_tree.specs.View.{program_of, item_of, body_of, definition_of, global_of}
-use Rattle.cil_tree.specs.Programs.{IsProgram}
 use Rattle.cil_tree.specs.Globals.{item_fits, global_fits, is_nonempty, has_definition, object_is_complete, definition_fits}
 use Rattle.cil_semantics.specs.Values.{size_in}
 use Rattle.cil_semantics.specs.Runs.{with_item, with_items, zeros, object, global_meaning, definition_meaning, function_meaning, is_main}

@@ -9,7 +9,7 @@ use Rattle.layout_lp64.specs.declared.layouts.Layouts.{Layouts}
 use Rattle.layout_lp64.specs.Tables.{InStep}
 use Rattle.cil_tree.specs.declared.globals.CilUnit.{CilUnit}
 use Rattle.cil_tree.specs.View.{global_of, program_of}
-use Rattle.cil_tree.specs.Programs.{IsProgram}
+use Rattle.cil_semantics.specs.Units.{IsUnit}
 use Rattle.cil_link.specs.declared.units.Units.{Units}
 use Rattle.cil_link.specs.Entities.{InRun, IsThere}
 use Rattle.cil_link.specs.Units.{units_in}
@@ -43,7 +43,7 @@ unit_ready l k r v ready low unit names layouts numbers entities =
     let u = r.unit.now in
     let is = unit_is l.linked k u v r.entities.now ready.linked low unit numbers entities in
     record {
-      program = subst (λ (ns : List (List ℕ)). IsProgram (program_of ns u)) (sym names) is.program;
+      program = subst (λ (ns : List (List ℕ)). IsUnit (program_of ns u)) (sym names) is.program;
       step = step_at l.layouts.now l.linked.units.now k r.layouts.now u ready.step low layouts unit;
       numbers = is.many ∙ ap (λ (ns : List (List ℕ)). length (program_of ns u).globals) (sym names);
     }

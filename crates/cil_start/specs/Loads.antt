@@ -16,7 +16,7 @@ use Rattle.execution.specs.Runs.{writable, entity_held}
 use Rattle.cil_tree.specs.Tree.{Item, GlobalDecl, Program}
 use Rattle.cil_tree.specs.Globals.{path_part}
 use Rattle.cil_tree.specs.View.{program_of}
-use Rattle.cil_tree.specs.Programs.{IsProgram}
+use Rattle.cil_semantics.specs.Units.{IsUnit}
 use Rattle.cil_semantics.specs.Values.{size_in, scalar_in}
 use Rattle.cil_semantics.specs.Runs.{constant_value, with_item, with_items, zeros, object, global_meaning}
 use Rattle.cil_start.specs.declared.images.Written.{Written}
@@ -28,9 +28,9 @@ use Rattle.cil_link.specs.Entities.{InRun, meant}
 abbrev pub program_in : Loaded → Program
 program_in l = program_of l.names.now l.unit.now
 
--- it is well-formed, the layouts are those of its types, and each of its globals has a number in the run
+-- it is a unit that can be linked, the layouts are those of its types, and each of its globals has a number in the run
 pub record IsReady (l : Loaded) : Type 0 where
-  pub program : IsProgram (program_of l.names.now l.unit.now)
+  pub program : IsUnit (program_of l.names.now l.unit.now)
   pub step : InStep l.layouts.now l.unit.now.graph
   pub numbers : length l.entities.now ≡ length (program_of l.names.now l.unit.now).globals
 

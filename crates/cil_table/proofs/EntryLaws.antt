@@ -1,4 +1,4 @@
--- Device: the entries of a table are what the globals of a well-formed program mean.
+-- Device: the entries of a table are what the globals of a unit mean.
 use Rattle.std.proofs.Common.{◌≡◌, ℕ, ◌<◌, Bool, true, List, length, is_some, Option, Some, None, refl, sym, subst}
 use Rattle.byte_mem.specs.declared.values.Byte.{Byte}
 use Rattle.byte_mem.specs.Steps.{◌>>=◌}
@@ -11,7 +11,7 @@ use Rattle.cil_tree.specs.Tree.{Program, Body, Definition, Declared, Zeros, Imag
 use Rattle.cil_tree.specs.Typing.{scope_of}
 use Rattle.cil_tree.specs.View.{global_of}
 use Rattle.cil_tree.specs.Globals.{global_fits, has_definition, object_is_complete, definition_fits}
-use Rattle.cil_tree.specs.Programs.{IsProgram}
+use Rattle.cil_semantics.specs.Units.{IsUnit}
 use Rattle.cil_semantics.specs.Values.{kind_in}
 use Rattle.cil_semantics.specs.Runs.{zeros, with_items, object, is_main, kinds_of, start_of, body_meaning, definition_meaning}
 use Rattle.cil_semantics.specs.Laws.{calls_in}
@@ -34,7 +34,7 @@ use Rattle.cil_table.specs.Parts.{HasParts}
 use Rattle.cil_table.specs.Courses.{function_course}
 use Rattle.cil_table.specs.Entries.{IsGlobal, IsGlobalEntry}
 
-pub global_fit : (p : Program) (x : plain.GlobalDecl) → IsProgram p → IsGlobal p x → global_fits p x ≡ true
+pub global_fit : (p : Program) (x : plain.GlobalDecl) → IsUnit p → IsGlobal p x → global_fits p x ≡ true
 global_fit p x is g = each_at (global_fits p) p.globals g.number x is.globals g.there
 
 -- what is known of a global of a program that is loaded
@@ -59,7 +59,7 @@ object_entry u programs at (Some bytes) e = refl
 abbrev AllNumbered : InRun → Type 0
 AllNumbered u = length u.entities ≡ length u.program.globals
 
-data_by : (u : InRun) (programs : List Program) (main : Bool) (t : ℕ) (d : Definition) → IsProgram u.program → AllNumbered u → has_definition (shape u.program.graph.nodes t) d ≡ true → object_is_complete u.program.graph (shape u.program.graph.nodes t) d ≡ true
+data_by : (u : InRun) (programs : List Program) (main : Bool) (t : ℕ) (d : Definition) → IsUnit u.program → AllNumbered u → has_definition (shape u.program.graph.nodes t) d ≡ true → object_is_complete u.program.graph (shape u.program.graph.nodes t) d ≡ true
     → definition_fits u.program (shape u.program.graph.nodes t) d ≡ true → IsObject d
     → IsEntity u.program.graph.abi (calls_in programs) (function_course programs u main (Some (shape u.program.graph.nodes t)) d) (definition_meaning u.program u.entities main (shape u.program.graph.nodes t) d) (Some OfData)
 data_by u programs main t Declared is all has complete fit o = absurd o
@@ -71,7 +71,7 @@ data_by u programs main t (Image items) is all has complete fit o =
     (definition_there u.program u.entities all t main (Image items) is.arena has complete fit refl)
 data_by u programs main t (Function b) is all has complete fit o = absurd o
 
-pub data_entry : (u : InRun) (x : plain.GlobalDecl) (t : ℕ) → IsProgram u.program → AllNumbered u → Fits u.program t x → IsObject x.definition → IsGlobalEntry u x (Some OfData)
+pub data_entry : (u : InRun) (x : plain.GlobalDecl) (t : ℕ) → IsUnit u.program → AllNumbered u → Fits u.program t x → IsObject x.definition → IsGlobalEntry u x (Some OfData)
 data_entry u x t is all f o = λ programs.
     subst (λ (s : Option Shape). IsEntity u.program.graph.abi (calls_in programs) (function_course programs u (is_main x) s x.definition) (s >>= λ s. definition_meaning u.program u.entities (is_main x) s x.definition) (Some OfData)) (sym f.type)
     (data_by u programs (is_main x) t x.definition is all f.has f.complete f.definition o)
@@ -86,7 +86,7 @@ body_entry u x b s e definition type h = λ programs.
     (subst (λ (t : Option Shape). BodyEntry u programs (is_main x) t b e) (sym type) (h programs))
 
 -- what is known of a loaded function
-is_loaded : (u : InRun) (programs : List Program) (x : plain.GlobalDecl) (b : Body) (main : Bool) (ret : Shape) (params : Shapes) (f : loaded.Function) → IsProgram u.program → IsGlobal u.program x → x.definition ≡ Function b
+is_loaded : (u : InRun) (programs : List Program) (x : plain.GlobalDecl) (b : Body) (main : Bool) (ret : Shape) (params : Shapes) (f : loaded.Function) → IsUnit u.program → IsGlobal u.program x → x.definition ≡ Function b
     → HasParts (scope_of u.program b) u.entities main b ret params f → IsLoaded programs u.program u.entities main b ret params f
 is_loaded u programs x b main ret params f is g definition parts = record {
   runs = fitting_bodies_run u.program is g.number x b g.there definition programs u.entities (datum_of f.end) f.code.items parts.steps;
@@ -115,7 +115,7 @@ function_by u programs main b ret params proto variadic f is =
     (loaded_functions_are_meant programs u.program u.entities main b ret params proto variadic (function_of u main b ret params proto variadic) f refl is)
 
 -- a loaded function is what its global means
-pub function_entry : (u : InRun) (x : plain.GlobalDecl) (b : Body) (ret : Shape) (params : Shapes) (proto variadic : Bool) (f : loaded.Function) → IsProgram u.program → IsGlobal u.program x
+pub function_entry : (u : InRun) (x : plain.GlobalDecl) (b : Body) (ret : Shape) (params : Shapes) (proto variadic : Bool) (f : loaded.Function) → IsUnit u.program → IsGlobal u.program x
     → x.definition ≡ Function b → x.type ≡ Some (FuncType ret params proto variadic) → HasParts (scope_of u.program b) u.entities (is_main x) b ret params f → IsGlobalEntry u x (Some (OfProgram f))
 function_entry u x b ret params proto variadic f is g definition type parts =
     body_entry u x b (FuncType ret params proto variadic) (Some (OfProgram f)) definition type

@@ -2,7 +2,7 @@ ghost use Rattle.std.specs.Prelude.{◌≡◌, true, All, IfOk};
 ghost use Rattle.cil_tree.specs.View.{program_of};
 ghost use Rattle.cil_tree.specs.Programs.{IsProgram};
 
-use crate::units::{Digit, Form, Row, unit};
+use crate::units::{Digit, Form, Locals, Row, unit};
 use cil_base::{Bytes, Env, Memory, NamePool, Outcome};
 use cil_check::check;
 use cil_runner::run_cil;
@@ -41,17 +41,30 @@ fn environment(alloc: Global) -> Result<Env, Memory> {
 }
 
 /// The status of the run of units, which are linked; Memory also where one of them is no well-formed program.
+fn run_units(alloc: Global, units: &[CilUnit], names: &NamePool) -> Result<Option<u8>, Memory> {
+    if !all_check(units, names)? {
+        return Err(Memory);
+    }
+    let env = environment(alloc)?;
+    Ok(status(&run_cil(alloc, units, names, &env, 10)?))
+}
+
+/// The names of locals that no global of the rows has.
+fn own_locals() -> Locals<'static> {
+    Locals {
+        sum: b"sum",
+        digit: b"digit",
+    }
+}
+
+/// The status of the run of units with these globals.
 fn run(alloc: Global, rows: &[&[Row]]) -> Result<Option<u8>, Memory> {
     let mut names = NamePool::new(alloc);
     let mut units = Vec::new(alloc);
     for unit_rows in rows {
-        units.push(unit(alloc, &mut names, *unit_rows)?)?;
+        units.push(unit(alloc, &mut names, own_locals(), *unit_rows)?)?;
     }
-    if !all_check(&units, &names)? {
-        return Err(Memory);
-    }
-    let env = environment(alloc)?;
-    Ok(status(&run_cil(alloc, &units, &names, &env, 10)?))
+    run_units(alloc, &units, &names)
 }
 
 /// An external object and an external function are one in both units (6.2.2p2).
@@ -163,5 +176,36 @@ fn what_no_unit_defines_is_undefined(rt: HostRuntime) -> Result<(), Fail> {
         ]],
     )?;
     assert_eq!(rt; status, None);
+    Ok(())
+}
+
+/// Locals have names of globals of another unit, which they neither hide nor are (6.2.1p4, 6.2.2p6).
+#[test]
+fn locals_are_no_globals_of_another_unit(rt: HostRuntime) -> Result<(), Fail> {
+    let alloc = rt.alloc();
+    let mut names = NamePool::new(alloc);
+    let mut units = Vec::new(alloc);
+    let defining = [
+        Row::External(b"n", Form::Object(Some(1))),
+        Row::External(b"g", Form::Function(Some(&[Digit::Number(2)]))),
+        Row::External(
+            b"f",
+            Form::Function(Some(&[Digit::Value(0), Digit::Call(1)])),
+        ),
+    ];
+    units.push(unit(alloc, &mut names, own_locals(), &defining)?)?;
+    let calling = [
+        Row::External(b"f", Form::Function(None)),
+        Row::External(
+            b"main",
+            Form::Function(Some(&[Digit::Number(2), Digit::Call(0)])),
+        ),
+    ];
+    let locals = Locals {
+        sum: b"n",
+        digit: b"g",
+    };
+    units.push(unit(alloc, &mut names, locals, &calling)?)?;
+    assert_eq!(rt; run_units(alloc, &units, &names)?, Some(32));
     Ok(())
 }

@@ -36,6 +36,13 @@ pub(crate) enum Row<'a> {
     Internal(&'a [u8], Form<'a>),
 }
 
+/// The names of the two locals that each function of a unit has.
+#[derive(Clone, Copy, Debug)]
+pub(crate) struct Locals<'a> {
+    pub(crate) sum: &'a [u8],
+    pub(crate) digit: &'a [u8],
+}
+
 /// The numbers of the types `int` and `int ( void )`, and of the names of the two locals.
 #[derive(Clone, Copy, Debug)]
 struct Numbers {
@@ -179,16 +186,21 @@ fn add_function(g: &mut TypeGraph, int: TypeId) -> Result<TypeId, Memory>
     })
 }
 
-/// The unit with these globals.
-pub(crate) fn unit(alloc: Global, names: &mut NamePool, rows: &[Row]) -> Result<CilUnit, Memory> {
+/// The unit with these globals, whose functions have locals of these names.
+pub(crate) fn unit(
+    alloc: Global,
+    names: &mut NamePool,
+    locals: Locals,
+    rows: &[Row],
+) -> Result<CilUnit, Memory> {
     let mut graph = TypeGraph::new(alloc);
     let int = graph.add_node(Node::Int(IntKind::Int))?;
     let function = add_function(&mut graph, int)?;
     let numbers = Numbers {
         int,
         function,
-        sum: names.intern(b"sum")?,
-        digit: names.intern(b"digit")?,
+        sum: names.intern(locals.sum)?,
+        digit: names.intern(locals.digit)?,
     };
     let mut globals = Vec::new(alloc);
     for row in rows {

@@ -3,7 +3,7 @@ use Rattle.std.proofs.lemmas.List.{map-append, length-map}
 use Rattle.std.proofs.lemmas.List.Elements.{All-get_or}
 use Rattle.cil_tree.specs.declared.globals.CilUnit.{CilUnit}
 use Rattle.cil_tree.specs.View.{program_of}
-use Rattle.cil_tree.specs.Programs.{IsProgram}
+use Rattle.cil_semantics.specs.Units.{IsUnit}
 use Rattle.cil_link.specs.Entities.{in_run}
 use Rattle.cil_link.specs.Meeting.{Finding}
 use Rattle.cil_link.proofs.EntityLaws.{units_begin, units_next, units_end, unit_at, unit_read, unit_of_run}
@@ -19,8 +19,8 @@ loop-i-init c =
 
 pub meet_unit-requires-clause-program : goal.meet_unit-requires-clause-program
 meet_unit-requires-clause-program c =
-    subst (λ (u : CilUnit). IsProgram (program_of c.args.names.now u)) (sym c.index-units-i.is)
-    (All-get_or (λ (u : CilUnit). IsProgram (program_of c.args.names.now u)) c.args.units.now c.loop-i.i c.index-units-i.result c.loop-i-test.true c.requires)
+    subst (λ (u : CilUnit). IsUnit (program_of c.args.names.now u)) (sym c.index-units-i.is)
+    (All-get_or (λ (u : CilUnit). IsUnit (program_of c.args.names.now u)) c.args.units.now c.loop-i.i c.index-units-i.result c.loop-i-test.true c.requires)
 
 pub loop-i-preserved : goal.loop-i-preserved
 loop-i-preserved c =

@@ -5,12 +5,14 @@ use Rattle.cil_tree.specs.declared.globals.CilUnit.{CilUnit}
 use Rattle.cil_tree.specs.View.{program_of}
 use Rattle.cil_tree.specs.Programs.{IsProgram}
 use Rattle.cil_runner.specs.Machine.{Loads}
+use Rattle.cil_runner.proofs.Loads.{all_units}
 use Rattle.cil_runner.proofs.machine.Machine.load.Goals as goal
 
 pub link-requires : goal.link-requires
 link-requires c =
     let is_program = λ (u : CilUnit). IsProgram (program_of c.args.names.now u) in
-    All-same is_program c.from_ref.result.now (c.args.u.now ∷ []) c.from_ref.ensures.value (All-cons is_program c.args.u.now [] c.requires (All-nil is_program))
+    let all = All-cons is_program c.args.u.now [] c.requires (All-nil is_program) in
+    all_units c.args.names.now c.from_ref.result.now (All-same is_program c.from_ref.result.now (c.args.u.now ∷ []) c.from_ref.ensures.value all)
 
 pub returns-clause-loads : goal.returns-clause-loads
 returns-clause-loads c =
