@@ -1,4 +1,5 @@
 pub mod TermSteps
+pub mod Numbers
 pub mod Differences
 pub mod Meanings
 pub mod Parts

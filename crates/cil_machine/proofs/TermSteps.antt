@@ -2,15 +2,13 @@
 use Rattle.std.proofs.Common.{◌≡◌, ℤ, true, ap, ◌∙◌, subst}
 use Rattle.std.specs.Ordering.{int_eq}
 use Rattle.std.proofs.lemmas.Bool.Decides.{Decides-int_eq}
-use Rattle.cil_base.specs.declared.kinds.Abi.{Abi}
+use Rattle.cil_base.specs.declared.kinds.IntKind.{IntKind}
 use Rattle.cil_base.specs.Integer.{IsOf, wrapped}
-use Rattle.byte_mem.specs.declared.values.Scalar.{Scalar}
-use Rattle.byte_mem.specs.Scalar.{kind_of}
 use Rattle.cil_base.proofs.IntegerLaws.{wrapped_value}
 
 -- a number that its conversion leaves is of the kind
-pub number_value : (abi : Abi) (s : Scalar) (n : ℤ) → int_eq (wrapped (kind_of abi s) n) n ≡ true → IsOf (kind_of abi s) n
-number_value abi s n e = subst (IsOf (kind_of abi s)) ((Decides-int_eq (wrapped (kind_of abi s) n) n).0 e) (wrapped_value (kind_of abi s) n)
+pub number_value : (kind : IntKind) (n : ℤ) → int_eq (wrapped kind n) n ≡ true → IsOf kind n
+number_value kind n e = subst (IsOf kind) ((Decides-int_eq (wrapped kind n) n).0 e) (wrapped_value kind n)
 
 -- what is made of two things, at what they are
 pub at_both : {A B C : Type 0} (f : A → B → C) {x y : A} {u v : B} → x ≡ y → u ≡ v → f x u ≡ f y v

@@ -7,9 +7,10 @@ use Rattle.cil_base.specs.declared.operators.BinOp.{BinOp}
 use Rattle.cil_base.specs.declared.operators.BinOp.TheVariants.{Shl, Shr}
 use Rattle.cil_base.specs.declared.operators.UnOp.{UnOp}
 use Rattle.cil_base.specs.Integer.{wrapped, long_of}
-use Rattle.cil_base.specs.Arithmetic.{told}
+use Rattle.cil_base.specs.Arithmetic.{told, arith_of}
 use Rattle.byte_mem.specs.declared.pointers.ObjName.{ObjName}
 use Rattle.byte_mem.specs.declared.pointers.ObjName.TheVariants.{Entity, Local}
+use Rattle.byte_mem.specs.declared.pointers.Pointer.{Pointer}
 use Rattle.byte_mem.specs.declared.values.Scalar.{Scalar}
 use Rattle.byte_mem.specs.declared.values.Scalar.TheVariants.{Int as OfKind, Ptr as OfPointer}
 use Rattle.byte_mem.specs.declared.values.Value.{Value}
@@ -25,6 +26,10 @@ use Rattle.cil_machine.specs.declared.terms.Spot.{Spot, Entity as Global, Local 
 -- the number as a value of the scalar, none where it is not one of its kind
 abbrev pub number : Abi → Scalar → ℤ → Option Value
 number abi s n = only_if (int_eq (wrapped (kind_of abi s) n) n) (Int n)
+
+-- the number, none where it is not one of the kind
+abbrev pub number_as : IntKind → ℤ → Option ℤ
+number_as kind n = only_if (int_eq (wrapped kind n) n) n
 
 abbrev pub number_from : Abi → Scalar → Option ℤ → Option Value
 number_from abi s n = n >>= number abi s
@@ -81,6 +86,34 @@ of_one v f = v >>= f
 abbrev pub of_two : Option Value → Option Value → (Value → Value → Option Value) → Option Value
 of_two v w f = v >>= λ v. w >>= f v
 
+abbrev pub of_number : Option ℤ → (ℤ → Option ℤ) → Option ℤ
+of_number a f = a >>= f
+
+abbrev pub of_numbers : Option ℤ → Option ℤ → (ℤ → ℤ → Option ℤ) → Option ℤ
+of_numbers a b f = a >>= λ a. b >>= f a
+
+-- the number of a value, none where it is undefined, or no number
+abbrev pub number_of : Option Value → Option ℤ
+number_of v = v >>= number_in
+
+-- a value that is a number wherever it is defined, where an integer is asked for
+abbrev pub as_number : Scalar → Option Value → Option Value
+as_number (OfKind kind) v = option_map Int (number_of v)
+as_number OfPointer v = None
+
+-- 1 or 0 for a test, as a number of the kind
+abbrev pub told_as : IntKind → Option Bool → Option ℤ
+told_as kind holds = holds >>= λ h. number_as kind (told h)
+
+-- a shift of a number
+abbrev pub moved : Bool → IntKind → ℤ → ℤ → Option ℤ
+moved true kind a b = arith_of Shl kind a b
+moved false kind a b = arith_of Shr kind a b
+
+-- the value of a scalar where a pointer leads
+abbrev pub read_at : Abi → Memory → Scalar → Option Pointer → Option Value
+read_at abi m s place = place >>= λ at. load abi m at s
+
 abbrev mutual
   -- the value of a term, for an activation, as a value of the scalar
   pub term_value : Abi → Memory → ℕ → Scalar → Term → Option Value
@@ -107,3 +140,11 @@ abbrev mutual
   spot_place abi m act (Member' offset p whole) = spot_place abi m act whole >>= λ v. member_place m v offset
   spot_place abi m act (Element' size kind p whole q e) = spot_place abi m act whole >>= λ v. term_value abi m act (OfKind kind) e >>= λ i. element_place m v i size
   spot_place abi m act NoSpot = None
+
+-- the number that a term is as a value of the kind; none where it is undefined, or no number
+abbrev pub number_by : Abi → Memory → ℕ → IntKind → Term → Option ℤ
+number_by abi m act kind t = number_of (term_value abi m act (OfKind kind) t)
+
+-- whether a term compares unequal to 0 (C11 6.8.4.1p2)
+abbrev pub tested : Abi → Memory → ℕ → Scalar → Term → Option Bool
+tested abi m act of t = term_value abi m act of t >>= truth m of

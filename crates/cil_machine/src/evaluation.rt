@@ -1,27 +1,37 @@
-ghost use Rattle.std.specs.Prelude.{◌≡◌, IfSome, Some, not, option_map};
-ghost use Rattle.byte_mem.specs.Scalar.{IsValue};
+ghost use Rattle.std.specs.Prelude.{◌≡◌, IfSome, Some, not, option_map, pos};
+ghost use Rattle.std.specs.Ordering.{int_eq};
+ghost use Rattle.byte_mem.specs.Scalar.{IsValue, is_boolean};
 ghost use Rattle.byte_mem.specs.Store.{memory};
 ghost use Rattle.byte_mem.specs.Memory.{load};
-ghost use Rattle.byte_mem.specs.Operator.{computed, unary, truth, converted, compared, number_in, pointer_in, pointer_sum, pointer_less, pointer_difference, member_place, element_place, place_of};
+ghost use Rattle.byte_mem.specs.Operator.{truth, converted, compared, number_in, pointer_in, pointer_sum, pointer_less, pointer_difference, member_place, element_place, place_of};
+ghost use Rattle.cil_base.specs.Arithmetic.{arith_of, unary_of, told};
+ghost use Rattle.cil_base.specs.Integer.{IsOf, long_of, wrapped};
 ghost use Rattle.cil_base.specs.declared.kinds.Abi.{Abi};
-ghost use Rattle.cil_machine.specs.Terms.{of_one, of_two, number, number_from, told_from, term_value, spot_place, shifted, loaded, compared_number, unary_at, arithmetic_at, shifted_at, pointer_for, difference_at, pointer_at};
-ghost use Rattle.cil_base.specs.Integer.{long_of};
+ghost use Rattle.cil_machine.specs.Instructions.{pointer_from};
+ghost use Rattle.cil_machine.specs.Terms.{of_one, of_two, of_number, of_numbers, number_as, number, number_from, number_of, as_number, told_from, told_as, read_at, term_value, number_by, tested, spot_place, moved, pointer_for, difference_at, pointer_at};
 
 use crate::terms::{Spot, Term};
-use byte_mem::{ObjName, Pointer, Scalar, Store, Value, compute, compute_unary, convert};
+use byte_mem::{ObjName, Pointer, Scalar, Store, Value, convert};
 use cil_base::{Abi, BinOp, IntKind, UnOp, arith, wrap};
 
-/// A number as a value of a scalar, None where it is not one of its kind.
+/// A number as one of a kind, None where it is none of its values.
 #[tactic(auto, using(crate::proofs::TermSteps::number_value))]
+fn number_as(kind: IntKind, n: i128) -> Option<i128>
+    ensures number { result ≡ number_as kind n }
+    ensures value { IfSome result (IsOf kind) }
+{
+    let wrapped = wrap(kind, n);
+    if wrapped == n { Some(n) } else { None }
+}
+
+/// A number as a value of a scalar, None where it is not one of its kind.
 fn number(abi: Abi, s: Scalar, n: i128) -> Option<Value>
     ensures number { result ≡ number abi s n }
     ensures value { IfSome result (IsValue abi s) }
 {
-    let wrapped = wrap(s.kind(abi), n);
-    if wrapped == n {
-        Some(Value::Int(n))
-    } else {
-        None
+    match number_as(s.kind(abi), n) {
+        Some(n) => Some(Value::Int(n)),
+        None => None,
     }
 }
 
@@ -33,122 +43,30 @@ fn told(abi: Abi, s: Scalar, holds: bool) -> Option<Value>
     number(abi, s, if holds { 1 } else { 0 })
 }
 
-/// An operator on two values of a kind, which are asked for as values of a scalar.
-fn arithmetic_at(abi: Abi, s: Scalar, op: BinOp, v: Value, w: Value) -> Option<Value>
-    requires left { IsValue abi s v }
-    requires right { IsValue abi s w }
-    ensures computed { result ≡ arithmetic_at s op v w }
-    ensures value { IfSome result (IsValue abi s) }
+/// A shift of a number of a kind by another number.
+fn moved(left: bool, kind: IntKind, a: i128, b: i128) -> Option<i128>
+    requires { IsOf kind a }
+    ensures number { result ≡ moved left kind a b }
+    ensures value { IfSome result (IsOf kind) }
 {
-    match s {
-        Scalar::Int(kind) => arithmetic(abi, op, kind, v, w),
-        Scalar::Ptr => None,
-    }
-}
-
-/// An operator on two values of a kind.
-fn arithmetic(abi: Abi, op: BinOp, kind: IntKind, v: Value, w: Value) -> Option<Value>
-    requires left { IsValue abi (Scalar.Int kind) v }
-    requires right { IsValue abi (Scalar.Int kind) w }
-    ensures computed { result ≡ computed op kind v w }
-    ensures value { IfSome result (IsValue abi (Scalar.Int kind)) }
-{
-    let a = v.number()?;
-    let b = w.number()?;
-    match arith(op, kind, a, b) {
-        Some(n) => Some(Value::Int(n)),
-        None => None,
-    }
-}
-
-/// A shift of a value that is asked for as one of a scalar.
-fn shifted_at(abi: Abi, s: Scalar, left: bool, v: Value, w: Value) -> Option<Value>
-    requires { IsValue abi s v }
-    ensures computed { result ≡ shifted_at s left v w }
-    ensures value { IfSome result (IsValue abi s) }
-{
-    match s {
-        Scalar::Int(kind) => shift(abi, left, kind, v, w),
-        Scalar::Ptr => None,
-    }
-}
-
-/// A shift by a value of any kind.
-fn shift(abi: Abi, left: bool, kind: IntKind, v: Value, w: Value) -> Option<Value>
-    requires { IsValue abi (Scalar.Int kind) v }
-    ensures computed { result ≡ shifted left kind v w }
-    ensures value { IfSome result (IsValue abi (Scalar.Int kind)) }
-{
-    let a = v.number()?;
-    let b = w.number()?;
-    let moved = if left {
+    if left {
         arith(BinOp::Shl, kind, a, b)
     } else {
         arith(BinOp::Shr, kind, a, b)
-    };
-    match moved {
-        Some(n) => Some(Value::Int(n)),
-        None => None,
     }
 }
 
-/// A unary operator on a value that is asked for as one of a scalar.
-fn unary_at(abi: Abi, s: Scalar, op: UnOp, v: Value) -> Option<Value>
-    requires { IsValue abi s v }
-    ensures computed { result ≡ unary_at s op v }
-    ensures value { IfSome result (IsValue abi s) }
+/// `-` or `~` on a number of a kind, and `!` on it.
+fn unary(op: UnOp, kind: IntKind, a: i128) -> Option<i128>
+    requires { IsOf kind a }
+    ensures number { result ≡ unary_of op kind a }
+    ensures value { IfSome result (IsOf kind) }
 {
-    match s {
-        Scalar::Int(kind) => unary(abi, op, kind, v),
-        Scalar::Ptr => None,
-    }
-}
-
-/// `-` or `~` on a value of a kind, and `!` on it.
-fn unary(abi: Abi, op: UnOp, kind: IntKind, v: Value) -> Option<Value>
-    requires { IsValue abi (Scalar.Int kind) v }
-    ensures computed { result ≡ unary op kind v }
-    ensures value { IfSome result (IsValue abi (Scalar.Int kind)) }
-{
-    let a = v.number()?;
     match op {
-        UnOp::Neg => match arith(BinOp::Sub, kind, 0, a) {
-            Some(n) => Some(Value::Int(n)),
-            None => None,
-        },
-        UnOp::Compl => Some(Value::Int(wrap(kind, -1 - a))),
-        UnOp::Not => Some(Value::Int(if a == 0 { 1 } else { 0 })),
+        UnOp::Neg => arith(BinOp::Sub, kind, 0, a),
+        UnOp::Compl => Some(wrap(kind, -1 - a)),
+        UnOp::Not => Some(if a == 0 { 1 } else { 0 }),
     }
-}
-
-/// A comparison of two values of a kind, as a value of a scalar.
-fn compare(abi: Abi, s: Scalar, op: BinOp, kind: IntKind, v: Value, w: Value) -> Option<Value>
-    requires left { IsValue abi (Scalar.Int kind) v }
-    requires right { IsValue abi (Scalar.Int kind) w }
-    ensures computed { result ≡ number_from abi s (compared_number op kind v w) }
-    ensures value { IfSome result (IsValue abi s) }
-{
-    let a = v.number()?;
-    let b = w.number()?;
-    let n = arith(op, kind, a, b)?;
-    number(abi, s, n)
-}
-
-/// The value of a scalar in an object.
-fn loaded(mem: &Store, s: Scalar, place: Value) -> Option<Value>
-    ensures loaded { result ≡ loaded mem.now.abi (memory mem.now) s place }
-    ensures value { IfSome result (IsValue mem.now.abi s) }
-{
-    mem.load(place.pointer()?, s)
-}
-
-/// Whether a value of a scalar compares equal to 0, as a value of another.
-fn negated(mem: &Store, s: Scalar, t: Scalar, v: Value) -> Option<Value>
-    ensures told { result ≡ told_from mem.now.abi s (option_map not (truth (memory mem.now) t v)) }
-    ensures value { IfSome result (IsValue mem.now.abi s) }
-{
-    let holds = mem.truth(t, v)?;
-    told(mem.abi(), s, !holds)
 }
 
 /// A comparison of two pointers, as a value of a scalar.
@@ -178,14 +96,21 @@ fn less(mem: &Store, size: u32, kind: IntKind, v: Value, i: Value) -> Option<Val
     mem.pointer_less(v, i, size)
 }
 
-/// A pointer to what has a name.
+/// A pointer to the beginning of what has a name.
+fn beginning(name: ObjName) -> Pointer
+    ensures { Value.Ptr result ≡ pointer_at name }
+{
+    Pointer { name, offset: 0 }
+}
+
+/// A pointer to what has a name, as a value.
 fn to_name(mem: &Store, name: ObjName) -> Value
     ensures pointer { result ≡ pointer_at name }
     ensures value { IsValue mem.now.abi Scalar.Ptr result }
 {
     // The store tells the data model alone.
     let _abi = mem.abi();
-    Value::Ptr(Pointer { name, offset: 0 })
+    Value::Ptr(beginning(name))
 }
 
 /// The place of an element, by an index of a kind.
@@ -241,6 +166,13 @@ fn converted(mem: &Store, s: Scalar, v: Value) -> Option<Value>
     Some(convert(mem.abi(), s, v))
 }
 
+/// Whether the kind is _Bool.
+fn is_boolean(kind: IntKind) -> bool
+    ensures { result ≡ is_boolean kind }
+{
+    kind == IntKind::Bool
+}
+
 /// What a pointer points to.
 fn pointed(mem: &Store, v: Value) -> Option<Value>
     requires { IsValue mem.now.abi Scalar.Ptr v }
@@ -250,6 +182,18 @@ fn pointed(mem: &Store, v: Value) -> Option<Value>
     // The store tells the data model alone.
     let _abi = mem.abi();
     v.place()
+}
+
+/// A number of a kind, as a value.
+fn whole(abi: Abi, kind: IntKind, n: Option<i128>) -> Option<Value>
+    requires { IfSome n (IsOf kind) }
+    ensures value { result ≡ option_map Value.Int n }
+    ensures scalar { IfSome result (IsValue abi (Scalar.Int kind)) }
+{
+    match n {
+        Some(n) => Some(Value::Int(n)),
+        None => None,
+    }
 }
 
 /// A pointer, where it is asked for as a value of a scalar.
@@ -283,88 +227,146 @@ fn difference_at(mem: &Store, s: Scalar, v: Value, w: Value, size: u32) -> Optio
     }
 }
 
-// Each operator is a function of its own: a function fills its locals whenever it is entered, and terms are many.
+// Each operator is a function of its own: a function fills its locals whenever it is entered, and terms are many. What
+// gives only numbers is computed on numbers, which are smaller than values.
 
 /// What stands at a place.
 #[cycle(evaluation)]
 fn value_at(mem: &Store, act: u64, s: Scalar, place: &Spot) -> Option<Value>
-    ensures value { result ≡ of_one (spot_place mem.now.abi (memory mem.now) act place.now) (loaded mem.now.abi (memory mem.now) s) }
+    ensures value { result ≡ read_at mem.now.abi (memory mem.now) s (pointer_from mem.now.abi (memory mem.now) act place.now) }
     ensures scalar { IfSome result (IsValue mem.now.abi s) }
 {
-    loaded(mem, s, spot_place(mem, act, place)?)
+    mem.load(place_pointer(mem, act, place)?, s)
+}
+
+/// The number that stands at a place.
+#[cycle(evaluation)]
+fn number_at(mem: &Store, act: u64, kind: IntKind, place: &Spot) -> Option<i128>
+    ensures number { result ≡ number_of (read_at mem.now.abi (memory mem.now) (Scalar.Int kind) (pointer_from mem.now.abi (memory mem.now) act place.now)) }
+    ensures value { IfSome result (IsOf kind) }
+{
+    mem.load(place_pointer(mem, act, place)?, Scalar::Int(kind))?
+        .number()
+}
+
+/// Whether a number of a kind is none but 0.
+#[cycle(evaluation)]
+fn is_some_number(mem: &Store, act: u64, kind: IntKind, t: &Term) -> Option<bool>
+    ensures { result ≡ option_map (λ n. not (int_eq n (pos 0))) (number_by mem.now.abi (memory mem.now) act kind t.now) }
+{
+    Some(term_number(mem, act, kind, t)? != 0)
+}
+
+/// Whether a term, as a value of a scalar, compares unequal to 0 (C11 6.8.4.1p2). None exactly where that is undefined.
+#[cycle(evaluation)]
+pub fn term_truth(mem: &Store, act: u64, of: Scalar, t: &Term) -> Option<bool>
+    ensures { result ≡ tested mem.now.abi (memory mem.now) act of t.now }
+{
+    match of {
+        Scalar::Int(kind) => is_some_number(mem, act, kind, t),
+        Scalar::Ptr => mem.truth(of, term_value(mem, act, of, t)?),
+    }
 }
 
 /// Whether an operand compares equal to 0.
 #[cycle(evaluation)]
 fn value_of_not(mem: &Store, act: u64, s: Scalar, of: Scalar, e: &Term) -> Option<Value>
-    ensures value { result ≡ of_one (term_value mem.now.abi (memory mem.now) act of e.now) (λ v. told_from mem.now.abi s (option_map not (truth (memory mem.now) of v))) }
+    ensures value { result ≡ told_from mem.now.abi s (option_map not (tested mem.now.abi (memory mem.now) act of e.now)) }
     ensures scalar { IfSome result (IsValue mem.now.abi s) }
 {
-    negated(mem, s, of, term_value(mem, act, of, e)?)
+    let holds = term_truth(mem, act, of, e)?;
+    told(mem.abi(), s, !holds)
+}
+
+/// The same as a number of a kind.
+#[cycle(evaluation)]
+fn number_of_not(mem: &Store, act: u64, kind: IntKind, of: Scalar, e: &Term) -> Option<i128>
+    ensures number { result ≡ told_as kind (option_map not (tested mem.now.abi (memory mem.now) act of e.now)) }
+    ensures value { IfSome result (IsOf kind) }
+{
+    let holds = term_truth(mem, act, of, e)?;
+    number_as(kind, if holds { 0 } else { 1 })
 }
 
 /// A unary operator on an operand.
 #[cycle(evaluation)]
-fn value_of_unary(mem: &Store, act: u64, s: Scalar, op: UnOp, e: &Term) -> Option<Value>
-    ensures value { result ≡ of_one (term_value mem.now.abi (memory mem.now) act s e.now) (unary_at s op) }
-    ensures scalar { IfSome result (IsValue mem.now.abi s) }
+fn number_of_unary(mem: &Store, act: u64, kind: IntKind, op: UnOp, e: &Term) -> Option<i128>
+    ensures number { result ≡ of_number (number_by mem.now.abi (memory mem.now) act kind e.now) (unary_of op kind) }
+    ensures value { IfSome result (IsOf kind) }
 {
-    unary_at(mem.abi(), s, op, term_value(mem, act, s, e)?)
+    unary(op, kind, term_number(mem, act, kind, e)?)
 }
 
 /// An operator on two operands of a kind.
 #[cycle(evaluation)]
-fn value_of_arithmetic(
+fn number_of_arithmetic(
     mem: &Store,
     act: u64,
-    s: Scalar,
+    kind: IntKind,
     op: BinOp,
     e: &Term,
     f: &Term,
-) -> Option<Value>
-    ensures value { result ≡ of_two (term_value mem.now.abi (memory mem.now) act s e.now) (term_value mem.now.abi (memory mem.now) act s f.now) (arithmetic_at s op) }
-    ensures scalar { IfSome result (IsValue mem.now.abi s) }
+) -> Option<i128>
+    ensures number { result ≡ of_numbers (number_by mem.now.abi (memory mem.now) act kind e.now) (number_by mem.now.abi (memory mem.now) act kind f.now) (arith_of op kind) }
+    ensures value { IfSome result (IsOf kind) }
 {
-    let v = term_value(mem, act, s, e)?;
-    arithmetic_at(mem.abi(), s, op, v, term_value(mem, act, s, f)?)
+    let a = term_number(mem, act, kind, e)?;
+    let b = term_number(mem, act, kind, f)?;
+    arith(op, kind, a, b)
 }
 
-/// A shift of an operand by one of a kind.
+/// A shift of an operand by one of another kind.
 #[cycle(evaluation)]
-fn value_of_shift(
+fn number_of_shift(
     mem: &Store,
     act: u64,
-    s: Scalar,
+    kind: IntKind,
     left: bool,
     by: IntKind,
     e: &Term,
     f: &Term,
-) -> Option<Value>
-    ensures value { result ≡ of_two (term_value mem.now.abi (memory mem.now) act s e.now) (term_value mem.now.abi (memory mem.now) act (Scalar.Int by) f.now) (shifted_at s left) }
-    ensures scalar { IfSome result (IsValue mem.now.abi s) }
+) -> Option<i128>
+    ensures number { result ≡ of_numbers (number_by mem.now.abi (memory mem.now) act kind e.now) (number_by mem.now.abi (memory mem.now) act by f.now) (moved left kind) }
+    ensures value { IfSome result (IsOf kind) }
 {
-    let v = term_value(mem, act, s, e)?;
-    let by = Scalar::Int(by);
-    shifted_at(mem.abi(), s, left, v, term_value(mem, act, by, f)?)
+    let a = term_number(mem, act, kind, e)?;
+    let b = term_number(mem, act, by, f)?;
+    moved(left, kind, a, b)
 }
 
-/// A comparison of two operands of a kind.
+/// A comparison of two operands of a kind, as a value of a scalar.
 #[cycle(evaluation)]
 fn value_of_compare(
     mem: &Store,
     act: u64,
     s: Scalar,
     op: BinOp,
-    kind: IntKind,
+    of: IntKind,
     e: &Term,
     f: &Term,
 ) -> Option<Value>
-    ensures value { result ≡ of_two (term_value mem.now.abi (memory mem.now) act (Scalar.Int kind) e.now) (term_value mem.now.abi (memory mem.now) act (Scalar.Int kind) f.now) (λ v w. number_from mem.now.abi s (compared_number op kind v w)) }
+    ensures value { result ≡ number_from mem.now.abi s (of_numbers (number_by mem.now.abi (memory mem.now) act of e.now) (number_by mem.now.abi (memory mem.now) act of f.now) (arith_of op of)) }
     ensures scalar { IfSome result (IsValue mem.now.abi s) }
 {
-    let v = term_value(mem, act, Scalar::Int(kind), e)?;
-    let w = term_value(mem, act, Scalar::Int(kind), f)?;
-    compare(mem.abi(), s, op, kind, v, w)
+    let n = number_of_arithmetic(mem, act, of, op, e, f)?;
+    number(mem.abi(), s, n)
+}
+
+/// The same as a number of a kind.
+#[cycle(evaluation)]
+fn number_of_compare(
+    mem: &Store,
+    act: u64,
+    kind: IntKind,
+    op: BinOp,
+    of: IntKind,
+    e: &Term,
+    f: &Term,
+) -> Option<i128>
+    ensures number { result ≡ of_number (of_numbers (number_by mem.now.abi (memory mem.now) act of e.now) (number_by mem.now.abi (memory mem.now) act of f.now) (arith_of op of)) (number_as kind) }
+    ensures value { IfSome result (IsOf kind) }
+{
+    number_as(kind, number_of_arithmetic(mem, act, of, op, e, f)?)
 }
 
 /// The sum of a pointer and an integer of a kind.
@@ -440,6 +442,38 @@ fn value_of_relation(
     relation(mem, s, op, v, w)
 }
 
+/// The number of a difference of two pointers, as a value of a kind.
+#[cycle(evaluation)]
+fn number_of_difference(
+    mem: &Store,
+    act: u64,
+    kind: IntKind,
+    size: u32,
+    e: &Term,
+    f: &Term,
+) -> Option<i128>
+    ensures number { result ≡ number_of (of_two (term_value mem.now.abi (memory mem.now) act Scalar.Ptr e.now) (term_value mem.now.abi (memory mem.now) act Scalar.Ptr f.now) (λ v w. difference_at mem.now.abi (Scalar.Int kind) (memory mem.now) v w size)) }
+    ensures value { IfSome result (IsOf kind) }
+{
+    value_of_difference(mem, act, Scalar::Int(kind), size, e, f)?.number()
+}
+
+/// The number of a comparison of two pointers, as a value of a kind.
+#[cycle(evaluation)]
+fn number_of_relation(
+    mem: &Store,
+    act: u64,
+    kind: IntKind,
+    op: BinOp,
+    e: &Term,
+    f: &Term,
+) -> Option<i128>
+    ensures number { result ≡ number_of (of_two (term_value mem.now.abi (memory mem.now) act Scalar.Ptr e.now) (term_value mem.now.abi (memory mem.now) act Scalar.Ptr f.now) (λ v w. told_from mem.now.abi (Scalar.Int kind) (compared (memory mem.now) op v w))) }
+    ensures value { IfSome result (IsOf kind) }
+{
+    value_of_relation(mem, act, Scalar::Int(kind), op, e, f)?.number()
+}
+
 /// A conversion of an operand.
 #[cycle(evaluation)]
 fn value_of_conversion(mem: &Store, act: u64, s: Scalar, from: Scalar, e: &Term) -> Option<Value>
@@ -447,6 +481,81 @@ fn value_of_conversion(mem: &Store, act: u64, s: Scalar, from: Scalar, e: &Term)
     ensures scalar { IfSome result (IsValue mem.now.abi s) }
 {
     converted(mem, s, term_value(mem, act, from, e)?)
+}
+
+/// The number of a conversion of an operand that may be a pointer.
+#[cycle(evaluation)]
+fn number_of_any(mem: &Store, act: u64, kind: IntKind, from: Scalar, e: &Term) -> Option<i128>
+    ensures number { result ≡ number_of (of_one (term_value mem.now.abi (memory mem.now) act from e.now) (λ v. Some (converted mem.now.abi (Scalar.Int kind) v))) }
+    ensures value { IfSome result (IsOf kind) }
+{
+    value_of_conversion(mem, act, Scalar::Int(kind), from, e)?.number()
+}
+
+/// The number of a conversion of a number.
+#[cycle(evaluation)]
+fn number_of_number(mem: &Store, act: u64, kind: IntKind, of: IntKind, e: &Term) -> Option<i128>
+    ensures number { result ≡ option_map (wrapped kind) (number_by mem.now.abi (memory mem.now) act of e.now) }
+    ensures value { IfSome result (IsOf kind) }
+{
+    Some(wrap(kind, term_number(mem, act, of, e)?))
+}
+
+/// The number of a conversion of an operand. A pointer is a number as _Bool alone.
+#[cycle(evaluation)]
+fn number_of_conversion(
+    mem: &Store,
+    act: u64,
+    kind: IntKind,
+    from: Scalar,
+    e: &Term,
+) -> Option<i128>
+    ensures number { result ≡ number_of (of_one (term_value mem.now.abi (memory mem.now) act from e.now) (λ v. Some (converted mem.now.abi (Scalar.Int kind) v))) }
+    ensures value { IfSome result (IsOf kind) }
+{
+    if is_boolean(kind) {
+        return number_of_any(mem, act, kind, from, e);
+    }
+    match from {
+        Scalar::Int(of) => number_of_number(mem, act, kind, of, e),
+        Scalar::Ptr => number_of_any(mem, act, kind, from, e),
+    }
+}
+
+/// The number that a term is as a value of a kind, for an activation. None exactly where it is undefined, or no number.
+#[cycle(evaluation)]
+pub fn term_number(mem: &Store, act: u64, kind: IntKind, t: &Term) -> Option<i128>
+    ensures number { result ≡ number_by mem.now.abi (memory mem.now) act kind t.now }
+    ensures value { IfSome result (IsOf kind) }
+{
+    match t {
+        Term::Number(n) => number_as(kind, i128::from(*n)),
+        Term::Load(place) => number_at(mem, act, kind, place),
+        Term::Not(of, e) => number_of_not(mem, act, kind, *of, e),
+        Term::Unary(op, e) => number_of_unary(mem, act, kind, *op, e),
+        Term::Arithmetic(op, e, f) => number_of_arithmetic(mem, act, kind, *op, e, f),
+        Term::Shift(left, by, e, f) => number_of_shift(mem, act, kind, *left, *by, e, f),
+        Term::Compare(op, of, e, f) => number_of_compare(mem, act, kind, *op, *of, e, f),
+        Term::Difference(size, e, f) => number_of_difference(mem, act, kind, *size, e, f),
+        Term::Relation(op, e, f) => number_of_relation(mem, act, kind, *op, e, f),
+        Term::Convert(from, e) => number_of_conversion(mem, act, kind, *from, e),
+        Term::Sum(..) => None,
+        Term::Less(..) => None,
+        Term::Address(_) => None,
+        Term::Wrong => None,
+    }
+}
+
+/// The value of a term that is a number wherever it is defined, where it is asked for as one of a scalar.
+#[cycle(evaluation)]
+fn value_of_number(mem: &Store, act: u64, s: Scalar, t: &Term) -> Option<Value>
+    ensures value { result ≡ as_number s (term_value mem.now.abi (memory mem.now) act s t.now) }
+    ensures scalar { IfSome result (IsValue mem.now.abi s) }
+{
+    match s {
+        Scalar::Int(kind) => whole(mem.abi(), kind, term_number(mem, act, kind, t)),
+        Scalar::Ptr => None,
+    }
 }
 
 /// The value of a term, for an activation, as a value of a scalar. None exactly where it is undefined.
@@ -459,10 +568,10 @@ pub fn term_value(mem: &Store, act: u64, s: Scalar, t: &Term) -> Option<Value>
         Term::Number(n) => number(mem.abi(), s, i128::from(*n)),
         Term::Load(place) => value_at(mem, act, s, place),
         Term::Not(of, e) => value_of_not(mem, act, s, *of, e),
-        Term::Unary(op, e) => value_of_unary(mem, act, s, *op, e),
-        Term::Arithmetic(op, e, f) => value_of_arithmetic(mem, act, s, *op, e, f),
-        Term::Shift(left, by, e, f) => value_of_shift(mem, act, s, *left, *by, e, f),
-        Term::Compare(op, kind, e, f) => value_of_compare(mem, act, s, *op, *kind, e, f),
+        Term::Unary(..) => value_of_number(mem, act, s, t),
+        Term::Arithmetic(..) => value_of_number(mem, act, s, t),
+        Term::Shift(..) => value_of_number(mem, act, s, t),
+        Term::Compare(op, of, e, f) => value_of_compare(mem, act, s, *op, *of, e, f),
         Term::Sum(size, kind, e, f) => value_of_sum(mem, act, s, *size, *kind, e, f),
         Term::Less(size, kind, e, f) => value_of_less(mem, act, s, *size, *kind, e, f),
         Term::Difference(size, e, f) => value_of_difference(mem, act, s, *size, e, f),
@@ -522,5 +631,19 @@ pub fn spot_place(mem: &Store, act: u64, place: &Spot) -> Option<Value>
         Spot::Member(offset, whole) => place_of_member(mem, act, *offset, whole),
         Spot::Element(size, kind, whole, e) => place_of_element(mem, act, *size, *kind, whole, e),
         Spot::Wrong => None,
+    }
+}
+
+/// The pointer that a place is, for an activation. None exactly where it is undefined, or no pointer.
+#[cycle(evaluation)]
+pub fn place_pointer(mem: &Store, act: u64, place: &Spot) -> Option<Pointer>
+    ensures { result ≡ pointer_from mem.now.abi (memory mem.now) act place.now }
+{
+    match place {
+        Spot::Entity(e) => Some(beginning(ObjName::Entity(*e))),
+        Spot::Local(l) => Some(beginning(ObjName::Local(act, *l))),
+        Spot::At(_) | Spot::Member(..) | Spot::Element(..) | Spot::Wrong => {
+            spot_place(mem, act, place)?.pointer()
+        }
     }
 }

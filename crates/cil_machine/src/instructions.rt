@@ -1,37 +1,27 @@
 ghost use Rattle.std.specs.Prelude.{◌≡◌, IfOk, OnErr};
 ghost use Rattle.byte_mem.specs.Store.{memory, Stored};
-ghost use Rattle.execution.specs.Data.{OfScalar, Single, store_datum};
-ghost use Rattle.cil_machine.specs.Instructions.{scalar_set, copied, zeroed, pointer_from, bytes_from};
+ghost use Rattle.cil_machine.specs.Instructions.{scalar_set, copied, zeroed, bytes_from};
 
-use crate::evaluation::{spot_place, term_value};
+use crate::evaluation::{place_pointer, term_value};
 use crate::terms::{Spot, Term};
-use byte_mem::{Cells, Pointer, Scalar, Store, Value};
+use byte_mem::{Cells, Scalar, Store};
 use cil_base::Memory;
-
-/// Stores a scalar's value in an object.
-fn store_at(mem: &mut Store, at: Value, s: Scalar, v: Value) -> Option<()>
-    ensures { Stored result mem.old mem.new (store_datum mem.old.abi (memory mem.old) (OfScalar s) at (Single v)) }
-{
-    let at = at.pointer()?;
-    mem.store(at, s, v)
-}
 
 /// Evaluates a place and then a value of a scalar, and stores it there (C11 6.5.16p3; the order is own). None exactly
 /// where one of these is undefined; then nothing has changed.
 pub fn set_place(mem: &mut Store, act: u64, s: Scalar, place: &Spot, value: &Term) -> Option<()>
     ensures { Stored result mem.old mem.new (scalar_set mem.old.abi (memory mem.old) act s place.now value.now) }
 {
-    let at = spot_place(mem, act, place)?;
+    let at = place_pointer(mem, act, place)?;
     let v = term_value(mem, act, s, value)?;
-    store_at(mem, at, s, v)
+    mem.store(at, s, v)
 }
 
 /// Makes so many bytes of a place zero (own). None exactly where that is undefined; then nothing has changed.
 pub fn zero_place(mem: &mut Store, act: u64, size: u32, place: &Spot) -> Option<()>
     ensures { Stored result mem.old mem.new (zeroed mem.old.abi (memory mem.old) act size place.now) }
 {
-    let at = spot_place(mem, act, place)?;
-    let at = at.pointer()?;
+    let at = place_pointer(mem, act, place)?;
     mem.zero(at, size)
 }
 
@@ -39,17 +29,10 @@ pub fn zero_place(mem: &mut Store, act: u64, size: u32, place: &Spot) -> Option<
 fn bytes_at(mem: &Store, act: u64, size: u32, place: &Spot) -> Result<Option<Cells>, Memory>
     ensures { IfOk result (λ o. o ≡ bytes_from mem.now.abi (memory mem.now) act size place.now) }
 {
-    match place_at(mem, act, place) {
+    match place_pointer(mem, act, place) {
         Some(at) => mem.load_bytes(at, size),
         None => Ok(None),
     }
-}
-
-/// The pointer that a place is.
-fn place_at(mem: &Store, act: u64, place: &Spot) -> Option<Pointer>
-    ensures { result ≡ pointer_from mem.now.abi (memory mem.now) act place.now }
-{
-    spot_place(mem, act, place)?.pointer()
 }
 
 /// Evaluates a place and then the value of a struct or union at another, and stores all its bytes there (C11 6.5.16p3;
@@ -65,7 +48,7 @@ pub fn copy_place(
     ensures ok { IfOk result (λ o. Stored o mem.old mem.new (copied mem.old.abi (memory mem.old) act size to.now from.now)) }
     ensures err { OnErr result (mem.new ≡ mem.old) }
 {
-    match place_at(mem, act, to) {
+    match place_pointer(mem, act, to) {
         None => Ok(None),
         Some(at) => match bytes_at(mem, act, size, from)? {
             None => Ok(None),

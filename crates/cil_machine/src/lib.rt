@@ -14,7 +14,7 @@ mod laws;
 mod resolution;
 mod terms;
 
-pub use evaluation::{spot_place, term_value};
+pub use evaluation::{place_pointer, spot_place, term_number, term_truth, term_value};
 pub use instructions::{copy_place, set_place, zero_place};
 pub use laws::{copies_are_meant, sets_are_meant, zeros_are_meant};
 pub use resolution::{Setting, Typed, TypedSpot, resolve, resolve_place, scalar_of, size_of};
