@@ -635,7 +635,9 @@ pub fn spot_place(mem: &Store, act: u64, place: &Spot) -> Option<Value>
 }
 
 /// The pointer that a place is, for an activation. None exactly where it is undefined, or no pointer.
+// Most places are objects by name: the pointer is then made where it is used.
 #[cycle(evaluation)]
+#[inline(always)]
 pub fn place_pointer(mem: &Store, act: u64, place: &Spot) -> Option<Pointer>
     ensures { result ≡ pointer_from mem.now.abi (memory mem.now) act place.now }
 {
