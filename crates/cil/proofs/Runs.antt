@@ -1,5 +1,5 @@
 -- What the answer of a machine's run says of a program, and what is said of a program is said of each equal one.
-use Rattle.std.proofs.Common.{◌≡◌, ℕ, Bool, true, false, List, [], ◌∷◌, ◌++◌, Option, Some, None, inl, inr, refl, sym, ap, subst, ◌∙◌, append-nil, append_assoc}
+use Rattle.std.proofs.Common.{◌≡◌, ℕ, true, false, List, [], ◌∷◌, ◌++◌, Option, Some, None, refl, sym, ap, subst, ◌∙◌, append-nil, append_assoc}
 use Rattle.cil_base.specs.declared.runs.Outcome.{Outcome}
 use Rattle.cil_base.specs.Outcome.{output, IsPrefix}
 use Rattle.cil_tree.specs.Tree.{Program}
@@ -8,7 +8,7 @@ use Rattle.cil_equal.specs.Runs.{RunAlike}
 use Rattle.outside.specs.Moves.{WasRead, Wrote}
 use Rattle.cil_turns.specs.declared.ends.RunEnd.{RunEnd}
 use Rattle.cil_turns.specs.declared.ends.RunEnd.TheVariants as end
-use Rattle.cil_turns.specs.Ends.{ReadAsNeeded}
+use Rattle.cil_turns.proofs.Needed.{needed_none, needed_along}
 use Rattle.cil_runner.specs.Machine.{RunsAs}
 use Rattle.cil.specs.Execute.{status_of, Tells, Says, RanAs, IsEnd, AnswersAs}
 use Rattle.cil.specs.RunEnds.{status_by}
@@ -31,7 +31,7 @@ ran_nothing p words steps left taken = record {
   ended = false;
   text = [];
   read = read_none left;
-  asked = inl (refl, refl);
+  asked = needed_none (λ input. FindsEnd (p ∷ []) words input steps ≡ true) false false refl;
   finds = λ e. (let clash : false ≡ true = e in cc);
   stops = λ e. refl;
   wrote = wrote_none taken;
@@ -104,17 +104,13 @@ says_alike p q same words steps Usage got tail text says = says
 says_alike p q same words steps (Refused r) got tail text says = says
 says_alike p q same words steps (NotCil k) got tail text says = says
 
-needed_alike : (found other : List ℕ → Type 0) → ((input : List ℕ) → found input → other input) → (got : List ℕ) (ended : Bool) → ReadAsNeeded found false got ended → ReadAsNeeded other false got ended
-needed_alike found other carry got ended (inl none) = inl none
-needed_alike found other carry got ended (inr n) = inr (record { before = n.before; more = n.more; split = n.split; few = n.few; some = n.some; finds = carry n.before n.finds })
-
 pub ran_alike : (p q : Program) → RunAlike p q → (words : List (List ℕ)) (steps : ℕ) (status : Status) (left left' taken taken' : Option (List ℕ)) → RanAs p words steps status left left' taken taken' → RanAs q words steps status left left' taken taken'
 ran_alike p q same words steps status left left' taken taken' r = record {
   got = r.got;
   ended = r.ended;
   text = r.text;
   read = r.read;
-  asked = needed_alike (λ input. FindsEnd (p ∷ []) words input steps ≡ true) (λ input. FindsEnd (q ∷ []) words input steps ≡ true) (λ input found. sym (same.end words input steps) ∙ found) r.got r.ended r.asked;
+  asked = needed_along (λ input. FindsEnd (p ∷ []) words input steps ≡ true) (λ input. FindsEnd (q ∷ []) words input steps ≡ true) false r.ended r.got (λ input found. sym (same.end words input steps) ∙ found) r.asked;
   finds = r.finds;
   stops = r.stops;
   wrote = r.wrote;

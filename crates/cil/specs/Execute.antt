@@ -55,7 +55,7 @@ Says p words steps Usage got tail text = ⊥
 Says p words steps (Refused refusal) got tail text = ⊥
 Says p words steps (NotCil byte) got tail text = ⊥
 
--- a program was run with these words, bounded by so many steps: the bytes that input gave, whether it gave its end, the text that out took, and what the status says, whatever input has still to give, which is nothing where it gave its end; what was read was needed, and no read behind the end fails
+-- a program was run with these words, bounded by so many steps: the bytes that input gave, whether it gave its end, the text that out took, and what the status says, whatever input has still to give, which is nothing where it gave its end; each read was needed, and no read behind the end fails
 pub record RanAs (p : Program) (words : List (List ℕ)) (steps : ℕ) (status : Status) (left left' taken taken' : Option (List ℕ)) : Type 0 where
   pub got : List ℕ
   pub ended : Bool

@@ -44,7 +44,7 @@ use std::alloc::Global;
 /// that run's output. Where no call on the files failed it is `NotCil` exactly where the bytes are the text of no CIL program, at the
 /// place that is defined for them, and nothing was run. A `ReadFault` comes where the file could not be read, and nothing was run, or
 /// where the program wanted a byte of input that could not be read; then, as after a `WriteFault` or want of memory, out took a front
-/// of the output, whatever input has still to give. What was read of input last, at most 4,096 bytes or its end, was needed.
+/// of the output, whatever input has still to give. Each read of input, of at most 4,096 bytes or its end, was needed.
 ///
 /// `Usage` comes exactly where the words are no command; `ReadFault` and `WriteFault` only where a call on files, on input or on out
 /// failed, and every such failure is told; `Memory` wherever memory is wanting. Only `run` reads input. Each status but `Done` and

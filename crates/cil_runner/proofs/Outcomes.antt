@@ -1,5 +1,5 @@
 -- Device: what the result of the run of linked programs says of its outcome.
-use Rattle.std.proofs.Common.{◌≡◌, ◌≤◌, ℕ, ◌-◌, List, map, [], Option, Some, None, option_map, true, false, refl, sym, ap, ◌∙◌, subst, arith}
+use Rattle.std.proofs.Common.{◌≡◌, ℕ, ◌-◌, List, map, [], Option, Some, None, option_map, true, false, refl, sym, ap, ◌∙◌, subst, arith}
 use Rattle.cil_base.specs.declared.runs.Outcome.{Outcome}
 use Rattle.cil_base.specs.Outcome.{output as written, IsPrefix}
 use Rattle.byte_mem.specs.declared.values.Value.TheVariants.{Int, Ptr, Unknown, Part}

@@ -1,5 +1,5 @@
 -- Device: what the run of main tells of the run of linked programs.
-use Rattle.std.proofs.Common.{◌≡◌, inl, ℕ, ◌-◌, ◌++◌, List, [], map, length, Bool, true, false, Option, Some, None, option_map, slice_get, refl, sym, ap, ◌∙◌, subst, append-nil}
+use Rattle.std.proofs.Common.{◌≡◌, ℕ, ◌-◌, ◌++◌, List, [], map, length, Bool, true, false, Option, Some, None, option_map, slice_get, refl, sym, ap, ◌∙◌, subst, append-nil}
 use Rattle.cil_base.specs.declared.kinds.Abi.{Abi}
 use Rattle.cil_base.specs.declared.kinds.IntKind.TheVariants.{Int as int}
 use Rattle.cil_base.specs.declared.runs.Outcome.TheVariants.{Exit, Running, Undefined}
@@ -32,7 +32,7 @@ use Rattle.cil_turns.specs.declared.ends.RunEnd.{RunEnd}
 use Rattle.cil_turns.specs.declared.ends.RunEnd.TheVariants.{Exited, StillRunning, Undefined as WentUndefined, ReadFault, WriteFault, Memory as WantOfMemory}
 use Rattle.cil_turns.specs.declared.runs.FirstCall.{FirstCall}
 use Rattle.cil_turns.specs.Ends.{call_of_first, FindsEnd as AllFindEnd, Ends, ReadAsNeeded, RunsTo}
-use Rattle.cil_turns.proofs.Moves.{needed_along}
+use Rattle.cil_turns.proofs.Needed.{needed_none, needed_along}
 use Rattle.cil_link.specs.declared.mains.Main.{Main}
 use Rattle.cil_link.specs.Mains.{start_in, IsMain, BeginsWith}
 use Rattle.cil_runner.specs.declared.machine.Machine.{Machine}
@@ -157,7 +157,7 @@ lacks_memory programs words steps used bytes taken zero = record {
   ended = false;
   read = none_read bytes;
   sends = none_wrote taken;
-  asked = inl (refl, refl);
+  asked = needed_none (λ input. FindsEnd programs words input steps ≡ true) false false refl;
   stops = λ fault. refl;
   finds = λ not. absurd (cc);
   means = λ tail none. subst (λ used. CutOff programs words tail steps used []) (sym zero) (cut_at_once programs words tail steps);
@@ -171,7 +171,7 @@ lacks_main machine programs words steps used bytes taken loads none zero = recor
   ended = false;
   read = none_read bytes;
   sends = none_wrote taken;
-  asked = inl (refl, refl);
+  asked = needed_none (λ input. FindsEnd programs words input steps ≡ true) false false refl;
   stops = λ fault. refl;
   finds = λ not. absurd (cc);
   means = λ tail all.

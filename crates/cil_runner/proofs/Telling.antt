@@ -1,5 +1,5 @@
 -- Device: what the run over objects in memory tells is the outcome.
-use Rattle.std.proofs.Common.{◌≡◌, ℕ, ◌++◌, List, [], Result, Ok, Err, IfOk, Option, Some, None, sym, ap, ◌∙◌, subst}
+use Rattle.std.proofs.Common.{◌≡◌, ℕ, ◌++◌, List, [], Result, Ok, Err, IfOk, Some, sym, ap, ◌∙◌, subst}
 use Rattle.cil_base.specs.declared.runs.Outcome.{Outcome}
 use Rattle.cil_base.specs.declared.runs.Outcome.TheVariants.{Exit, Running, Undefined}
 use Rattle.cil_tree.specs.Tree.{Program}

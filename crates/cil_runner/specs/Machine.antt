@@ -1,5 +1,5 @@
 -- Definition: which linked programs a machine runs, with which words, and what the answer of its run says of their meaning.
-use Rattle.std.specs.Prelude.{◌≡◌, ℕ, Bool, true, false, List, [], ◌∷◌, ◌++◌, length, Option, IfSome}
+use Rattle.std.specs.Prelude.{◌≡◌, ℕ, Bool, true, false, List, [], ◌++◌, length, Option, IfSome}
 use Rattle.cil_base.specs.declared.runs.Outcome.TheVariants.{Exit, Running, Undefined}
 use Rattle.outside.specs.Moves.{WasRead}
 use Rattle.cil_tree.specs.Tree.{Program}
@@ -44,7 +44,7 @@ pub record RunsAs (end : RunEnd) (programs : List Program) (words : List (List �
   pub ended : Bool
   pub read : WasRead left left' got
   pub sends : Sends end taken taken' sent
-  -- nothing was read, or what was read last was needed: had the input ended before it, a getchar of the run would have found no input left
+  -- each read was needed: had the input ended before what it gave, or where it gave the end, a getchar of the run would have found no input left
   pub asked : ReadAsNeeded (λ input. FindsEnd programs words input steps ≡ true) false got ended
   -- no read fails of a source that has given its end
   pub stops : end ≡ ReadFault → ended ≡ false

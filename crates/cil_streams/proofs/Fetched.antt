@@ -16,6 +16,11 @@ ended_still [] true some = refl
 ended_still [] false some = absurd (some (refl, refl))
 ended_still (b ∷ bytes) ended some = refl
 
+-- a source gives its end where it gives nothing
+none_by : (bytes : List ℕ) → ended_by bytes ≡ true → bytes ≡ []
+none_by [] e = refl
+none_by (b ∷ bytes) e = absurd (cc)
+
 ended_after_more : (bytes : List ℕ) → ended_by bytes ≡ ended_after bytes false
 ended_after_more [] = refl
 ended_after_more (b ∷ bytes) = refl
@@ -93,6 +98,7 @@ module _ (io : Io) (ahead : AheadState) where
             used_up = record { none = none; more = more };
             few = fills.few;
             some = λ empty. ended ∙ (fills.filled ∙ ap ended_by empty);
+            end = λ e. none_by fills.got (sym fills.filled ∙ (sym ended ∙ e));
           });
           stays = λ e. absurd (not_both ahead.ended more e);
           finds = λ more e. fills.finds (sym ended ∙ e);

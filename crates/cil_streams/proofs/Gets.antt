@@ -133,6 +133,7 @@ module _ (abi : Abi) (name : HostName) (wanted : Option Scalar) (args : List (Sc
     asks = record { getchar = is_getchar; result = kinds.0; arguments = kinds.1; used_up = x.used_up };
     few = x.few;
     some = x.some;
+    end = x.end;
     finds = end_found x.used_up;
   })
 

@@ -49,11 +49,12 @@ Gives ReadFault bytes held held' = (bytes ≡ []) × (held'.unread ≡ []) × (h
 Gives WriteFault bytes held held' = held'.waiting ≡ []
 Gives _ bytes held held' = ⊥
 
--- a source was asked where no byte was at hand, and gave at most 4,096 bytes or its end
+-- a source was asked where no byte was at hand, and gave at most 4,096 bytes or, where it gave none, its end
 pub record WasAsked (held held' : StreamsState) (got : List ℕ) : Type 0 where
   pub used_up : IsUsedUp held
   pub few : length got ≤ 4096
   pub some : got ≡ [] → held'.ended ≡ true
+  pub end : held'.ended ≡ true → got ≡ []
 
 -- a getchar over a source and a sink
 pub record Fetches (end : HostEnd) (held held' : StreamsState) (left left' taken taken' : Option (List ℕ)) : Type 0 where

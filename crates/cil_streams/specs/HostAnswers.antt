@@ -51,11 +51,12 @@ Means WriteFault r s m held written sent tail = output r ≡ written ++ sent
 -- what was sent and what waits is the output so far
 Means WantOfMemory r s m held written sent tail = s.out ≡ (written ++ sent) ++ held.waiting
 
--- what a call read of the source, at most 4,096 bytes or its end, was needed: a source that had nothing to give would have been found at its end
+-- what a call read of the source, at most 4,096 bytes or, where it gave none, its end, was needed: a source that had nothing to give would have been found at its end
 pub record WasNeeded (abi : Abi) (name : HostName) (wanted : Option Scalar) (args : List (Scalar × values.Value)) (m : Memory) (held held' : StreamsState) (got : List ℕ) : Type 0 where
   pub asks : Asks name wanted args held
   pub few : length got ≤ 4096
   pub some : got ≡ [] → held'.ended ≡ true
+  pub end : held'.ended ≡ true → got ≡ []
   pub finds : (s : State) (c : Call) (written : List ℕ) → c.abi ≡ abi → scalar_result c.result ≡ Some wanted → scalar_arguments c.arguments ≡ Some args
       → Matches s m held written [] → (last (host_called name c s)).at_end ≡ true
 

@@ -25,7 +25,8 @@ use Rattle.cil_turns.specs.Ends.{call_of_first, CutOff, FindsEnd, Ends, Sends, C
 use Rattle.cil_turns.specs.Standing.{Stands, Seen, remains, from_stand, from_first}
 use Rattle.cil_turns.specs.Moving.{FindsFrom, told, Arrives, Finishes, Turned, IsPlainEnd}
 use Rattle.cil_turns.specs.Turning.{Writes, WritesNothing, Flushed}
-use Rattle.cil_turns.proofs.Moves.{same_moved, quiet_moves, turned_behind, sends_then, needed_along}
+use Rattle.cil_turns.proofs.Needed.{needed_along}
+use Rattle.cil_turns.proofs.Moves.{same_moved, quiet_moves, turned_behind, sends_then}
 
 -- a machine that has gone nowhere yet
 pub arrives_first : (table : List (Option Entity)) (run : Run) (x : Stand) → Stands table run x → (left taken : Option (List ℕ)) → Arrives table (from_stand table run x) run run x left left taken taken

@@ -1,5 +1,5 @@
 -- Device: calls of the host.
-use Rattle.std.proofs.Common.{◌≡◌, ◌⊎◌, inl, inr, ℕ, suc, ◌+◌, ◌*◌, ◌<◌, ◌≤◌, Bool, true, false, List, [], ◌++◌, length, Option, Some, None, slice_get, refl, sym, ap, ◌∙◌, subst, arith, negsuc}
+use Rattle.std.proofs.Common.{◌≡◌, ◌⊎◌, inl, inr, ℕ, suc, ◌+◌, ◌*◌, ◌<◌, ◌≤◌, true, false, List, [], ◌++◌, length, Option, Some, None, slice_get, refl, sym, ap, ◌∙◌, subst, arith, negsuc}
 use Rattle.std.specs.Prelude.{◌^◌}
 use Rattle.std.proofs.lemmas.List.{append-nil}
 use Rattle.cil_base.specs.declared.kinds.Abi.{Abi}
@@ -44,20 +44,16 @@ use Rattle.cil_turns.specs.Moving.{StandsFor, FindsFrom, Moves, told, Comes, Fin
 use Rattle.cil_turns.specs.Turning.{StandsAtCall, GoesTo, HostFinds, Asked, IsOver, HostTurned}
 use Rattle.cil_turns.proofs.Wholes.{one_model, remains_is, keeping_is, whole_exits, whole_undefined, remains_grows, keeping_grows, call_grows, grows_front, cut_off, steps_there}
 use Rattle.cil_turns.proofs.Begins.{stands_at}
-use Rattle.cil_turns.proofs.Moves.{turned_behind, needed_along}
+use Rattle.cil_turns.proofs.Needed.{not_both, needed_none, needed_once, needed_along}
+use Rattle.cil_turns.proofs.Moves.{turned_behind}
 
 -- what a call of the host reads it needs
-needed_once : (end : HostEnd) (abi : Abi) (name : HostName) (e : Evaluated) (wanted : Option Scalar) (args : List (Scalar × values.Value)) (m : Memory) (held held' : StreamsState) (got : List ℕ) → Some wanted ≡ scalar_result (kind_from e.result) → Some args ≡ scalar_arguments (arguments_of e.arguments.items)
+call_needed : (abi : Abi) (name : HostName) (e : Evaluated) (wanted : Option Scalar) (args : List (Scalar × values.Value)) (m : Memory) (held held' : StreamsState) (got : List ℕ) → Some wanted ≡ scalar_result (kind_from e.result) → Some args ≡ scalar_arguments (arguments_of e.arguments.items)
     → ((got ≡ []) × (held'.ended ≡ held.ended)) ⊎ host.WasNeeded abi name wanted args m held held' got → ReadAsNeeded (HostFinds abi name e m held) held.ended got held'.ended
-needed_once end abi name e wanted args m held held' got result arguments (inl none) = inl none
-needed_once end abi name e wanted args m held held' got result arguments (inr w) = inr (record {
-  before = [];
-  more = got;
-  split = refl;
-  few = w.few;
-  some = w.some;
-  finds = λ s written x. w.finds s (call_of abi e) written refl (sym result) (sym arguments) x;
-})
+call_needed abi name e wanted args m held held' got result arguments (inl none) =
+    subst (λ bytes. ReadAsNeeded (HostFinds abi name e m held) held.ended bytes held'.ended) (sym none.0) (needed_none (HostFinds abi name e m held) held.ended held'.ended none.1)
+call_needed abi name e wanted args m held held' got result arguments (inr w) =
+    needed_once (HostFinds abi name e m held) held.ended held'.ended got w.few w.end (λ s written x. w.finds s (call_of abi e) written refl (sym result) (sym arguments) x)
 
 -- a call with scalars alone is one of the host
 pub asked : (end : HostEnd) (abi : Abi) (name : HostName) (e : Evaluated) (wanted : Option Scalar) (args : List (Scalar × values.Value)) (m m' : Memory) (held held' : StreamsState) (left left' taken taken' : Option (List ℕ)) → Some wanted ≡ scalar_result (kind_from e.result) → Some args ≡ scalar_arguments (arguments_of e.arguments.items)
@@ -67,7 +63,7 @@ asked end abi name e wanted args m m' held held' left left' taken taken' result 
   sent = h.sent;
   read = h.read;
   sends = h.sends;
-  asked = needed_once end abi name e wanted args m held held' h.got result arguments h.asked;
+  asked = call_needed abi name e wanted args m held held' h.got result arguments h.asked;
   stays = h.stays;
   stops = h.stops;
   finds = h.finds;
@@ -75,10 +71,6 @@ asked end abi name e wanted args m m' held held' left left' taken taken' result 
 }
 
 -- one with others is undefined
-not_both : (x : Bool) → x ≡ false → x ≡ true → ⊥
-not_both true f t = cc
-not_both false f t = cc
-
 module _ (abi : Abi) (name : HostName) (e : Evaluated) (m : Memory) (held : StreamsState) (left taken : Option (List ℕ)) where
   nothing_asked : (end : HostEnd) → (end ≡ host_end.ReadFault → ⊥) → host.Sends end taken taken [] → ((s : State) (written tail : List ℕ) → Matches s m held written tail → host.Means end (host_called name (call_of abi e) s) s m held written [] tail) → Asked end abi name e m m held held left left taken taken
   nothing_asked end well sends means = record {
@@ -86,7 +78,7 @@ module _ (abi : Abi) (name : HostName) (e : Evaluated) (m : Memory) (held : Stre
     sent = [];
     read = none_read left left refl;
     sends = sends;
-    asked = inl (refl, refl);
+    asked = needed_none (HostFinds abi name e m held) held.ended held.ended refl;
     stays = λ e. (e, refl);
     stops = λ fault. absurd (well fault);
     finds = λ more e. absurd (not_both held.ended more e);

@@ -1,5 +1,6 @@
 pub mod KindLemmas
 pub mod Scalars
+pub mod Needed
 pub mod Moves
 pub mod Wholes
 pub mod Heap

@@ -1,5 +1,5 @@
 -- Device: whole runs go on and end, one part behind another.
-use Rattle.std.proofs.Common.{◌≡◌, inl, inr, ℕ, Bool, true, false, List, [], ◌∷◌, ◌++◌, Option, Some, None, IfSome, option_map, refl, sym, ap, ◌∙◌, subst, append_assoc}
+use Rattle.std.proofs.Common.{◌≡◌, ℕ, Bool, true, false, List, [], ◌∷◌, ◌++◌, Option, Some, None, IfSome, option_map, refl, sym, ap, ◌∙◌, subst, append_assoc}
 use Rattle.std.proofs.lemmas.List.{append-nil}
 use Rattle.cil_base.specs.declared.kinds.Abi.{Abi}
 use Rattle.outside.specs.Moves.{Wrote, Began, WasRead}
@@ -17,9 +17,10 @@ use Rattle.cil_turns.specs.declared.ends.RunEnd.TheVariants.{Exited, StillRunnin
 use Rattle.cil_turns.specs.declared.runs.Run.{Run}
 use Rattle.cil_turns.specs.declared.runs.Turn.{Turn}
 use Rattle.cil_turns.specs.declared.runs.Turn.TheVariants.{On, Stopped}
-use Rattle.cil_turns.specs.Ends.{Ends, Sends, CountsReads, CountsWrites, ReadAsNeeded}
+use Rattle.cil_turns.specs.Ends.{Ends, Sends, CountsReads, CountsWrites}
 use Rattle.cil_turns.specs.Standing.{Seen, from_stand}
 use Rattle.cil_turns.specs.Moving.{StandsFor, FindsFrom, Moves, told, Comes, Turned, TurnReads, TurnWrites, IsPlainEnd, IsPlain}
+use Rattle.cil_turns.proofs.Needed.{not_both, needed_none, needed_then}
 
 -- bytes that are read and written one part behind another
 
@@ -70,48 +71,6 @@ stays_then first between last a b h k e =
 -- behind its end a source gives nothing
 no_more : (between last : Bool) (b tail : List ℕ) → (between ≡ true → (last ≡ true) × (b ≡ [])) → (last ≡ true → tail ≡ []) → between ≡ true → b ++ tail ≡ []
 no_more between last b tail h k e = let x = h e in ap (λ z. z ++ tail) x.1 ∙ k x.0
-
--- what was read last was needed
-
-pub needed_along : (first second : List ℕ → Type 0) (was ended : Bool) (got : List ℕ) → ((input : List ℕ) → first input → second input) → ReadAsNeeded first was got ended → ReadAsNeeded second was got ended
-needed_along first second was ended got along (inl none) = inl none
-needed_along first second was ended got along (inr w) = inr (record {
-  before = w.before;
-  more = w.more;
-  split = w.split;
-  few = w.few;
-  some = w.some;
-  finds = along w.before w.finds;
-})
-
--- in the first part, where nothing was read in the second
-needed_first : (found : List ℕ → Type 0) (was between last : Bool) (a b : List ℕ) → b ≡ [] → last ≡ between → ReadAsNeeded found was a between → ReadAsNeeded found was (a ++ b) last
-needed_first found was between last a b none same (inl x) = inl (ap (λ z. a ++ z) none ∙ (append-nil a ∙ x.0), same ∙ x.1)
-needed_first found was between last a b none same (inr w) = inr (record {
-  before = w.before;
-  more = w.more;
-  split = ap (λ z. a ++ z) none ∙ (append-nil a ∙ w.split);
-  few = w.few;
-  some = λ empty. same ∙ w.some empty;
-  finds = w.finds;
-})
-
-nothing_before : (a b : List ℕ) → a ++ b ≡ [] → a ≡ []
-nothing_before [] b h = refl
-nothing_before (x ∷ a) b h = absurd (cc)
-
--- else in the second, before which the first has read all that it did
-needed_then : (first second : List ℕ → Type 0) (was between last : Bool) (a b : List ℕ) → (between ≡ true → (last ≡ true) × (b ≡ [])) → ((input : List ℕ) → (between ≡ true → input ≡ []) → second input → first (a ++ input))
-    → ReadAsNeeded first was a between → ReadAsNeeded second between b last → ReadAsNeeded first was (a ++ b) last
-needed_then first second was between last a b stays back x (inl none) = needed_first first was between last a b none.0 none.1 x
-needed_then first second was between last a b stays back x (inr w) = inr (record {
-  before = a ++ w.before;
-  more = w.more;
-  split = ap (λ z. a ++ z) w.split ∙ sym (append_assoc a w.before w.more);
-  few = w.few;
-  some = w.some;
-  finds = back w.before (λ e. nothing_before w.before w.more (sym w.split ∙ (stays e).1)) w.finds;
-})
 
 module _ (f g : State → Result Datum) (a b c : Run) (l m n t u v : Option (List ℕ)) where
   -- where the second part finds the end of the input, so does the whole
@@ -166,10 +125,6 @@ pub same_moved : (run : Run) (s : State) → s.memory ≡ memory run.mem → s.l
 same_moved run s same units next =
     ap (λ m. record s { memory = m }) same ∙ (ap (λ l. record s { memory = memory run.mem; left = l }) units ∙ ap (λ n. record s { memory = memory run.mem; left = run.left; next = n }) next)
 
-not_both : (x : Bool) → x ≡ false → x ≡ true → ⊥
-not_both true f t = cc
-not_both false f t = cc
-
 module _ (f : State → Result Datum) (old new : Run) (same : new.streams ≡ old.streams) (left taken : Option (List ℕ)) where
   now_ended : new.streams.ended ≡ old.streams.ended
   now_ended = ap (λ (h : StreamsState). h.ended) same
@@ -180,7 +135,7 @@ module _ (f : State → Result Datum) (old new : Run) (same : new.streams ≡ ol
     sent = [];
     read = none_read left left refl;
     sends = none_wrote taken taken refl;
-    asked = inl (refl, now_ended);
+    asked = needed_none (FindsFrom old f) old.streams.ended new.streams.ended now_ended;
     stays = λ e. (now_ended ∙ e, refl);
     finds = λ more e. absurd (not_both new.streams.ended (now_ended ∙ more) e);
     means = λ s written tail end st. (
@@ -225,7 +180,7 @@ module _ (f : State → Result Datum) (old new : Run) (same : new.streams ≡ ol
     sent = [];
     read = none_read left left refl;
     sends = sends_nothing end plain;
-    asked = inl (refl, now_ended);
+    asked = needed_none (FindsFrom old f) old.streams.ended new.streams.ended now_ended;
     stays = λ e. (now_ended ∙ e, refl);
     stops = λ is. absurd (subst IsPlainEnd is plain);
     finds = λ more e. absurd (not_both new.streams.ended (now_ended ∙ more) e);

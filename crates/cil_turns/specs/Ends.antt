@@ -1,5 +1,6 @@
 -- Definition: how a run over a source and a sink ends, and how its answer is that of the meaning, which has all input at hand and keeps all output.
-use Rattle.std.specs.Prelude.{◌≡◌, ℕ, ◌≤◌, ◌⊎◌, Bool, false, true, List, [], ◌++◌, length, Option, IfSome}
+use Rattle.std.specs.Prelude.{◌≡◌, ℕ, ◌<◌, ◌≤◌, Bool, false, true, List, [], ◌∷◌, ◌++◌, length, Option, IfSome}
+use Rattle.std.specs.List.{concat}
 use Rattle.cil_base.specs.declared.kinds.Abi.{Abi}
 use Rattle.cil_base.specs.declared.runs.Outcome.TheVariants.{Exit, Running, Undefined as WentUndefined}
 use Rattle.cil_base.specs.Outcome.{IsPrefix}
@@ -65,18 +66,24 @@ CountsWrites ReadFault before now = now ≡ before
 CountsWrites WriteFault before now = Fails before now
 CountsWrites WantOfMemory before now = now ≡ before
 
--- what was read last, at most 4,096 bytes or the end, was needed: `found` says of an input that a getchar of the run finds its end, and says it of what was read before
-pub record WasNeeded (found : List ℕ → Type 0) (got : List ℕ) (ended : Bool) : Type 0 where
-  pub before : List ℕ
-  pub more : List ℕ
-  pub split : got ≡ before ++ more
-  pub few : length more ≤ 4096
-  pub some : more ≡ [] → ended ≡ true
-  pub finds : found before
+-- what one read of the source gave, but for one that gave its end
+pub record IsPiece (piece : List ℕ) : Type 0 where
+  pub some : 0 < length piece
+  pub few : length piece ≤ 4096
 
--- nothing was read, or what was read last was needed; `was` and `ended` tell whether the source had given its end before, and has now
-abbrev pub ReadAsNeeded : (List ℕ → Type 0) → Bool → List ℕ → Bool → Type 0
-ReadAsNeeded found was got ended = ((got ≡ []) × (ended ≡ was)) ⊎ WasNeeded found got ended
+-- each piece was needed: `found` says of an input that a getchar of the run finds its end, and says it of all that was read before the piece
+abbrev pub EachNeeded : (List ℕ → Type 0) → List (List ℕ) → Type 0
+EachNeeded found [] = Unit {0}
+EachNeeded found (piece ∷ pieces) = found [] × IsPiece piece × EachNeeded (λ input. found (piece ++ input)) pieces
+
+-- each read was needed; `was` and `ended` tell whether the source had given its end before, and has now
+pub record ReadAsNeeded (found : List ℕ → Type 0) (was : Bool) (got : List ℕ) (ended : Bool) : Type 0 where
+  -- what the reads gave, in their order
+  pub pieces : List (List ℕ)
+  pub whole : concat pieces ≡ got
+  pub each : EachNeeded found pieces
+  -- the read that gave the end, behind all of them
+  pub end : was ≡ false → ended ≡ true → found got
 
 -- in each state that memory and streams stand for, with so many units left and that next number, where the source has just that input still to give, the run finds its end
 abbrev pub FindsEnd : (State → Result Datum) → Memory → StreamsState → ℕ → ℕ → List ℕ → Type 0
