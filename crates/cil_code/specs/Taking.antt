@@ -1,20 +1,11 @@
 -- Device: what it means that a step was taken in a store.
-use Rattle.std.specs.Prelude.{◌≡◌, ℕ, Bool, true, false, Option, Some, None, ℤ}
-use Rattle.cil_base.specs.declared.kinds.Abi.{Abi}
-use Rattle.cil_base.specs.declared.kinds.IntKind.{IntKind}
+use Rattle.std.specs.Prelude.{◌≡◌, ℕ, Bool, true, false, Option, Some, None}
 use Rattle.byte_mem.specs.declared.stores.Store.{Store}
-use Rattle.byte_mem.specs.declared.values.Scalar.{Scalar}
-use Rattle.byte_mem.specs.declared.values.Scalar.TheVariants.{Int as OfKind}
-use Rattle.byte_mem.specs.Steps.{◌>>=◌}
-use Rattle.byte_mem.specs.Memory.{Memory}
-use Rattle.byte_mem.specs.Operator.{truth, number_in}
 use Rattle.byte_mem.specs.Store.{memory}
 use Rattle.execution.specs.States.{State, Goes, Undefined, with_memory, spend}
 use Rattle.execution.specs.Data as passed
 use Rattle.execution.specs.Calls.{Enter}
 use Rattle.cil_control.specs.Remains.{Remains}
-use Rattle.cil_machine.specs.declared.terms.Term.{Term}
-use Rattle.cil_machine.specs.Terms.{term_value}
 use Rattle.cil_code.specs.declared.steps.Step.{Step}
 use Rattle.cil_code.specs.declared.steps.Step.TheVariants.{Call}
 use Rattle.cil_code.specs.declared.taking.Datum.{Datum}
@@ -30,14 +21,6 @@ datum_of (Bytes b) = passed.Bytes b
 abbrev pub ended : passed.Datum → Option Datum → passed.Datum
 ended end None = end
 ended end (Some d) = datum_of d
-
--- whether a scalar compares unequal to 0
-abbrev pub tested : Abi → Memory → ℕ → Scalar → Term → Option Bool
-tested abi m act of e = term_value abi m act of e >>= truth m of
-
--- the number that a switch goes by
-abbrev pub number_by : Abi → Memory → ℕ → IntKind → Term → Option ℤ
-number_by abi m act kind e = term_value abi m act (OfKind kind) e >>= number_in
 
 abbrev pub is_call : Step → Bool
 is_call (Call k) = true

@@ -1,17 +1,19 @@
 ghost use Rattle.std.specs.Prelude.{◌≡◌, IfOk, IfSome, is_some, not, option_map};
 ghost use Rattle.byte_mem.specs.Store.{memory, Stored};
-ghost use Rattle.cil_machine.specs.Instructions.{pointer_from, bytes_from};
+ghost use Rattle.cil_machine.specs.Instructions.{bytes_from};
 ghost use Rattle.cil_control.specs.Flat.{place_for};
 ghost use Rattle.cil_code.specs.Passing.{operand_datum};
 ghost use Rattle.cil_code.specs.Doing.{assigned};
-ghost use Rattle.cil_code.specs.Taking.{datum_of, tested, number_by, is_call, Took};
+ghost use Rattle.cil_code.specs.Taking.{datum_of, is_call, Took};
 
 use crate::operands::Operand;
 use crate::steps::Step;
-use byte_mem::{Cells, Pointer, Scalar, Store, Value};
+use byte_mem::{Cells, Scalar, Store, Value};
 use cil_base::{IntKind, Memory};
 use cil_control::next;
-use cil_machine::{Spot, Term, copy_place, set_place, spot_place, term_value, zero_place};
+use cil_machine::{
+    Spot, Term, copy_place, place_pointer, set_place, term_number, term_truth, term_value, zero_place,
+};
 
 /// A value that is returned.
 #[derive(Drop)]
@@ -73,13 +75,6 @@ fn take_zero(mem: &mut Store, act: u64, p: usize, size: u32, place: &Spot) -> Re
     }
 }
 
-/// Whether a scalar compares unequal to 0. None exactly where that is undefined.
-fn holds(mem: &Store, act: u64, of: Scalar, e: &Term) -> Option<bool>
-    ensures { result ≡ tested mem.now.abi (memory mem.now) act of e.now }
-{
-    mem.truth(of, term_value(mem, act, of, e)?)
-}
-
 /// A test.
 #[tactic(auto, using(crate::proofs::Takes::test_took, crate::proofs::Takes::test_broken))]
 fn take_test(
@@ -92,7 +87,7 @@ fn take_test(
 ) -> Result<Onward, Memory>
     ensures { IfOk result (Took mem.now mem.now act p (Step.Test of e.now fails)) }
 {
-    match holds(mem, act, of, e) {
+    match term_truth(mem, act, of, e) {
         None => Ok(Onward::Undefined),
         Some(true) => Ok(Onward::At(next(p)?)),
         Some(false) => Ok(Onward::At(fails)),
@@ -112,13 +107,6 @@ fn place_for(v: i128, table: &[(i128, usize)], other: usize) -> usize
     other
 }
 
-/// The number that a term is. None exactly where that is undefined.
-fn number(mem: &Store, act: u64, kind: IntKind, e: &Term) -> Option<i128>
-    ensures { result ≡ number_by mem.now.abi (memory mem.now) act kind e.now }
-{
-    term_value(mem, act, Scalar::Int(kind), e)?.number()
-}
-
 /// A switch.
 #[tactic(auto, using(crate::proofs::Takes::choice_took, crate::proofs::Takes::choice_broken))]
 fn take_choice(
@@ -132,7 +120,7 @@ fn take_choice(
 ) -> Onward
     ensures { Took mem.now mem.now act p (Step.Choose kind e.now table.now other) result }
 {
-    match number(mem, act, kind, e) {
+    match term_number(mem, act, kind, e) {
         None => Onward::Undefined,
         Some(v) => Onward::At(place_for(v, table, other)),
     }
@@ -142,17 +130,10 @@ fn take_choice(
 fn bytes_at(mem: &Store, act: u64, size: u32, place: &Spot) -> Result<Option<Cells>, Memory>
     ensures { IfOk result (λ o. o ≡ bytes_from mem.now.abi (memory mem.now) act size place.now) }
 {
-    match place_at(mem, act, place) {
+    match place_pointer(mem, act, place) {
         Some(at) => mem.load_bytes(at, size),
         None => Ok(None),
     }
-}
-
-/// The pointer that a place is.
-fn place_at(mem: &Store, act: u64, place: &Spot) -> Option<Pointer>
-    ensures { result ≡ pointer_from mem.now.abi (memory mem.now) act place.now }
-{
-    spot_place(mem, act, place)?.pointer()
 }
 
 /// The value of an operand. None exactly where that is undefined.
