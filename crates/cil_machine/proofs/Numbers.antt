@@ -8,14 +8,16 @@ use Rattle.cil_base.specs.declared.operators.BinOp.{BinOp}
 use Rattle.cil_base.specs.declared.operators.UnOp.{UnOp}
 use Rattle.cil_base.specs.Arithmetic.{arith_of, unary_of, told}
 use Rattle.cil_base.specs.Integer.{wrapped, pointer_size_of}
+use Rattle.byte_mem.specs.declared.pointers.Pointer.{Pointer}
 use Rattle.byte_mem.specs.declared.values.Scalar.{Scalar}
 use Rattle.byte_mem.specs.declared.values.Scalar.TheVariants.{Int as OfKind, Ptr as OfPointer}
 use Rattle.byte_mem.specs.declared.values.Value.{Value}
 use Rattle.byte_mem.specs.declared.values.Value.TheVariants.{Int, Ptr, Unknown, Part}
 use Rattle.byte_mem.specs.Steps.{◌>>=◌, only_if}
 use Rattle.byte_mem.specs.Scalar.{scalar_size, is_boolean}
-use Rattle.byte_mem.specs.Memory.{Memory}
-use Rattle.byte_mem.specs.Operator.{number_in, truth, converted}
+use Rattle.byte_mem.specs.Memory.{Memory, store}
+use Rattle.byte_mem.specs.Operator.{number_in, pointer_in, truth, converted}
+use Rattle.execution.specs.Data.{OfScalar, Single, store_datum}
 use Rattle.cil_machine.specs.Terms.{of_one, of_two, of_number, of_numbers, number_as, number, number_from, number_of, as_number, told_from, told_as, compared_number, unary_at, arithmetic_at, shifted_at, moved}
 
 -- no number, whatever went before
@@ -27,6 +29,14 @@ no_number (Some a) f = refl
 number_is : (n : Option ℤ) → n ≡ (option_map Int n >>= number_in)
 number_is None = refl
 number_is (Some n) = refl
+
+-- a value that has a number is that number
+pub number_alone : (v : Option Value) (n : ℤ) → Some n ≡ number_of v → v ≡ Some (Int n)
+number_alone None n h = absurd (cc)
+number_alone (Some (Int a)) n h = cc
+number_alone (Some (Ptr p)) n h = absurd (cc)
+number_alone (Some Unknown) n h = absurd (cc)
+number_alone (Some (Part p k)) n h = absurd (cc)
 
 kept_number : (holds : Bool) (n : ℤ) → only_if holds n ≡ (only_if holds (Int n) >>= number_in)
 kept_number true n = refl
@@ -143,3 +153,9 @@ nothing_of_two (Some v) (Some w) = refl
 pub arithmetic_whole : (s : Scalar) (op : BinOp) (v w : Option Value) → as_number s (of_two v w (arithmetic_at s op)) ≡ of_two v w (arithmetic_at s op)
 arithmetic_whole (OfKind kind) op v w = two_numbered (arith_of op kind) v w
 arithmetic_whole OfPointer op v w = nothing_of_two v w
+
+-- a scalar's value is stored where the pointer leads that the place is
+pub stored_there : (abi : Abi) (m : Memory) (s : Scalar) (place value : Option Value) (at : Pointer) → Some at ≡ (place >>= pointer_in) → (value >>= λ v. store abi m at s v) ≡ (place >>= λ x. value >>= λ v. store_datum abi m (OfScalar s) x (Single v))
+stored_there abi m s None value at h = absurd (cc)
+stored_there abi m s (Some x) None at h = refl
+stored_there abi m s (Some x) (Some v) at h = ap (λ o. o >>= λ p. store abi m p s v) h

@@ -5,12 +5,16 @@ use Rattle.byte_mem.specs.declared.pointers.Pointer.{Pointer}
 use Rattle.byte_mem.specs.declared.values.Byte.{Byte}
 use Rattle.byte_mem.specs.declared.values.Scalar.{Scalar}
 use Rattle.byte_mem.specs.Steps.{◌>>=◌}
-use Rattle.byte_mem.specs.Memory.{Memory, load_bytes, store_bytes, zero}
+use Rattle.byte_mem.specs.Memory.{Memory, load_bytes, store, store_bytes, zero}
 use Rattle.byte_mem.specs.Operator.{pointer_in}
 use Rattle.execution.specs.Data.{OfScalar, Single, store_datum}
 use Rattle.cil_machine.specs.declared.terms.Term.{Term}
 use Rattle.cil_machine.specs.declared.terms.Spot.{Spot}
 use Rattle.cil_machine.specs.Terms.{term_value, spot_place}
+
+-- the value of a scalar is stored where a pointer leads
+abbrev pub value_set : Abi → Memory → ℕ → Scalar → Pointer → Term → Option Memory
+value_set abi m act s at t = term_value abi m act s t >>= λ v. store abi m at s v
 
 -- a scalar is assigned: the place, then the value (the order is own)
 abbrev pub scalar_set : Abi → Memory → ℕ → Scalar → Spot → Term → Option Memory

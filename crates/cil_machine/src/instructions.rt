@@ -1,11 +1,29 @@
 ghost use Rattle.std.specs.Prelude.{◌≡◌, IfOk, OnErr};
 ghost use Rattle.byte_mem.specs.Store.{memory, Stored};
-ghost use Rattle.cil_machine.specs.Instructions.{scalar_set, copied, zeroed, bytes_from};
+ghost use Rattle.cil_machine.specs.Instructions.{value_set, scalar_set, copied, zeroed, bytes_from};
 
-use crate::evaluation::{place_pointer, term_value};
+use crate::evaluation::{place_pointer, term_number, term_value};
 use crate::terms::{Spot, Term};
-use byte_mem::{Cells, Scalar, Store};
-use cil_base::Memory;
+use byte_mem::{Cells, Pointer, Scalar, Store, Value};
+use cil_base::{IntKind, Memory};
+
+/// Evaluates a value of a scalar, and stores it in an object.
+fn set_value(mem: &mut Store, act: u64, at: Pointer, s: Scalar, value: &Term) -> Option<()>
+    ensures { Stored result mem.old mem.new (value_set mem.old.abi (memory mem.old) act s at value.now) }
+{
+    let v = term_value(mem, act, s, value)?;
+    mem.store(at, s, v)
+}
+
+/// The same of an integer, which is a number but where it is a pointer, a part of one, or unknown.
+fn set_integer(mem: &mut Store, act: u64, at: Pointer, kind: IntKind, value: &Term) -> Option<()>
+    ensures { Stored result mem.old mem.new (value_set mem.old.abi (memory mem.old) act (Scalar.Int kind) at value.now) }
+{
+    match term_number(mem, act, kind, value) {
+        Some(n) => mem.store(at, Scalar::Int(kind), Value::Int(n)),
+        None => set_value(mem, act, at, Scalar::Int(kind), value),
+    }
+}
 
 /// Evaluates a place and then a value of a scalar, and stores it there (C11 6.5.16p3; the order is own). None exactly
 /// where one of these is undefined; then nothing has changed.
@@ -13,8 +31,10 @@ pub fn set_place(mem: &mut Store, act: u64, s: Scalar, place: &Spot, value: &Ter
     ensures { Stored result mem.old mem.new (scalar_set mem.old.abi (memory mem.old) act s place.now value.now) }
 {
     let at = place_pointer(mem, act, place)?;
-    let v = term_value(mem, act, s, value)?;
-    mem.store(at, s, v)
+    match s {
+        Scalar::Int(kind) => set_integer(mem, act, at, kind, value),
+        Scalar::Ptr => set_value(mem, act, at, s, value),
+    }
 }
 
 /// Makes so many bytes of a place zero (own). None exactly where that is undefined; then nothing has changed.
