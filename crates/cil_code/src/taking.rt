@@ -12,7 +12,8 @@ use byte_mem::{Cells, Scalar, Store, Value};
 use cil_base::{IntKind, Memory};
 use cil_control::next;
 use cil_machine::{
-    Spot, Term, copy_place, place_pointer, set_place, term_number, term_truth, term_value, zero_place,
+    Spot, Term, copy_place, place_pointer, set_place, term_number, term_truth, term_value,
+    zero_place,
 };
 
 /// A value that is returned.

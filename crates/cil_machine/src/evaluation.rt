@@ -2,11 +2,9 @@ ghost use Rattle.std.specs.Prelude.{◌≡◌, IfSome, Some, not, option_map, po
 ghost use Rattle.std.specs.Ordering.{int_eq};
 ghost use Rattle.byte_mem.specs.Scalar.{IsValue, is_boolean};
 ghost use Rattle.byte_mem.specs.Store.{memory};
-ghost use Rattle.byte_mem.specs.Memory.{load};
-ghost use Rattle.byte_mem.specs.Operator.{truth, converted, compared, number_in, pointer_in, pointer_sum, pointer_less, pointer_difference, member_place, element_place, place_of};
+ghost use Rattle.byte_mem.specs.Operator.{converted, compared, pointer_sum, pointer_less, pointer_difference, member_place, element_place, place_of};
 ghost use Rattle.cil_base.specs.Arithmetic.{arith_of, unary_of, told};
 ghost use Rattle.cil_base.specs.Integer.{IsOf, long_of, wrapped};
-ghost use Rattle.cil_base.specs.declared.kinds.Abi.{Abi};
 ghost use Rattle.cil_machine.specs.Instructions.{pointer_from};
 ghost use Rattle.cil_machine.specs.Terms.{of_one, of_two, of_number, of_numbers, number_as, number, number_from, number_of, as_number, told_from, told_as, read_at, term_value, number_by, tested, spot_place, moved, pointer_for, difference_at, pointer_at};
 
