@@ -5,6 +5,7 @@ pub mod ScalarLemmas
 pub mod ObjectLemmas
 pub mod PlaceLemmas
 pub mod SlotLemmas
+pub mod DigitLemmas
 pub mod FrameLemmas
 pub mod NameLemmas
 pub mod StoreLemmas

@@ -1,10 +1,11 @@
 -- Definition: a region of bytes as the store keeps them: a cell for each byte, and beside them the pointers of which bytes are parts.
-use Rattle.std.specs.Prelude.{◌≡◌, ◌≤◌, ◌<◌, ◌^◌, ℕ, suc, ◌-◌, Bool, true, false, if◌then◌else◌, List, [], ◌∷◌, ◌++◌, length, replicate, Option, Some, None}
+use Rattle.std.specs.Prelude.{◌≡◌, ◌≤◌, ◌<◌, ◌^◌, ℕ, suc, ◌-◌, Bool, true, false, ◌&&◌, nat_eq, if◌then◌else◌, List, [], ◌∷◌, ◌++◌, length, replicate, Option, Some, None}
 use Rattle.byte_mem.specs.declared.pointers.Pointer.{Pointer}
 use Rattle.byte_mem.specs.declared.values.Byte.{Byte}
 use Rattle.byte_mem.specs.declared.values.Byte.TheVariants.{Known, Unknown, Part}
 use Rattle.byte_mem.specs.declared.contents.Cell.{Cell}
 use Rattle.byte_mem.specs.declared.contents.Cell.TheVariants.{Plain, Blank, Piece}
+use Rattle.byte_mem.specs.Name.{same_pointer}
 
 -- what a cell with the pointer at its place stands for
 abbrev pub byte_of : Cell → Option Pointer → Byte
@@ -52,3 +53,9 @@ abbrev pub known_in : Byte → Option ℕ
 known_in (Known b) = Some b
 known_in Unknown = None
 known_in (Part p k) = None
+
+-- the byte is the one of that number of the pointer
+abbrev pub is_part : Pointer → ℕ → Byte → Bool
+is_part p k (Part q j) = same_pointer p q && nat_eq k j
+is_part p k (Known b) = false
+is_part p k Unknown = false

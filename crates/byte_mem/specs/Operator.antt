@@ -17,7 +17,7 @@ use Rattle.byte_mem.specs.Steps.{◌>>=◌, only_if}
 use Rattle.byte_mem.specs.Name.{same_name}
 use Rattle.byte_mem.specs.Scalar.{kind_of, scalar_size, is_boolean}
 use Rattle.byte_mem.specs.Object.{Held}
-use Rattle.byte_mem.specs.Memory.{Memory}
+use Rattle.byte_mem.specs.Memory.{Memory, load}
 
 abbrev pub is_boolean_scalar : Scalar → Bool
 is_boolean_scalar (OfKind kind) = is_boolean kind
@@ -44,6 +44,10 @@ number_in (Int v) = Some v
 number_in (Ptr p) = None
 number_in Unknown = None
 number_in (Part p k) = None
+
+-- the number that is stored as the value of an integer type (C11 6.3.2.1p2)
+abbrev pub load_number : Abi → Memory → Pointer → IntKind → Option ℤ
+load_number abi m p kind = load abi m p (OfKind kind) >>= number_in
 
 -- the pointer that an operand of an operator is (own: a number is none)
 abbrev pub pointer_in : Value → Option Pointer

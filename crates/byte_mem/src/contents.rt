@@ -1,9 +1,9 @@
 ghost use Rattle.std.specs.Prelude.{◌≡◌, ◌≤◌, ◌<◌, ◌+◌, ◌^◌, [], true, length, replicate, take, slice_get, slice_index_or, slice_set, None, IfOk, OnOk, IsTrue, vec_len};
 ghost use Rattle.std.specs.Vec.{vec_capacity};
-ghost use Rattle.byte_mem.specs.Contents.{seen, is_covered, byte_of, grown, cell_of, is_plain, known_in};
+ghost use Rattle.byte_mem.specs.Contents.{seen, is_covered, byte_of, grown, cell_of, is_plain, known_in, is_part};
 ghost use Rattle.byte_mem.specs.Places.{Extended};
 
-use crate::pointers::Pointer;
+use crate::pointers::{Pointer, is_same_pointer};
 use crate::values::Byte;
 use std::alloc::{AllocError, Global};
 use std::marker::Model;
@@ -96,6 +96,7 @@ impl Contents {
 
     /// The number of bytes.
     #[tactic(auto, using(crate::proofs::ContentsLemmas::length_seen))]
+    #[inline(always)]
     pub fn len(&self) -> u32
         ensures { result ≡ length self.now }
     {
@@ -104,6 +105,7 @@ impl Contents {
 
     /// The byte at a place.
     #[tactic(auto, using(crate::proofs::ContentsLemmas::length_seen, crate::proofs::ContentsLemmas::byte_seen))]
+    #[inline(always)]
     pub fn get(&self, i: usize) -> Byte
         requires { i < length self.now }
         ensures { result ≡ slice_index_or self.now i Byte.Unknown }
@@ -113,6 +115,7 @@ impl Contents {
 
     /// The number of the byte at a place, if it is known.
     #[tactic(auto, using(crate::proofs::ContentsLemmas::length_seen, crate::proofs::ContentsLemmas::number_seen))]
+    #[inline(always)]
     pub fn known(&self, i: usize) -> Option<u8>
         requires { i < length self.now }
         ensures { result ≡ known_in (slice_index_or self.now i Byte.Unknown) }
@@ -120,8 +123,19 @@ impl Contents {
         plain_number(self.cells[i])
     }
 
+    /// Whether the byte at a place is the byte of that number of a pointer.
+    #[tactic(auto, using(crate::proofs::ContentsLemmas::length_seen, crate::proofs::ContentsLemmas::byte_seen))]
+    #[inline(always)]
+    pub fn is_part(&self, i: usize, p: Pointer, k: u8) -> bool
+        requires { i < length self.now }
+        ensures { result ≡ is_part p k (slice_index_or self.now i Byte.Unknown) }
+    {
+        is_part_of(self.cells[i], pointer_at(&self.pointers, i), p, k)
+    }
+
     /// Makes the byte at a place known.
     #[tactic(auto, using(crate::proofs::ContentsLemmas::length_seen, crate::proofs::ContentsLemmas::seen_set_plain))]
+    #[inline(always)]
     pub fn put_known(&mut self, i: usize, b: u8)
         requires { i < length self.old }
         ensures { self.new ≡ slice_set self.old i (Byte.Known b) }
@@ -130,6 +144,7 @@ impl Contents {
     }
 
     /// Writes a byte at a place.
+    #[inline(always)]
     pub fn put(&mut self, i: usize, b: Byte)
         requires { i < length self.old }
         ensures { self.new ≡ slice_set self.old i b }
@@ -142,6 +157,7 @@ impl Contents {
     }
 
     #[tactic(auto, using(crate::proofs::ContentsLemmas::length_seen, crate::proofs::ContentsLemmas::seen_set_blank))]
+    #[inline(always)]
     fn put_blank(&mut self, i: usize)
         requires { i < length self.old }
         ensures { self.new ≡ slice_set self.old i Byte.Unknown }
@@ -149,8 +165,10 @@ impl Contents {
         self.cells[i] = Cell::Blank;
     }
 
+    /// Makes the byte at a place the byte of that number of a pointer.
     #[tactic(auto, using(crate::proofs::ContentsLemmas::length_seen, crate::proofs::ContentsLemmas::seen_put_part))]
-    fn put_part(&mut self, i: usize, p: Pointer, k: u8)
+    #[inline(always)]
+    pub fn put_part(&mut self, i: usize, p: Pointer, k: u8)
         requires { i < length self.old }
         ensures { self.new ≡ slice_set self.old i (Byte.Part p k) }
     {
@@ -160,6 +178,7 @@ impl Contents {
 }
 
 /// Sets the pointer at a place, and grows the list to it first, in the room that it has.
+#[inline(always)]
 fn set_pointer(pointers: &mut Vec<Pointer>, i: usize, p: Pointer)
     requires { i < vec_capacity pointers.old }
     ensures items { pointers.new.items ≡ slice_set (grown pointers.old.items i p) i p }
@@ -211,12 +230,14 @@ fn plain_cell(b: Byte) -> Cell
     }
 }
 
+#[inline(always)]
 fn pointer_at(pointers: &[Pointer], i: usize) -> Option<Pointer>
     ensures { result ≡ slice_get pointers.now i }
 {
     pointers.get(i).copied()
 }
 
+#[inline(always)]
 fn byte_of(c: Cell, p: Option<Pointer>) -> Byte
     ensures { result ≡ byte_of c p }
 {
@@ -230,6 +251,21 @@ fn byte_of(c: Cell, p: Option<Pointer>) -> Byte
     }
 }
 
+/// Whether what a cell stands for, with the pointer at its place, is the byte of that number of a pointer.
+#[inline(always)]
+fn is_part_of(c: Cell, at: Option<Pointer>, p: Pointer, k: u8) -> bool
+    ensures { result ≡ is_part p k (byte_of c at) }
+{
+    match c {
+        Cell::Piece(j) => match at {
+            Some(q) => is_same_pointer(p, q) && k == j,
+            None => false,
+        },
+        Cell::Plain(_) | Cell::Blank => false,
+    }
+}
+
+#[inline(always)]
 fn plain_number(c: Cell) -> Option<u8>
     ensures { result ≡ known_in (byte_of c None) }
 {

@@ -53,6 +53,7 @@ impl Stack {
     }
 
     /// The object of a number in an activation.
+    #[inline(always)]
     pub fn get(&self, activation: u64, i: usize) -> Option<Object<'_>>
         ensures { local self.now activation i ≡ result }
     {
@@ -60,6 +61,7 @@ impl Stack {
     }
 
     /// Changes the object of a number in an activation.
+    #[inline(always)]
     pub fn change(
         &mut self,
         abi: Abi,
@@ -99,6 +101,7 @@ impl Stack {
 }
 
 #[tactic(auto, using(crate::proofs::FrameLemmas::local_found, crate::proofs::FrameLemmas::local_absent))]
+#[inline(always)]
 fn get_in(frames: &[Frame], activation: u64, i: usize) -> Option<Object<'_>>
     requires { IsRising frames.now }
     ensures { local frames.now activation i ≡ result }
@@ -111,6 +114,7 @@ fn get_in(frames: &[Frame], activation: u64, i: usize) -> Option<Object<'_>>
 
 /// The place of an activation among the frames.
 #[tactic(auto, using(crate::proofs::FrameLemmas::number_read))]
+#[inline(always)]
 fn find(frames: &[Frame], activation: u64) -> Option<usize>
     requires { IsRising frames.now }
     ensures { MatchOption result (IsAbsent frames.now activation) (λ k. IsFrame frames.now activation k) }
@@ -159,6 +163,7 @@ fn position(frames: &[Frame], activation: u64) -> usize
     low
 }
 
+#[inline(always)]
 fn change_in(
     frames: &mut [Frame],
     abi: Abi,

@@ -1,6 +1,7 @@
-ghost use Rattle.std.specs.Prelude.{◌≡◌, ◌≤◌, ◌+◌, ◌<◌, ◌^◌, length, replicate, IfSome, IfOk, option_map};
+ghost use Rattle.std.specs.Prelude.{◌≡◌, ◌≤◌, ◌+◌, ◌<◌, ◌^◌, length, replicate, IfSome, IfOk, option_map, ◌%◌, nat_eq};
 ghost use Rattle.byte_mem.specs.Object.{inside, aligned, part_at, load_held, load_part, store_held, store_part, fill_part, protect_held};
 ghost use Rattle.byte_mem.specs.Change.{changed_held};
+ghost use Rattle.byte_mem.specs.Scalar.{IsSize};
 ghost use Rattle.byte_mem.specs.Places.{held_of, IsWithin, PlaceChanges, Extended, begun};
 
 use crate::contents::Contents;
@@ -64,6 +65,7 @@ impl<'a> Model for Object<'a> {
 
 impl<'a> Object<'a> {
     /// What stands at a place of some bytes.
+    #[inline(always)]
     pub fn new(contents: &'a Contents, place: Place) -> Self
         requires { IsWithin contents.now place }
         ensures { result ≡ held_of contents.now place }
@@ -85,6 +87,7 @@ impl<'a> Object<'a> {
         self.place.is_function
     }
 
+    #[inline(always)]
     pub fn load(&self, abi: Abi, at: Pointer, s: Scalar) -> Option<Value>
         ensures { result ≡ load_held abi self.now at.offset s }
     {
@@ -103,6 +106,7 @@ impl<'a> Object<'a> {
     }
 }
 
+#[inline(always)]
 fn load_at(abi: Abi, c: &Contents, p: Place, at: Pointer, s: Scalar) -> Option<Value>
     requires { IsWithin c.now p }
     ensures { result ≡ load_held abi (held_of c.now p) at.offset s }
@@ -128,6 +132,7 @@ fn load_bytes_at(
 }
 
 /// The place among a region's bytes of one of an object's.
+#[inline(always)]
 fn first(c: &Contents, p: Place, i: u32) -> u32
     requires within { IsWithin c.now p }
     requires inside { i ≤ p.size }
@@ -138,6 +143,7 @@ fn first(c: &Contents, p: Place, i: u32) -> u32
 }
 
 /// Changes what stands at a place of some bytes, and gives the place that it has then.
+#[inline(always)]
 pub fn change_at(
     c: &mut Contents,
     p: Place,
@@ -156,6 +162,7 @@ pub fn change_at(
     }
 }
 
+#[inline(always)]
 fn store_at(c: &mut Contents, p: Place, abi: Abi, at: Pointer, s: Scalar, v: Value) -> Option<Place>
     requires { IsWithin c.old p }
     ensures { PlaceChanges result c.old c.new p (store_held abi (held_of c.old p) at.offset s v) }
@@ -214,6 +221,7 @@ fn begin_parts(c: &mut Contents, b: &Beginning) -> Result<(), AllocError>
 }
 
 /// The place of the first of n bytes at an offset into an object of that size, if they all lie in it.
+#[inline(always)]
 fn inside(at: Pointer, n: u32, size: u32) -> Option<u32>
     ensures value { result ≡ inside at.offset n size }
     ensures room { IfSome result (λ i. i + n ≤ size) }
@@ -222,6 +230,7 @@ fn inside(at: Pointer, n: u32, size: u32) -> Option<u32>
 }
 
 /// The same for a number of bytes that may be larger than any object.
+#[inline(always)]
 fn inside_long(at: Pointer, n: usize, size: u32) -> Option<u32>
     ensures value { result ≡ inside at.offset n size }
     ensures room { IfSome result (λ i. i + n ≤ size) }
@@ -238,11 +247,27 @@ fn inside_long(at: Pointer, n: usize, size: u32) -> Option<u32>
 }
 
 /// The same for a scalar, whose alignment is its size.
+#[inline(always)]
 fn aligned(at: Pointer, n: u32, size: u32) -> Option<u32>
-    requires { 0 < n }
+    requires { IsSize n }
     ensures value { result ≡ aligned at.offset n size }
     ensures room { IfSome result (λ i. i + n ≤ size) }
 {
     let i = inside(at, n, size)?;
-    if i % n == 0 { Some(i) } else { None }
+    if is_multiple(i, n) { Some(i) } else { None }
+}
+
+/// Whether a place is a multiple of the size of a scalar.
+// By each size, since a remainder by a constant is no division.
+#[inline(always)]
+fn is_multiple(i: u32, n: u32) -> bool
+    requires { IsSize n }
+    ensures { result ≡ nat_eq (i % n) 0 }
+{
+    match n {
+        1 => true,
+        2 => i % 2 == 0,
+        4 => i % 4 == 0,
+        _ => i % 8 == 0,
+    }
 }

@@ -47,6 +47,7 @@ impl Pages {
     }
 
     /// The object of a number.
+    #[inline(always)]
     pub fn get(&self, i: usize) -> Option<Object<'_>>
         ensures { paged self.now i ≡ result }
     {
@@ -59,6 +60,7 @@ impl Pages {
     }
 
     /// Changes the object of a number.
+    #[inline(always)]
     pub fn change(&mut self, abi: Abi, i: usize, at: Pointer, change: Change<'_>) -> Option<()>
         ensures { PagedChanges result self.old self.new i (changed_live abi at.offset change.entry (paged self.old i)) }
     {

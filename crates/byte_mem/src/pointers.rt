@@ -28,6 +28,7 @@ pub struct Pointer {
 }
 
 /// Whether two names are the same: of one kind, with equal numbers.
+#[inline(always)]
 pub fn is_same_name(a: ObjName, b: ObjName) -> bool
     ensures { result ≡ same_name a b }
 {
@@ -42,6 +43,7 @@ pub fn is_same_name(a: ObjName, b: ObjName) -> bool
 }
 
 /// Whether two pointers lead to one place of one object.
+#[inline(always)]
 pub fn is_same_pointer(p: Pointer, q: Pointer) -> bool
     ensures { result ≡ same_pointer p q }
 {

@@ -29,6 +29,7 @@ impl Sharing {
 }
 
 /// Changes what stands at a place, and gives the place that it has then.
+#[inline(always)]
 pub fn change_in(
     regions: &mut Vec<Contents>,
     p: Place,

@@ -55,6 +55,7 @@ impl Slots {
     }
 
     /// The object of a number.
+    #[inline(always)]
     pub fn get(&self, i: usize) -> Option<Object<'_>>
         ensures { slot self.now i ≡ result }
     {
@@ -65,6 +66,7 @@ impl Slots {
     }
 
     /// Changes the object of a number.
+    #[inline(always)]
     pub fn change(&mut self, abi: Abi, i: usize, at: Pointer, change: Change<'_>) -> Option<()>
         ensures { SlotChanges result self.old self.new i (changed_live abi at.offset change.entry (slot self.old i)) }
     {
@@ -100,6 +102,7 @@ impl Slots {
 }
 
 /// The place of a number.
+#[inline(always)]
 fn place_at(places: &[Option<Place>], i: usize) -> Option<Place>
     ensures { result ≡ place_at places.now i }
 {

@@ -1,5 +1,7 @@
 ghost use Rattle.std.specs.Prelude.{◌≡◌, IfOk, IfSome, option_map, None, Some};
 ghost use Rattle.cil_base.specs.declared.kinds.Abi.TheVariants.{Lp64};
+ghost use Rattle.cil_base.specs.Integer.{IsOf};
+ghost use Rattle.byte_mem.specs.Operator.{load_number};
 ghost use Rattle.byte_mem.specs.Object.{new_held, function_held, protect_held};
 ghost use Rattle.byte_mem.specs.Scalar.{IsValue};
 ghost use Rattle.byte_mem.specs.Change.{changed_held};
@@ -13,7 +15,7 @@ use crate::pages::Pages;
 use crate::pointers::{ObjName, Pointer};
 use crate::regions::Sharing;
 use crate::values::{Byte, Cells, Scalar, Value};
-use cil_base::{Abi, EntityId, Memory};
+use cil_base::{Abi, EntityId, IntKind, Memory};
 use std::alloc::Global;
 
 /// Many objects share a region of bytes, of one size or nearly so.
@@ -135,10 +137,16 @@ impl Store {
         ensures loaded { result ≡ load self.now.abi (memory self.now) at s }
         ensures value { IfSome result (IsValue self.now.abi s) }
     {
-        match self.find(at.name) {
-            Some(object) => object.load(self.abi, at, s),
-            None => None,
-        }
+        self.value_at(at, s)
+    }
+
+    /// The number that stands in an object as the value of an integer type, None exactly where `load` gives None or no
+    /// number.
+    pub fn load_number(&self, at: Pointer, kind: IntKind) -> Option<i128>
+        ensures number { result ≡ load_number self.now.abi (memory self.now) at kind }
+        ensures value { IfSome result (IsOf kind) }
+    {
+        self.value_at(at, Scalar::Int(kind))?.number()
     }
 
     /// Stores the value of a scalar (C11 6.5.16.1p2), None exactly where `load` gives it or the object is
@@ -184,7 +192,20 @@ impl Store {
         self.change(at, Change::Fill(len, b))
     }
 
+    /// The value of a scalar in an object.
+    #[inline(always)]
+    fn value_at(&self, at: Pointer, s: Scalar) -> Option<Value>
+        ensures loaded { result ≡ load self.now.abi (memory self.now) at s }
+        ensures value { IfSome result (IsValue self.now.abi s) }
+    {
+        match self.find(at.name) {
+            Some(object) => object.load(self.abi, at, s),
+            None => None,
+        }
+    }
+
     /// What is live under a name.
+    #[inline(always)]
     pub(crate) fn find(&self, n: ObjName) -> Option<Object<'_>>
         ensures { memory self.now n ≡ result }
     {
@@ -198,6 +219,7 @@ impl Store {
     }
 
     #[tactic(auto, using(crate::proofs::StoreLemmas::entity_changed, crate::proofs::StoreLemmas::local_changed, crate::proofs::StoreLemmas::literal_changed, crate::proofs::StoreLemmas::heap_changed, crate::proofs::StoreLemmas::argument_changed))]
+    #[inline(always)]
     fn change(&mut self, at: Pointer, change: Change<'_>) -> Option<()>
         ensures { Stored result self.old self.new (changed (memory self.old) at.name (changed_held self.old.abi at.offset change.entry)) }
     {

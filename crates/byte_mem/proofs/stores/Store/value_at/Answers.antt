@@ -2,7 +2,7 @@ use Rattle.std.proofs.Common.{IfSome, Option, sym, subst}
 use Rattle.byte_mem.specs.declared.values.Value.{Value}
 use Rattle.byte_mem.specs.Scalar.{IsValue}
 use Rattle.byte_mem.proofs.AgainLemmas.{load_held_is_value}
-use Rattle.byte_mem.proofs.stores.Store.load.Goals as goal
+use Rattle.byte_mem.proofs.stores.Store.value_at.Goals as goal
 
 pub returns-in-Some-clause-value : goal.returns-in-Some-clause-value
 returns-in-Some-clause-value c =
