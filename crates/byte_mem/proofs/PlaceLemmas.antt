@@ -396,6 +396,18 @@ slots_changed u q old new places i p f l a e h =
       λ k. changed_slot q old new places i k p (f (held_in old p)) l a e h ∙ ap (λ (o : Option Held). cond (nat_eq i k) o (slot (placed old places) k)) (sym live),
     )
 
+-- a store leaves the object where it is
+set_same : (places : List (Option Place)) (i : ℕ) (p q : Place) → place_at places i ≡ Some p → q ≡ p → set places i (Some q) ≡ places
+set_same places i p q e same = ap (λ x. set places i (Some x)) same ∙ ap (λ o. set places i o) (sym e) ∙ set-get_or places i None
+
+pub stored_apart : (q : Place) (old new : List (List Byte)) (places : List (Option Place)) (i : ℕ) (p : Place) (o : Option Held) → i < length places → IsApart old places → place_at places i ≡ Some p → q ≡ p → RegionChanges (Some q) old new p o → IsApart new places
+stored_apart q old new places i p o l a e same h = subst (IsApart new) (set_same places i p q e same) (changed_apart q old new places i p o l a e h)
+
+pub slots_stored : (u : Unit {0}) (q : Place) (old new : List (List Byte)) (places : List (Option Place)) (i : ℕ) (p : Place) (f : Held → Option Held) → i < length places → IsApart old places → place_at places i ≡ Some p → q ≡ p → RegionChanges (Some q) old new p (f (held_in old p))
+    → SlotChanges (Some u) (placed old places) (placed new places) i (slot (placed old places) i >>= f)
+slots_stored u q old new places i p f l a e same h =
+    subst (λ xs. SlotChanges (Some u) (placed old places) (placed new xs) i (slot (placed old places) i >>= f)) (set_same places i p q e same) (slots_changed u q old new places i p f l a e h)
+
 pub slots_refused : (old new : List (List Byte)) (places : List (Option Place)) (i : ℕ) (p : Place) (f : Held → Option Held) → place_at places i ≡ Some p → RegionChanges None old new p (f (held_in old p))
     → ((slot (placed old places) i >>= f) ≡ None) × (placed new places ≡ placed old places)
 slots_refused old new places i p f e h = (live_at old places i p f e ∙ h.0, ap (λ (rs : List (List Byte)). placed rs places) h.1)

@@ -1,5 +1,5 @@
 ghost use Rattle.std.specs.Prelude.{◌≡◌, ◌≢◌, ◌<◌, ◌≤◌, ◌+◌, ◌↔◌, ℕ, [], None, Some, length, IsTrue, MatchOption, OnOk};
-ghost use Rattle.byte_mem.specs.Change.{changed_live};
+ghost use Rattle.byte_mem.specs.Change.{changed_live, stored_live};
 ghost use Rattle.byte_mem.specs.Layers.{local, number_at, slots_at, IsFrame, IsAbsent, IsRising, LocalChanges, LocalPut, IsLocalPut};
 ghost use Rattle.byte_mem.specs.Places.{begun};
 
@@ -7,6 +7,7 @@ use crate::objects::{Beginning, Change, Object};
 use crate::pages::Pages;
 use crate::pointers::Pointer;
 use crate::regions::Sharing;
+use crate::values::{Scalar, Value};
 use cil_base::Abi;
 use std::alloc::{AllocError, Global};
 use std::marker::Model;
@@ -61,18 +62,32 @@ impl Stack {
     }
 
     /// Changes the object of a number in an activation.
-    #[inline(always)]
     pub fn change(
         &mut self,
-        abi: Abi,
         activation: u64,
         i: usize,
         at: Pointer,
         change: Change<'_>,
     ) -> Option<()>
-        ensures { LocalChanges result self.old self.new activation i (changed_live abi at.offset change.entry (local self.old activation i)) }
+        ensures { LocalChanges result self.old self.new activation i (changed_live at.offset change.entry (local self.old activation i)) }
     {
-        change_in(&mut self.frames, abi, activation, i, at, change)
+        change_in(&mut self.frames, activation, i, at, change)
+    }
+
+    /// Stores a scalar in the object of a number in an activation.
+    #[inline(always)]
+    pub fn store(
+        &mut self,
+        abi: Abi,
+        activation: u64,
+        i: usize,
+        at: Pointer,
+        s: Scalar,
+        v: Value,
+    ) -> Option<()>
+        ensures { LocalChanges result self.old self.new activation i (stored_live abi at.offset s v (local self.old activation i)) }
+    {
+        store_in(&mut self.frames, abi, activation, i, at, s, v)
     }
 
     /// Puts an object into an activation, in the place of an earlier one.
@@ -163,21 +178,39 @@ fn position(frames: &[Frame], activation: u64) -> usize
     low
 }
 
-#[inline(always)]
 fn change_in(
     frames: &mut [Frame],
-    abi: Abi,
     activation: u64,
     i: usize,
     at: Pointer,
     change: Change<'_>,
 ) -> Option<()>
     requires { IsRising frames.old }
-    ensures changed { LocalChanges result frames.old frames.new activation i (changed_live abi at.offset change.entry (local frames.old activation i)) }
+    ensures changed { LocalChanges result frames.old frames.new activation i (changed_live at.offset change.entry (local frames.old activation i)) }
     ensures rising { IsRising frames.new }
 {
     match find(frames, activation) {
-        Some(k) => frames[k].slots.change(abi, i, at, change),
+        Some(k) => frames[k].slots.change(i, at, change),
+        None => None,
+    }
+}
+
+#[inline(always)]
+fn store_in(
+    frames: &mut [Frame],
+    abi: Abi,
+    activation: u64,
+    i: usize,
+    at: Pointer,
+    s: Scalar,
+    v: Value,
+) -> Option<()>
+    requires { IsRising frames.old }
+    ensures stored { LocalChanges result frames.old frames.new activation i (stored_live abi at.offset s v (local frames.old activation i)) }
+    ensures rising { IsRising frames.new }
+{
+    match find(frames, activation) {
+        Some(k) => frames[k].slots.store(abi, i, at, s, v),
         None => None,
     }
 }

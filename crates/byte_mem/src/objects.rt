@@ -15,8 +15,6 @@ use std::marker::Model;
 /// What may happen to an object while it lives.
 #[derive(Clone, Copy)]
 pub enum Change<'a> {
-    /// A scalar is stored.
-    Store(Scalar, Value),
     /// Bytes are stored.
     Copy(&'a [Byte]),
     /// So many bytes become a number.
@@ -143,29 +141,30 @@ fn first(c: &Contents, p: Place, i: u32) -> u32
 }
 
 /// Changes what stands at a place of some bytes, and gives the place that it has then.
-#[inline(always)]
-pub fn change_at(
-    c: &mut Contents,
-    p: Place,
-    abi: Abi,
-    at: Pointer,
-    change: Change<'_>,
-) -> Option<Place>
+pub fn change_at(c: &mut Contents, p: Place, at: Pointer, change: Change<'_>) -> Option<Place>
     requires { IsWithin c.old p }
-    ensures { PlaceChanges result c.old c.new p (changed_held abi at.offset change.entry (held_of c.old p)) }
+    ensures { PlaceChanges result c.old c.new p (changed_held at.offset change.entry (held_of c.old p)) }
 {
     match change {
-        Change::Store(s, v) => store_at(c, p, abi, at, s, v),
         Change::Copy(bytes) => store_bytes_at(c, p, at, bytes),
         Change::Fill(n, b) => fill_at(c, p, at, n, b),
         Change::Protect(read_only) => Some(Place { read_only, ..p }),
     }
 }
 
+/// Stores a scalar in what stands at a place of some bytes, and gives that place.
 #[inline(always)]
-fn store_at(c: &mut Contents, p: Place, abi: Abi, at: Pointer, s: Scalar, v: Value) -> Option<Place>
+pub fn store_at(
+    c: &mut Contents,
+    p: Place,
+    abi: Abi,
+    at: Pointer,
+    s: Scalar,
+    v: Value,
+) -> Option<Place>
     requires { IsWithin c.old p }
-    ensures { PlaceChanges result c.old c.new p (store_held abi (held_of c.old p) at.offset s v) }
+    ensures changed { PlaceChanges result c.old c.new p (store_held abi (held_of c.old p) at.offset s v) }
+    ensures same { IfSome result (λ q. q ≡ p) }
 {
     let i = aligned(at, s.size(abi), p.size)?;
     if p.read_only {

@@ -1,5 +1,5 @@
 ghost use Rattle.std.specs.Prelude.{◌≡◌, ◌<◌, ◌≤◌, ◌↔◌, ℕ, None, Some, [], length, OnOk, IsTrue, vec_len, slice_index_or};
-ghost use Rattle.byte_mem.specs.Change.{changed_live};
+ghost use Rattle.byte_mem.specs.Change.{changed_live, stored_live};
 ghost use Rattle.byte_mem.specs.Layers.{paged, page_at, IsPut, PagedChanges, PagedPut, IsPagedPut};
 ghost use Rattle.byte_mem.specs.Places.{begun};
 
@@ -7,6 +7,7 @@ use crate::objects::{Beginning, Change, Object};
 use crate::pointers::Pointer;
 use crate::regions::Sharing;
 use crate::slots::Slots;
+use crate::values::{Scalar, Value};
 use cil_base::Abi;
 use std::alloc::{AllocError, Global};
 use std::marker::Model;
@@ -60,13 +61,25 @@ impl Pages {
     }
 
     /// Changes the object of a number.
-    #[inline(always)]
-    pub fn change(&mut self, abi: Abi, i: usize, at: Pointer, change: Change<'_>) -> Option<()>
-        ensures { PagedChanges result self.old self.new i (changed_live abi at.offset change.entry (paged self.old i)) }
+    pub fn change(&mut self, i: usize, at: Pointer, change: Change<'_>) -> Option<()>
+        ensures { PagedChanges result self.old self.new i (changed_live at.offset change.entry (paged self.old i)) }
     {
         let page = i / 64;
         if page < self.pages.len() {
-            self.pages[page].change(abi, i % 64, at, change)
+            self.pages[page].change(i % 64, at, change)
+        } else {
+            None
+        }
+    }
+
+    /// Stores a scalar in the object of a number.
+    #[inline(always)]
+    pub fn store(&mut self, abi: Abi, i: usize, at: Pointer, s: Scalar, v: Value) -> Option<()>
+        ensures { PagedChanges result self.old self.new i (stored_live abi at.offset s v (paged self.old i)) }
+    {
+        let page = i / 64;
+        if page < self.pages.len() {
+            self.pages[page].store(abi, i % 64, at, s, v)
         } else {
             None
         }

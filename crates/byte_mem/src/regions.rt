@@ -1,10 +1,12 @@
-ghost use Rattle.std.specs.Prelude.{◌≡◌, ◌≤◌, ◌+◌, ◌<◌, ◌^◌, ℕ, [], length, take, max, IfOk, OnOk, IsTrue, nat_eq, nat_le, if◌then◌else◌};
+ghost use Rattle.std.specs.Prelude.{◌≡◌, ◌≤◌, ◌+◌, ◌<◌, ◌^◌, ℕ, [], length, take, max, IfOk, IfSome, OnOk, IsTrue, nat_eq, nat_le, if◌then◌else◌};
 ghost use Rattle.byte_mem.specs.Change.{changed_held};
+ghost use Rattle.byte_mem.specs.Object.{store_held};
 ghost use Rattle.byte_mem.specs.Places.{region_at, held_in, IsIn, IsSameRegions, IsGrown, IsBegun, RegionChanges, end_in, top_of, trimmed};
 
 use crate::contents::Contents;
-use crate::objects::{Beginning, Change, Place, begin, change_at};
+use crate::objects::{Beginning, Change, Place, begin, change_at, store_at};
 use crate::pointers::Pointer;
+use crate::values::{Scalar, Value};
 use cil_base::Abi;
 use std::alloc::{AllocError, Global};
 
@@ -29,18 +31,33 @@ impl Sharing {
 }
 
 /// Changes what stands at a place, and gives the place that it has then.
-#[inline(always)]
 pub fn change_in(
     regions: &mut Vec<Contents>,
     p: Place,
-    abi: Abi,
     at: Pointer,
     change: Change<'_>,
 ) -> Option<Place>
     requires { IsIn regions.old.items p }
-    ensures { RegionChanges result regions.old.items regions.new.items p (changed_held abi at.offset change.entry (held_in regions.old.items p)) }
+    ensures { RegionChanges result regions.old.items regions.new.items p (changed_held at.offset change.entry (held_in regions.old.items p)) }
 {
-    change_at(&mut regions[p.region], p, abi, at, change)
+    change_at(&mut regions[p.region], p, at, change)
+}
+
+/// Stores a scalar in what stands at a place, and gives that place.
+#[inline(always)]
+pub fn store_in(
+    regions: &mut Vec<Contents>,
+    p: Place,
+    abi: Abi,
+    at: Pointer,
+    s: Scalar,
+    v: Value,
+) -> Option<Place>
+    requires { IsIn regions.old.items p }
+    ensures changed { RegionChanges result regions.old.items regions.new.items p (store_held abi (held_in regions.old.items p) at.offset s v) }
+    ensures same { IfSome result (λ q. q ≡ p) }
+{
+    store_at(&mut regions[p.region], p, abi, at, s, v)
 }
 
 /// Finds room for what begins to live: in the region of that number, or in the first that serves, or in one

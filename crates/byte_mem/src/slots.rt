@@ -1,12 +1,13 @@
 ghost use Rattle.std.specs.Prelude.{◌≡◌, ◌<◌, ◌≤◌, ◌↔◌, ℕ, None, Some, [], length, OnOk, IsTrue, vec_len, nat_eq, if◌then◌else◌};
-ghost use Rattle.byte_mem.specs.Change.{changed_live};
+ghost use Rattle.byte_mem.specs.Change.{changed_live, stored_live};
 ghost use Rattle.byte_mem.specs.Layers.{slot, SlotChanges, SlotPut, IsPut};
 ghost use Rattle.byte_mem.specs.Places.{begun, place_at, given_up};
 
 use crate::contents::Contents;
 use crate::objects::{Beginning, Change, Object, Place};
 use crate::pointers::Pointer;
-use crate::regions::{Sharing, change_in, is_last, place_new, trim};
+use crate::regions::{Sharing, change_in, is_last, place_new, store_in, trim};
+use crate::values::{Scalar, Value};
 use cil_base::Abi;
 use std::alloc::{AllocError, Global};
 use std::marker::Model;
@@ -66,13 +67,23 @@ impl Slots {
     }
 
     /// Changes the object of a number.
-    #[inline(always)]
-    pub fn change(&mut self, abi: Abi, i: usize, at: Pointer, change: Change<'_>) -> Option<()>
-        ensures { SlotChanges result self.old self.new i (changed_live abi at.offset change.entry (slot self.old i)) }
+    pub fn change(&mut self, i: usize, at: Pointer, change: Change<'_>) -> Option<()>
+        ensures { SlotChanges result self.old self.new i (changed_live at.offset change.entry (slot self.old i)) }
     {
         let place = place_at(&self.places, i)?;
-        let changed = change_in(&mut self.regions, place, abi, at, change)?;
+        let changed = change_in(&mut self.regions, place, at, change)?;
         self.places[i] = Some(changed);
+        Some(())
+    }
+
+    /// Stores a scalar in the object of a number.
+    // The object stays where it is, so that no place is written.
+    #[inline(always)]
+    pub fn store(&mut self, abi: Abi, i: usize, at: Pointer, s: Scalar, v: Value) -> Option<()>
+        ensures { SlotChanges result self.old self.new i (stored_live abi at.offset s v (slot self.old i)) }
+    {
+        let place = place_at(&self.places, i)?;
+        let _same = store_in(&mut self.regions, place, abi, at, s, v)?;
         Some(())
     }
 

@@ -151,10 +151,20 @@ impl Store {
 
     /// Stores the value of a scalar (C11 6.5.16.1p2), None exactly where `load` gives it or the object is
     /// read-only; then nothing has changed.
+    #[tactic(auto, using(crate::proofs::StoreLemmas::entity_changed, crate::proofs::StoreLemmas::local_changed, crate::proofs::StoreLemmas::literal_changed, crate::proofs::StoreLemmas::heap_changed, crate::proofs::StoreLemmas::argument_changed))]
     pub fn store(&mut self, at: Pointer, s: Scalar, v: Value) -> Option<()>
         ensures { Stored result self.old self.new (store self.old.abi (memory self.old) at s v) }
     {
-        self.change(at, Change::Store(s, v))
+        let abi = self.abi;
+        match at.name {
+            ObjName::Entity(e) => self.entities.store(abi, e.0 as usize, at, s, v),
+            ObjName::Local(activation, l) => {
+                self.locals.store(abi, activation, l.0 as usize, at, s, v)
+            }
+            ObjName::Literal(i) => self.literals.store(abi, i as usize, at, s, v),
+            ObjName::Heap(i) => self.heap.store(abi, i as usize, at, s, v),
+            ObjName::Argument(i) => self.arguments.store(abi, i as usize, at, s, v),
+        }
     }
 
     /// So many bytes of an object, None exactly where nothing live has the name or they do not lie in it.
@@ -219,20 +229,17 @@ impl Store {
     }
 
     #[tactic(auto, using(crate::proofs::StoreLemmas::entity_changed, crate::proofs::StoreLemmas::local_changed, crate::proofs::StoreLemmas::literal_changed, crate::proofs::StoreLemmas::heap_changed, crate::proofs::StoreLemmas::argument_changed))]
-    #[inline(always)]
     fn change(&mut self, at: Pointer, change: Change<'_>) -> Option<()>
-        ensures { Stored result self.old self.new (changed (memory self.old) at.name (changed_held self.old.abi at.offset change.entry)) }
+        ensures { Stored result self.old self.new (changed (memory self.old) at.name (changed_held at.offset change.entry)) }
     {
-        let abi = self.abi;
         match at.name {
-            ObjName::Entity(e) => self.entities.change(abi, e.0 as usize, at, change),
-            ObjName::Local(activation, l) => {
-                self.locals
-                    .change(abi, activation, l.0 as usize, at, change)
-            }
-            ObjName::Literal(i) => self.literals.change(abi, i as usize, at, change),
-            ObjName::Heap(i) => self.heap.change(abi, i as usize, at, change),
-            ObjName::Argument(i) => self.arguments.change(abi, i as usize, at, change),
+            ObjName::Entity(e) => self.entities.change(e.0 as usize, at, change),
+            ObjName::Local(activation, l) => self
+                .locals
+                .change(activation, l.0 as usize, at, change),
+            ObjName::Literal(i) => self.literals.change(i as usize, at, change),
+            ObjName::Heap(i) => self.heap.change(i as usize, at, change),
+            ObjName::Argument(i) => self.arguments.change(i as usize, at, change),
         }
     }
 

@@ -12,7 +12,7 @@ pub returns-in_err-changed : goal.returns-in_err-changed
 returns-in_err-changed c =
     let e = place_found c.self.inside.places.items c.deref.result.now c.args.i c.place_at.result c.in_ok-place.place c.deref.ensures.value c.place_at.ensures c.in_ok-place.was in
     rw (c.from_residual-in_err-changed.ensures, ← c.self.view_is)
-    (slots_refused c.self.inside.regions.items c.change_in.new.regions.items c.self.inside.places.items c.args.i c.in_ok-place.place (changed_held c.args.abi c.args.at.offset c.args.change) e c.in_err-changed.ensures)
+    (slots_refused c.self.inside.regions.items c.change_in.new.regions.items c.self.inside.places.items c.args.i c.in_ok-place.place (changed_held c.args.at.offset c.args.change) e c.in_err-changed.ensures)
 
 pub invariant_of-self-2 : goal.invariant_of-self-2
 invariant_of-self-2 c =
@@ -23,4 +23,4 @@ pub returns : goal.returns
 returns c =
     let e = place_found c.self.inside.places.items c.deref.result.now c.args.i c.place_at.result c.in_ok-place.place c.deref.ensures.value c.place_at.ensures c.in_ok-place.was in
     rw (← c.self.view_is)
-    (slots_changed _ c.in_ok-changed.changed c.self.inside.regions.items c.change_in.new.regions.items c.self.inside.places.items c.args.i c.in_ok-place.place (changed_held c.args.abi c.args.at.offset c.args.change) (place_below _ _ _ e) c.self.invariant e c.in_ok-changed.ensures)
+    (slots_changed _ c.in_ok-changed.changed c.self.inside.regions.items c.change_in.new.regions.items c.self.inside.places.items c.args.i c.in_ok-place.place (changed_held c.args.at.offset c.args.change) (place_below _ _ _ e) c.self.invariant e c.in_ok-changed.ensures)
