@@ -243,8 +243,7 @@ fn number_at(mem: &Store, act: u64, kind: IntKind, place: &Spot) -> Option<i128>
     ensures number { result ≡ number_of (read_at mem.now.abi (memory mem.now) (Scalar.Int kind) (pointer_from mem.now.abi (memory mem.now) act place.now)) }
     ensures value { IfSome result (IsOf kind) }
 {
-    mem.load(place_pointer(mem, act, place)?, Scalar::Int(kind))?
-        .number()
+    mem.load_number(place_pointer(mem, act, place)?, kind)
 }
 
 /// Whether a number of a kind is none but 0.
