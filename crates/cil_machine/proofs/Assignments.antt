@@ -1,5 +1,5 @@
 -- Device: what resolved instructions change is what the instructions mean.
-use Rattle.std.proofs.Common.{◌≡◌, ℕ, List, Option, Some, None, option_map, refl, sym, ap, ◌∙◌, subst}
+use Rattle.std.proofs.Common.{◌≡◌, ℕ, List, Option, Some, None, option_map, refl, sym, ap, ◌∙◌}
 use Rattle.cil_base.specs.declared.kinds.Abi.{Abi}
 use Rattle.byte_mem.specs.declared.pointers.Pointer.{Pointer}
 use Rattle.byte_mem.specs.declared.values.Byte.{Byte}
@@ -10,15 +10,12 @@ use Rattle.byte_mem.specs.Memory.{Memory, load_bytes, store_bytes, zero}
 use Rattle.byte_mem.specs.Operator.{pointer_in}
 use Rattle.type_graph.specs.Shapes.{Shape}
 use Rattle.execution.specs.Data.{Kind, OfScalar, OfAggregate, Datum, Single, Bytes, store_datum, store_to, load_datum, zero_from}
-use Rattle.cil_tree.specs.Tree.{Exp, Value as ValueOf, Lval}
-use Rattle.cil_tree.specs.Typing.{Scope, type_of, place_type}
+use Rattle.cil_tree.specs.Tree.{Value as ValueOf, Lval}
+use Rattle.cil_tree.specs.Typing.{Scope, place_type}
 use Rattle.cil_semantics.specs.Values.{kind_in, scalar_in, single_in, size_in, value, scalar_value, place}
-use Rattle.cil_semantics.specs.Statements.{kind_of_place}
-use Rattle.cil_machine.specs.declared.terms.Term.{Term}
-use Rattle.cil_machine.specs.declared.terms.Spot.{Spot}
 use Rattle.cil_machine.specs.Terms.{term_value, spot_place}
-use Rattle.cil_machine.specs.Resolution.{activation, Means, MeansPlace}
-use Rattle.cil_machine.specs.Instructions.{scalar_set, pointer_from, zeroed, bytes_from, copied}
+use Rattle.cil_machine.specs.Resolution.{activation}
+use Rattle.cil_machine.specs.Instructions.{bytes_from}
 use Rattle.cil_machine.specs.Meant.{SetsAreMeant, ZerosAreMeant, CopiesAreMeant}
 use Rattle.cil_machine.proofs.Meanings.{both, kind_of_scalar}
 

@@ -1,6 +1,6 @@
 -- Device: a difference of two offsets of live objects is of the kind long.
-use Rattle.std.proofs.Common.{◌≡◌, ℕ, ◌<◌, ◌≤◌, ◌^◌, ℤ, pos, negsuc, ◌-ℤ◌, ◌<ℤ◌, ◌≤ℤ◌, int_div, int_rem, FitsSigned, w64, Bool, true, false, Option, Some, None, option_map, length, refl, sym, ap, ◌∙◌, subst, arith}
-use Rattle.std.specs.Prelude.{IfSome, nat_le, unsigned_abs}
+use Rattle.std.proofs.Common.{◌≡◌, ℕ, ◌<◌, ◌≤◌, ◌^◌, ℤ, pos, negsuc, ◌-ℤ◌, ◌<ℤ◌, ◌≤ℤ◌, int_div, int_rem, FitsSigned, w64, Bool, true, false, Option, Some, None, option_map, length, refl, ap, subst, arith}
+use Rattle.std.specs.Prelude.{IfSome}
 use Rattle.std.specs.Ordering.{int_eq}
 use Rattle.std.proofs.lemmas.Bool.Decides.{nat_tests}
 use Rattle.std.proofs.lemmas.Int.{ints, quot_fits}
@@ -11,13 +11,13 @@ use Rattle.cil_base.specs.Integer.{IsOf, long_of}
 use Rattle.byte_mem.specs.declared.pointers.Pointer.{Pointer}
 use Rattle.byte_mem.specs.declared.values.Scalar.TheVariants.{Int as OfKind}
 use Rattle.byte_mem.specs.declared.values.Value.{Value}
-use Rattle.byte_mem.specs.declared.values.Value.TheVariants.{Int, Ptr}
+use Rattle.byte_mem.specs.declared.values.Value.TheVariants.{Int}
 use Rattle.byte_mem.specs.Scalar.{IsValue}
 use Rattle.byte_mem.specs.Object.{Held}
 use Rattle.byte_mem.specs.Memory.{Memory, live_size}
 use Rattle.byte_mem.specs.Name.{same_name}
 use Rattle.byte_mem.specs.Steps.{◌>>=◌, only_if}
-use Rattle.byte_mem.specs.Operator.{in_reach, reached, offsets_in, distance, pointer_difference, pointer_in}
+use Rattle.byte_mem.specs.Operator.{in_reach, offsets_in, distance, pointer_difference, pointer_in}
 
 abbrev IsLong : Option Value → Type 0
 IsLong o = IfSome o (IsValue Lp64 (OfKind Long))

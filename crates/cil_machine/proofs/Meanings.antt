@@ -1,6 +1,6 @@
 -- Device: terms are those of expressions, operator by operator.
 use Rattle.std.proofs.Common.{◌≡◌, ℕ, ℤ, pos, Bool, true, false, ◌&&◌, ◌||◌, not, int_lt, int_le, List, Option, Some, None, option_map, refl, sym, ap, ◌∙◌, subst}
-use Rattle.std.specs.Prelude.{if◌then◌else◌, cond}
+use Rattle.std.specs.Prelude.{if◌then◌else◌}
 use Rattle.std.specs.Option.{option_and_then}
 use Rattle.std.specs.Ordering.{int_eq}
 use Rattle.cil_base.specs.declared.kinds.IntKind.{IntKind}
@@ -22,15 +22,15 @@ use Rattle.byte_mem.specs.Steps.{◌>>=◌, only_if}
 use Rattle.byte_mem.specs.declared.pointers.Pointer.{Pointer}
 use Rattle.byte_mem.specs.Memory.{Memory, load}
 use Rattle.byte_mem.specs.Operator.{truth, converted, computed, pointer_sum, pointer_less, pointer_difference, compared, number_in, pointer_in, unary}
-use Rattle.execution.specs.Data.{Kind, OfVoid, OfScalar, OfAggregate, Datum, Single, Bytes, load_datum, load_from}
+use Rattle.execution.specs.Data.{Kind, OfVoid, OfScalar, OfAggregate, Datum, Single, load_datum, load_from}
 use Rattle.cil_tree.specs.Tree.{Exp, Const, Value as ValueOf, Un, Bin, Cast, AddrOf, StartOf, Lval}
-use Rattle.cil_tree.specs.Typing.{Scope, type_of, place_type, same_kind, is_wide, is_scalar, is_comparison, integer_type, binary_type, unary_type, cast_type, moved_type, pointers_type, is_function, same_shape, is_void, read_type, is_readable, address_type, start_type, pointer_to}
+use Rattle.cil_tree.specs.Typing.{Scope, type_of, place_type, same_kind, is_wide, is_scalar, is_comparison, integer_type, binary_type, unary_type, cast_type, pointers_type, is_function, same_shape, is_void, read_type, is_readable, address_type, start_type, pointer_to}
 use Rattle.cil_tree.proofs.ShapeEquality.{kind_told, kind_itself}
 use Rattle.cil_check.proofs.SeenLaws.{fits_is}
 use Rattle.cil_semantics.specs.Values.{Activation, scalar_in, scalar_kind, kind_in, single_in, size_in, value, scalar_value, place, unary_value, binary_value, moved_value, summed_value, pointers_value, cast_value}
-use Rattle.cil_machine.specs.declared.terms.Term.{Term, Number, Load, Not', Unary', Arithmetic', Shift', Compare', Sum', Less', Difference', Relation', Convert', Address, Wrong as NoTerm}
+use Rattle.cil_machine.specs.declared.terms.Term.{Term, Number, Load, Not', Unary', Arithmetic', Shift', Compare', Sum', Less', Difference', Relation', Convert', Address}
 use Rattle.cil_machine.specs.declared.terms.Spot.{Spot}
-use Rattle.cil_machine.specs.Terms.{number, loaded, number_from, told_from, term_value, spot_place, compared_number, unary_at, arithmetic_at, shifted_at, pointer_for, difference_at, difference_for}
+use Rattle.cil_machine.specs.Terms.{number, loaded, number_from, told_from, term_value, compared_number, difference_at}
 use Rattle.cil_machine.specs.Resolution.{activation, scalar_type, Means, MeansPlace}
 
 pub none-some : {A X : Type 0} (a : A) → None ≡ Some a → X

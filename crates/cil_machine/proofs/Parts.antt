@@ -1,5 +1,5 @@
 -- Device: places, step by step from what they begin with.
-use Rattle.std.proofs.Common.{◌≡◌, ℕ, zero, suc, ◌+◌, ◌<◌, ◌≤◌, length, get_or, drop, drop-cons, add-one, [], ◌∷◌, arith, Bool, true, false, List, Option, Some, None, option_map, refl, sym, ap, ◌∙◌, subst}
+use Rattle.std.proofs.Common.{◌≡◌, ℕ, zero, suc, ◌+◌, ◌<◌, ◌≤◌, length, get_or, drop, drop-cons, add-one, [], ◌∷◌, arith, Bool, true, false, List, Option, Some, None, refl, sym, ap, ◌∙◌, subst}
 use Rattle.std.specs.Prelude.{if◌then◌else◌, slice_get, IfSome}
 use Rattle.std.specs.Option.{option_and_then}
 use Rattle.cil_base.specs.declared.kinds.IntKind.{IntKind}
@@ -14,12 +14,11 @@ use Rattle.type_graph.specs.Layouts.{offset}
 use Rattle.byte_mem.specs.declared.values.Scalar.TheVariants.{Int as OfKind, Ptr as OfPointer}
 use Rattle.byte_mem.specs.declared.values.Value.{Value}
 use Rattle.byte_mem.specs.Steps.{◌>>=◌}
-use Rattle.byte_mem.specs.Memory.{Memory}
 use Rattle.byte_mem.specs.Operator.{member_place, element_place, place_of}
 use Rattle.cil_tree.specs.Tree.{Exp, Host, Global, Var, At, Offsets, Here, Field, Index, Lval, Place}
-use Rattle.cil_tree.specs.Typing.{Scope, type_of, host_type, part_type, place_type, member_type, element_of, element_type, is_index, is_wide, pointed}
+use Rattle.cil_tree.specs.Typing.{Scope, type_of, host_type, part_type, place_type, member_type, element_of, element_type, is_index, pointed}
 use Rattle.cil_tree.specs.Globals.{aggregate_of}
-use Rattle.cil_semantics.specs.Values.{Activation, scalar_in, size_in, single_in, value, scalar_value, member_offset, part_place, host_place, place}
+use Rattle.cil_semantics.specs.Values.{scalar_in, size_in, single_in, value, member_offset, part_place, host_place}
 use Rattle.cil_machine.specs.declared.terms.Term.{Term}
 use Rattle.cil_machine.specs.declared.terms.Spot.{Spot, Entity as Global', Local as Own, At', Member', Element', Wrong as NoSpot}
 use Rattle.cil_machine.specs.Terms.{term_value, spot_place, pointer_at}

@@ -1,5 +1,5 @@
 -- Device: the sizes that layouts in step have.
-use Rattle.std.proofs.Common.{◌≡◌, ℕ, ◌<◌, List, length, Bool, true, false, Option, Some, None, option_map, refl, sym, ap, ◌∙◌, subst}
+use Rattle.std.proofs.Common.{◌≡◌, ℕ, ◌<◌, List, length, Bool, true, false, Option, Some, None, option_map, refl, ap, ◌∙◌, subst}
 use Rattle.std.specs.Prelude.{IfSome, IsSome, is_some, slice_get, if◌then◌else◌}
 use Rattle.std.specs.Option.{option_and_then}
 use Rattle.cil_base.specs.declared.numbers.AggId.{AggId}

@@ -1,12 +1,12 @@
 -- Device: terms with their types, operator by operator.
-use Rattle.std.proofs.Common.{◌≡◌, ℕ, ◌<◌, Bool, true, false, ◌&&◌, ◌||◌, not, List, Option, Some, None, option_map, length, refl, sym, ap, ◌∙◌, subst}
-use Rattle.std.specs.Prelude.{if◌then◌else◌, IfSome, slice_get}
+use Rattle.std.proofs.Common.{◌≡◌, ℕ, Bool, true, false, ◌&&◌, ◌||◌, List, Option, Some, None, option_map, refl, sym, ap, ◌∙◌, subst}
+use Rattle.std.specs.Prelude.{if◌then◌else◌, IfSome}
 use Rattle.std.specs.Option.{option_and_then}
 use Rattle.cil_base.specs.declared.kinds.IntKind.{IntKind}
 use Rattle.cil_base.specs.declared.kinds.IntKind.TheVariants.{Int as int}
 use Rattle.cil_base.specs.declared.numbers.TypeId.{TypeId}
 use Rattle.cil_base.specs.declared.operators.BinOp.{BinOp}
-use Rattle.cil_base.specs.declared.operators.BinOp.TheVariants.{Mul, Div, Rem, Add, Sub, Shl, Shr, Lt, Gt, Le, Ge, Eq, Ne, And, Xor, Or}
+use Rattle.cil_base.specs.declared.operators.BinOp.TheVariants.{Add, Sub, Lt, Gt, Le, Ge, Eq, Ne}
 use Rattle.cil_base.specs.declared.operators.UnOp.{UnOp}
 use Rattle.cil_base.specs.declared.operators.UnOp.TheVariants.{Neg, Compl, Not as LogicalNot}
 use Rattle.cil_base.specs.Integer.{long_of}
@@ -14,20 +14,18 @@ use Rattle.cil_base.specs.Arithmetic.{is_shift}
 use Rattle.type_graph.specs.declared.nodes.Quals.{Quals}
 use Rattle.type_graph.specs.Shapes.{Shape, VoidType, IntType, PtrType, ArrayType, FuncType, AggType, shape}
 use Rattle.type_graph.specs.Arena.{Graph, complete_shape}
-use Rattle.byte_mem.specs.declared.values.Scalar.{Scalar}
 use Rattle.byte_mem.specs.Steps.{◌>>=◌}
-use Rattle.cil_tree.specs.Tree.{Exp, Const, Value as ValueOf, Un, Bin, Cast, AddrOf, StartOf, Lval}
+use Rattle.cil_tree.specs.Tree.{Exp, Value as ValueOf, Un, Bin, Cast, AddrOf, StartOf, Lval}
 use Rattle.cil_tree.specs.Typing.{Scope, type_of, place_type, is_scalar, is_comparison, names_enum, binary_type, unary_type, cast_type, read_type, address_type, start_type, forward_type, backward_type, is_wide, pointer_to, same_shape, pointers_type, is_void}
-use Rattle.cil_semantics.specs.Values.{scalar_in, scalar_kind, aggregate_kind, size_in}
+use Rattle.cil_semantics.specs.Values.{scalar_in, scalar_kind, aggregate_kind}
 use Rattle.cil_check.specs.declared.seen.Seen.{Seen}
-use Rattle.cil_check.specs.Seen.{seen_shape, IsThere, told, bare, is_other}
-use Rattle.cil_machine.specs.declared.terms.Term.{Term, Number, Load, Not', Unary', Arithmetic', Shift', Compare', Sum', Less', Difference', Relation', Convert', Address, Wrong as NoTerm}
-use Rattle.cil_machine.specs.declared.terms.Spot.{Spot}
+use Rattle.cil_check.specs.Seen.{seen_shape, IsThere, told, is_other}
+use Rattle.cil_machine.specs.declared.terms.Term.{Term, Load, Unary', Arithmetic', Shift', Address}
 use Rattle.cil_machine.specs.declared.resolution.Class.{Class}
 use Rattle.cil_machine.specs.declared.resolution.Class.TheVariants.{Shift}
 use Rattle.cil_machine.specs.declared.resolution.Typed.{Typed}
 use Rattle.cil_machine.specs.declared.resolution.TypedSpot.{TypedSpot}
-use Rattle.cil_machine.specs.Resolution.{scalar_type, Means, MeansPlace}
+use Rattle.cil_machine.specs.Resolution.{Means}
 use Rattle.cil_machine.specs.Typed.{IsTyped, IsPlaced, IsClass}
 use Rattle.cil_machine.proofs.Meanings.{means_arithmetic, means_left_shift, means_right_shift, means_nothing, means_no_scalar, means_value, means_address, means_start, means_minus, means_complement, type_is}
 

@@ -1,5 +1,5 @@
 -- Device: what it means that terms and places are those of expressions and lvalues: with the function's types and the run's numbers of entities they give in each memory what these mean there.
-use Rattle.std.specs.Prelude.{◌≡◌, ℕ, List, Option, Some, None}
+use Rattle.std.specs.Prelude.{◌≡◌, ℕ, List, Option, Some}
 use Rattle.byte_mem.specs.declared.values.Scalar.{Scalar}
 use Rattle.byte_mem.specs.Steps.{◌>>=◌}
 use Rattle.byte_mem.specs.Memory.{Memory}

@@ -45,8 +45,8 @@ pub fn zero_place(mem: &mut Store, act: u64, size: u32, place: &Spot) -> Option<
     mem.zero(at, size)
 }
 
-/// The bytes of a struct or union at a place.
-fn bytes_at(mem: &Store, act: u64, size: u32, place: &Spot) -> Result<Option<Cells>, Memory>
+/// The bytes of a struct or union at a place. None exactly where that is undefined.
+pub fn bytes_at(mem: &Store, act: u64, size: u32, place: &Spot) -> Result<Option<Cells>, Memory>
     ensures { IfOk result (λ o. o ≡ bytes_from mem.now.abi (memory mem.now) act size place.now) }
 {
     match place_pointer(mem, act, place) {

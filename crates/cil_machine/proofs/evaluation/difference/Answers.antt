@@ -1,5 +1,5 @@
 -- Answers: a difference of offsets of one object is of the kind long.
-use Rattle.std.proofs.Common.{◌≡◌, IfSome, sym, subst, arith}
+use Rattle.std.proofs.Common.{IfSome, sym, subst, arith}
 use Rattle.byte_mem.specs.Store.{memory}
 use Rattle.byte_mem.specs.Scalar.{IsValue}
 use Rattle.byte_mem.specs.declared.values.Scalar.TheVariants.{Int as OfKind}

@@ -1,5 +1,5 @@
 -- Answers: steps of a way.
-use Rattle.std.proofs.Common.{◌≡◌, ◌+◌, ◌∷◌, drop, subst}
+use Rattle.std.proofs.Common.{◌+◌, ◌∷◌, drop, subst}
 use Rattle.cil_tree.specs.View.{host_of, lval_of, offsets_of}
 use Rattle.cil_check.specs.Seen.{seen_scope}
 use Rattle.cil_machine.specs.Typed.{IsOnWay}

@@ -1,5 +1,4 @@
 -- Answers: a conversion to a type that is not there.
-use Rattle.std.proofs.Common.{◌≡◌}
 use Rattle.cil_tree.specs.Tree as plain
 use Rattle.cil_tree.specs.View.{type_at}
 use Rattle.cil_check.specs.Seen.{seen_scope}

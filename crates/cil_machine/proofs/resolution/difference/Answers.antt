@@ -1,5 +1,5 @@
 -- Answers: a difference of pointers to complete elements, and to others.
-use Rattle.std.proofs.Common.{◌≡◌, refl, sym}
+use Rattle.std.proofs.Common.{refl, sym}
 use Rattle.cil_check.specs.Seen.{seen_scope}
 use Rattle.cil_machine.proofs.Meanings.{means_difference}
 use Rattle.cil_machine.proofs.Typings.{incomplete_difference}

@@ -1,5 +1,5 @@
 -- Answers: an element of a size, and of none.
-use Rattle.std.proofs.Common.{◌≡◌, sym}
+use Rattle.std.proofs.Common.{sym}
 use Rattle.type_graph.specs.Shapes.{IntType}
 use Rattle.cil_check.specs.Seen.{seen_scope}
 use Rattle.cil_machine.proofs.Parts.{part_element, part_unsized, element_by}

@@ -1,5 +1,5 @@
 -- Answers: an element, and one that is not there.
-use Rattle.std.proofs.Common.{◌≡◌, sym}
+use Rattle.std.proofs.Common.{sym}
 use Rattle.cil_check.specs.Seen.{seen_scope}
 use Rattle.cil_machine.proofs.Parts.{no_element, on_element}
 use Rattle.cil_machine.proofs.resolution.element_typed.Goals as goal

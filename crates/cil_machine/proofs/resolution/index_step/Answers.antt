@@ -1,5 +1,5 @@
 -- Answers: an index of a type, and of none.
-use Rattle.std.proofs.Common.{◌≡◌, IfSome, sym, subst}
+use Rattle.std.proofs.Common.{IfSome, sym, subst}
 use Rattle.cil_check.specs.Seen.{seen_scope, IsThere}
 use Rattle.cil_machine.specs.Resolution.{Means}
 use Rattle.cil_machine.proofs.Parts.{no_indexed}

@@ -1,5 +1,5 @@
 -- Answers: an index that is no integer.
-use Rattle.std.proofs.Common.{◌≡◌, Some, ap, ◌∙◌, subst}
+use Rattle.std.proofs.Common.{Some, ap, ◌∙◌, subst}
 use Rattle.type_graph.specs.Shapes.{shape}
 use Rattle.cil_tree.specs.Typing.{is_index}
 use Rattle.cil_check.specs.Seen.{seen_scope, seen_shape, IsThere}

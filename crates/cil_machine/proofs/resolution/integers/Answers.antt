@@ -1,5 +1,4 @@
 -- Answers: the terms of the classes of operators.
-use Rattle.std.proofs.Common.{◌≡◌}
 use Rattle.cil_check.specs.Seen.{seen_scope}
 use Rattle.cil_machine.proofs.Meanings.{means_arithmetic, means_comparison}
 use Rattle.cil_machine.proofs.Typings.{class_told}

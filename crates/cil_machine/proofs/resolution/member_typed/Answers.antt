@@ -1,5 +1,4 @@
 -- Answers: a member, and one that is not there.
-use Rattle.std.proofs.Common.{◌≡◌}
 use Rattle.cil_check.specs.Seen.{seen_scope}
 use Rattle.cil_machine.proofs.Parts.{no_member, on_member}
 use Rattle.cil_machine.proofs.resolution.member_typed.Goals as goal

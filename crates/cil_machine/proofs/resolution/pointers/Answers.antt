@@ -1,5 +1,5 @@
 -- Answers: a comparison, and what is neither that nor a difference.
-use Rattle.std.proofs.Common.{◌≡◌, sym, ◌∙◌}
+use Rattle.std.proofs.Common.{sym, ◌∙◌}
 use Rattle.cil_check.specs.Seen.{seen_scope}
 use Rattle.cil_machine.proofs.Meanings.{means_relation}
 use Rattle.cil_machine.proofs.Typings.{not_related}

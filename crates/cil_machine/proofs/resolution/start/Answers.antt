@@ -1,5 +1,4 @@
 -- Answers: a place of a type, and of one of none.
-use Rattle.std.proofs.Common.{◌≡◌}
 use Rattle.cil_tree.specs.Tree as plain
 use Rattle.cil_check.specs.Seen.{seen_scope}
 use Rattle.cil_machine.proofs.Typings.{no_start, typed_start}
