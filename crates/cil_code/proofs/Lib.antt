@@ -1,3 +1,4 @@
+pub mod CaseLemmas
 pub mod OperandLaws
 pub mod CallMeanings
 pub mod StepMeanings

@@ -1,6 +1,5 @@
 -- Device: each step of the code does what the body's does.
-use Rattle.std.proofs.Common.{◌≡◌, ℕ, suc, Bool, true, false, ◌&&◌, not, List, [], ◌∷◌, Option, option_map, Some, None, is_some, refl, sym, ap, ◌∙◌, ℤ, Global}
-use Rattle.std.specs.declared.vec.Vec.{Vec}
+use Rattle.std.proofs.Common.{◌≡◌, ℕ, suc, Bool, true, false, ◌&&◌, not, List, [], ◌∷◌, Option, option_map, Some, None, is_some, refl, sym, ap, ◌∙◌, ℤ}
 use Rattle.cil_base.specs.declared.kinds.IntKind.{IntKind}
 use Rattle.byte_mem.specs.declared.values.Scalar.{Scalar}
 use Rattle.byte_mem.specs.declared.values.Scalar.TheVariants.{Int as OfKind, Ptr as OfPointer}
@@ -134,13 +133,21 @@ no_test c es e q is = record { does = λ fit act enter end at i s. not_fit (test
 pub untested : (c : Scope) (es : List ℕ) (e : Exp) (q : ℕ) (t : Shape) → type_of c e ≡ Some t → scalar_in c.program.graph t ≡ None → IsStep c es (flat.Test e q) Stuck
 untested c es e q t is apart = record { does = λ fit act enter end at i s. not_fit (test_fits c e) (ap (λ o. elim o [ None ↦ false | Some s ↦ is_scalar c.program.graph s ]) is ∙ not_scalar c.program.graph t apart) fit; leads_on = λ n q h. refl }
 
-pub choice_is : (c : Scope) (es : List ℕ) (e : Exp) (u : Term) (kind : IntKind) (table : Vec (ℤ × ℕ) Global) (other : ℕ) (xs : List (ℤ × ℕ)) → type_of c e ≡ Some (IntType kind) → Means c es e u → table.items ≡ xs → IsStep c es (flat.Choose e xs other) (Choose kind u table other)
-choice_is c es e u kind table other xs is means same = record {
+given_alike : (s : State) (o : Option ℤ) (f g : ℤ → Result Datum) → ((v : ℤ) → f v ≡ g v) → given s o f ≡ given s o g
+given_alike s None f g same = refl
+given_alike s (Some v) f g same = same v
+
+-- cases choose as a table does, where each value has its place there
+pub choice_is : (c : Scope) (es : List ℕ) (e : Exp) (u : Term) (kind : IntKind) (cases : List (ℤ × ℕ)) (other : ℕ) (xs : List (ℤ × ℕ)) → type_of c e ≡ Some (IntType kind) → Means c es e u → ((v : ℤ) (other : ℕ) → place_for v cases other ≡ place_for v xs other)
+    → ((n p : ℕ) → table_leads n p xs ≡ true → table_leads n p cases ≡ true) → IsStep c es (flat.Choose e xs other) (Choose kind u cases other)
+choice_is c es e u kind cases other xs is means same lead = record {
   does = λ fit act enter end at i s.
-      ap (λ ys. given s (term_value c.program.graph.abi s.memory act (OfKind kind) u >>= number_in) (λ v. at (place_for v ys other) s)) same
+      given_alike s (term_value c.program.graph.abi s.memory act (OfKind kind) u >>= number_in) (λ v. at (place_for v cases other) s) (λ v. at (place_for v xs other) s) (λ v. ap (λ p. at p s) (same v other))
       ∙ given_pure s (term_value c.program.graph.abi s.memory act (OfKind kind) u >>= number_in) (scalar_value (activation c es act) s.memory e >>= number_in) (λ v. at (place_for v xs other))
       (ap (λ o. o >>= number_in) (means.at (OfKind kind) (ap (λ o. o >>= scalar_in c.program.graph) is) s.memory act));
-  leads_on = λ n i h. ap (λ ys. table_leads n i ys && further n i other) same ∙ h;
+  leads_on = λ n i h.
+      let two = and_both (table_leads n i xs) (further n i other) h in
+      ap (λ b. b && further n i other) (lead n i two.0) ∙ two.1;
 }
 
 -- only an integer chooses

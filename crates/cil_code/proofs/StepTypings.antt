@@ -1,6 +1,5 @@
 -- Device: each step of the code does what the body's does, as the types of the code tell.
-use Rattle.std.proofs.Common.{◌≡◌, ℕ, true, false, nat_lt, List, Option, Some, None, refl, sym, ap, ◌∙◌, subst, ℤ, Global}
-use Rattle.std.specs.declared.vec.Vec.{Vec}
+use Rattle.std.proofs.Common.{◌≡◌, ℕ, true, false, nat_lt, List, Option, Some, None, refl, sym, ap, ◌∙◌, subst, ℤ}
 use Rattle.std.specs.Option.{option_and_then}
 use Rattle.cil_base.specs.declared.kinds.IntKind.{IntKind}
 use Rattle.cil_base.specs.declared.numbers.TypeId.{TypeId}
@@ -17,6 +16,8 @@ use Rattle.cil_check.specs.declared.seen.Seen.TheVariants.{Int, Ptr, Other}
 use Rattle.cil_check.specs.Seen.{seen_shape, is_other, told, at}
 use Rattle.cil_semantics.specs.Values.{scalar_in, size_in}
 use Rattle.cil_control.specs.Flat as flat
+use Rattle.cil_control.specs.Flat.{place_for}
+use Rattle.cil_control.specs.Leading.{table_leads}
 use Rattle.cil_machine.specs.declared.resolution.Typed.{Typed}
 use Rattle.cil_machine.specs.declared.resolution.TypedSpot.{TypedSpot}
 use Rattle.cil_machine.specs.Typed.{IsTyped, IsPlaced}
@@ -51,8 +52,9 @@ test_other c es e r t q is ty apart = untested c es e q (seen_shape c.program.gr
 pub choice_nothing : (c : Scope) (es : List ℕ) (e : Exp) (r : Typed) (xs : List (ℤ × ℕ)) (other : ℕ) → IsTyped c es e r → r.ty ≡ None → IsStep c es (flat.Choose e xs other) Stuck
 choice_nothing c es e r xs other is ty = no_choice c es e xs other (ap (option_and_then kind_of) (typed c es e r None is ty))
 
-pub choice_integer : (c : Scope) (es : List ℕ) (e : Exp) (r : Typed) (t : Seen) (kind : IntKind) (table : Vec (ℤ × ℕ) Global) (other : ℕ) → IsTyped c es e r → r.ty ≡ Some t → t ≡ Int kind → IsStep c es (flat.Choose e table.items other) (Choose kind r.term table other)
-choice_integer c es e r t kind table other is ty int = choice_is c es e r.term kind table other table.items (typed c es e r (Some t) is ty ∙ ap (λ t. Some (seen_shape c.program.graph t)) int) is.means refl
+pub choice_integer : (c : Scope) (es : List ℕ) (e : Exp) (r : Typed) (t : Seen) (kind : IntKind) (xs cases : List (ℤ × ℕ)) (other : ℕ) → IsTyped c es e r → r.ty ≡ Some t → t ≡ Int kind → ((v : ℤ) (other : ℕ) → place_for v cases other ≡ place_for v xs other)
+    → ((n p : ℕ) → table_leads n p xs ≡ true → table_leads n p cases ≡ true) → IsStep c es (flat.Choose e xs other) (Choose kind r.term cases other)
+choice_integer c es e r t kind xs cases other is ty int same lead = choice_is c es e r.term kind cases other xs (typed c es e r (Some t) is ty ∙ ap (λ t. Some (seen_shape c.program.graph t)) int) is.means same lead
 
 pub choice_pointer : (c : Scope) (es : List ℕ) (e : Exp) (r : Typed) (t : Seen) (q : QualType) (xs : List (ℤ × ℕ)) (other : ℕ) → IsTyped c es e r → r.ty ≡ Some t → t ≡ Ptr q → IsStep c es (flat.Choose e xs other) Stuck
 choice_pointer c es e r t q xs other is ty pointer = no_choice c es e xs other (ap (option_and_then kind_of) (typed c es e r (Some t) is ty ∙ ap (λ t. Some (seen_shape c.program.graph t)) pointer))

@@ -1,7 +1,5 @@
 -- Device: a step that was taken did what it does.
-use Rattle.std.proofs.Common.{◌≡◌, ℕ, zero, suc, ◌+◌, ◌<◌, Bool, List, [], ◌∷◌, length, drop, get_or, Option, Some, None, option_map, refl, sym, ap, ◌∙◌, subst, arith, ℤ, Global, Result, Ok, Err, IfOk}
-use Rattle.std.specs.Ordering.{int_eq}
-use Rattle.std.specs.declared.vec.Vec.{Vec}
+use Rattle.std.proofs.Common.{◌≡◌, ℕ, suc, ◌+◌, Bool, List, Option, Some, None, option_map, refl, sym, ap, ◌∙◌, subst, arith, ℤ, Result, Ok, Err, IfOk}
 use Rattle.cil_base.specs.declared.kinds.Abi.{Abi}
 use Rattle.cil_base.specs.declared.kinds.IntKind.{IntKind}
 use Rattle.byte_mem.specs.declared.pointers.Pointer.{Pointer}
@@ -101,18 +99,18 @@ test_broken mem act p q of e is = record {
       ∙ (ap (λ o. given s o (λ h. at (place_by h (suc p) q) s)) (sym is) ∙ unmoved mem s (λ s. Undefined s) same);
 }
 
-pub choice_took : (mem : Store) (act p i other : ℕ) (kind : IntKind) (e : Term) (table : Vec (ℤ × ℕ) Global) (v : ℤ) → Some v ≡ (term_value mem.abi (memory mem) act (OfKind kind) e >>= number_in) → i ≡ place_for v table.items other → Took mem mem act p (Choose kind e table other) (At i)
-choice_took mem act p i other kind e table v is place = record {
+pub choice_took : (mem : Store) (act p i other : ℕ) (kind : IntKind) (e : Term) (cases : List (ℤ × ℕ)) (v : ℤ) → Some v ≡ (term_value mem.abi (memory mem) act (OfKind kind) e >>= number_in) → i ≡ place_for v cases other → Took mem mem act p (Choose kind e cases other) (At i)
+choice_took mem act p i other kind e cases v is place = record {
   does = λ s same enter end at.
-      ap (λ m. given s (term_value mem.abi m act (OfKind kind) e >>= number_in) (λ v. at (place_for v table.items other) s)) same
-      ∙ (ap (λ o. given s o (λ v. at (place_for v table.items other) s)) (sym is) ∙ (ap (λ j. at j s) (sym place) ∙ unmoved mem s (at i) same));
+      ap (λ m. given s (term_value mem.abi m act (OfKind kind) e >>= number_in) (λ v. at (place_for v cases other) s)) same
+      ∙ (ap (λ o. given s o (λ v. at (place_for v cases other) s)) (sym is) ∙ (ap (λ j. at j s) (sym place) ∙ unmoved mem s (at i) same));
 }
 
-pub choice_broken : (mem : Store) (act p other : ℕ) (kind : IntKind) (e : Term) (table : Vec (ℤ × ℕ) Global) → None ≡ (term_value mem.abi (memory mem) act (OfKind kind) e >>= number_in) → Took mem mem act p (Choose kind e table other) Broken
-choice_broken mem act p other kind e table is = record {
+pub choice_broken : (mem : Store) (act p other : ℕ) (kind : IntKind) (e : Term) (cases : List (ℤ × ℕ)) → None ≡ (term_value mem.abi (memory mem) act (OfKind kind) e >>= number_in) → Took mem mem act p (Choose kind e cases other) Broken
+choice_broken mem act p other kind e cases is = record {
   does = λ s same enter end at.
-      ap (λ m. given s (term_value mem.abi m act (OfKind kind) e >>= number_in) (λ v. at (place_for v table.items other) s)) same
-      ∙ (ap (λ o. given s o (λ v. at (place_for v table.items other) s)) (sym is) ∙ unmoved mem s (λ s. Undefined s) same);
+      ap (λ m. given s (term_value mem.abi m act (OfKind kind) e >>= number_in) (λ v. at (place_for v cases other) s)) same
+      ∙ (ap (λ o. given s o (λ v. at (place_for v cases other) s)) (sym is) ∙ unmoved mem s (λ s. Undefined s) same);
 }
 
 pub forward_took : (mem : Store) (act p q : ℕ) → Took mem mem act p (Forward q) (At q)
@@ -138,9 +136,3 @@ leave_broken mem act p o is = record {
   does = λ s same enter end at.
       ap (λ m. given s (operand_datum mem.abi m act o) (λ d. Goes d s)) same ∙ (ap (λ u. given s u (λ d. Goes d s)) (sym is) ∙ unmoved mem s (λ s. Undefined s) same);
 }
-
--- the place of a value from one entry of a table on
-pub place_next : (v : ℤ) (table : List (ℤ × ℕ)) (i other : ℕ) (d : ℤ × ℕ) → i < length table → place_for v (drop i table) other ≡ place_by (int_eq (get_or table i d).0 v) (get_or table i d).1 (place_for v (drop (suc i) table) other)
-place_next v [] i other d h = absurd (omega arith)
-place_next v (x ∷ table) zero other d h = refl
-place_next v (x ∷ table) (suc i) other d h = place_next v table i other d (omega arith)

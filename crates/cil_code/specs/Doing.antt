@@ -46,7 +46,7 @@ done abi act enter end at p (Set place o) s = changed s (assigned abi s.memory a
 done abi act enter end at p (Zero size place) s = changed s (zeroed abi s.memory act size place) (at (suc p))
 done abi act enter end at p (Call k) s = bind (called_in abi act enter k s) (λ g. at (suc p))
 done abi act enter end at p (Test t e q) s = given s (term_value abi s.memory act t e >>= truth s.memory t) (λ h. at (place_by h (suc p) q) s)
-done abi act enter end at p (Choose kind e table other) s = given s (term_value abi s.memory act (OfKind kind) e >>= number_in) (λ v. at (place_for v table.items other) s)
+done abi act enter end at p (Choose kind e cases other) s = given s (term_value abi s.memory act (OfKind kind) e >>= number_in) (λ v. at (place_for v cases other) s)
 done abi act enter end at p (Forward q) s = at q s
 done abi act enter end at p (Back q) s = spend s (at q)
 done abi act enter end at p (Leave o) s = left abi act end o s

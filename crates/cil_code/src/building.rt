@@ -11,6 +11,7 @@ ghost use Rattle.cil_code.specs.Passing.{IsOperand};
 ghost use Rattle.cil_code.specs.Doing.{IsStep};
 
 use crate::calls::resolve_call;
+use crate::cases::Cases;
 use crate::operands::resolve_operand;
 use crate::steps::Step;
 use cil_base::Memory;
@@ -91,17 +92,22 @@ pub fn test_step(s: &Setting, e: &Exp, fails: usize) -> Result<Step, Memory>
 
 /// A switch by a value of this type.
 #[tactic(auto, using(crate::proofs::StepTypings::choice_nothing, crate::proofs::StepTypings::choice_integer, crate::proofs::StepTypings::choice_pointer, crate::proofs::StepTypings::choice_other))]
-fn choice_typed(s: &Setting, r: Typed, table: Vec<(i128, usize)>, other: usize) -> Step
+fn choice_typed(
+    s: &Setting,
+    r: Typed,
+    table: Vec<(i128, usize)>,
+    other: usize,
+) -> Result<Step, Memory>
     requires { IfSome r.ty (IsThere s.now.scope.unit.now.graph) }
-    ensures { (x : plain.Exp) → IsTyped (seen_scope s.now.scope) s.now.entities.now x r → IsStep (seen_scope s.now.scope) s.now.entities.now (flat.Choose x table.items other) result }
+    ensures { IfOk result (λ step. (x : plain.Exp) → IsTyped (seen_scope s.now.scope) s.now.entities.now x r → IsStep (seen_scope s.now.scope) s.now.entities.now (flat.Choose x table.items other) step) }
 {
     let _globals = s.entities.len();
     match r.ty {
-        None => Step::Stuck,
+        None => Ok(Step::Stuck),
         Some(t) => match t {
-            Seen::Int(kind) => Step::Choose(kind, r.term, table, other),
-            Seen::Ptr(_) => Step::Stuck,
-            Seen::Other(_) => Step::Stuck,
+            Seen::Int(kind) => Ok(Step::Choose(kind, r.term, Cases::new(table)?, other)),
+            Seen::Ptr(_) => Ok(Step::Stuck),
+            Seen::Other(_) => Ok(Step::Stuck),
         },
     }
 }
@@ -116,7 +122,7 @@ pub fn choice_step(
     requires { InStep s.now.layouts.now s.now.scope.unit.now.graph }
     ensures { IfOk result (IsStep (seen_scope s.now.scope) s.now.entities.now (flat.Choose (exp_of s.now.scope.unit.now.graph.nodes e.now) table.items other)) }
 {
-    Ok(choice_typed(s, resolve(s, e)?, table, other))
+    choice_typed(s, resolve(s, e)?, table, other)
 }
 
 /// A return.

@@ -8,6 +8,7 @@
 
 mod building;
 mod calls;
+mod cases;
 mod laws;
 mod loading;
 mod operands;
@@ -15,6 +16,7 @@ mod steps;
 mod taking;
 
 pub use calls::{Call, Kind, Receiver, kind_at};
+pub use cases::Cases;
 pub use laws::{fitting_bodies_run, loaded_bodies_run};
 pub use loading::load;
 pub use operands::{Operand, resolve_operand};

@@ -1,4 +1,5 @@
 use crate::calls::Call;
+use crate::cases::Cases;
 use crate::operands::Operand;
 use byte_mem::Scalar;
 use cil_base::IntKind;
@@ -16,7 +17,7 @@ pub enum Step {
     /// The next step where a scalar compares unequal to 0, else that one (6.8.4.1p2).
     Test(Scalar, Term, usize),
     /// The step of the first case with the value, else the other one (6.8.4.2p5).
-    Choose(IntKind, Term, Vec<(i128, usize)>, usize),
+    Choose(IntKind, Term, Cases, usize),
     /// A step further on.
     Forward(usize),
     /// A step that is not further on, by a spent unit (own).

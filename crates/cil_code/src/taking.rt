@@ -1,19 +1,17 @@
 ghost use Rattle.std.specs.Prelude.{◌≡◌, IfOk, IfSome, is_some, not, option_map};
 ghost use Rattle.byte_mem.specs.Store.{memory, Stored};
-ghost use Rattle.cil_machine.specs.Instructions.{bytes_from};
-ghost use Rattle.cil_control.specs.Flat.{place_for};
 ghost use Rattle.cil_code.specs.Passing.{operand_datum};
 ghost use Rattle.cil_code.specs.Doing.{assigned};
 ghost use Rattle.cil_code.specs.Taking.{datum_of, is_call, Took};
 
+use crate::cases::Cases;
 use crate::operands::Operand;
 use crate::steps::Step;
 use byte_mem::{Cells, Scalar, Store, Value};
 use cil_base::{IntKind, Memory};
 use cil_control::next;
 use cil_machine::{
-    Spot, Term, copy_place, place_pointer, set_place, term_number, term_truth, term_value,
-    zero_place,
+    Spot, Term, bytes_at, copy_place, set_place, term_number, term_truth, term_value, zero_place,
 };
 
 /// A value that is returned.
@@ -95,19 +93,6 @@ fn take_test(
     }
 }
 
-/// The place of a value in a table, else the other one.
-#[tactic(auto, using(crate::proofs::Takes::place_next))]
-fn place_for(v: i128, table: &[(i128, usize)], other: usize) -> usize
-    ensures { result ≡ place_for v table.now other }
-{
-    for i in 0..table.len() {
-        if table[i].0 == v {
-            return table[i].1;
-        }
-    }
-    other
-}
-
 /// A switch.
 #[tactic(auto, using(crate::proofs::Takes::choice_took, crate::proofs::Takes::choice_broken))]
 fn take_choice(
@@ -116,24 +101,14 @@ fn take_choice(
     p: usize,
     kind: IntKind,
     e: &Term,
-    table: &Vec<(i128, usize)>,
+    cases: &Cases,
     other: usize,
 ) -> Onward
-    ensures { Took mem.now mem.now act p (Step.Choose kind e.now table.now other) result }
+    ensures { Took mem.now mem.now act p (Step.Choose kind e.now cases.now other) result }
 {
     match term_number(mem, act, kind, e) {
         None => Onward::Undefined,
-        Some(v) => Onward::At(place_for(v, table, other)),
-    }
-}
-
-/// The bytes of a struct or union at a place. None exactly where that is undefined.
-fn bytes_at(mem: &Store, act: u64, size: u32, place: &Spot) -> Result<Option<Cells>, Memory>
-    ensures { IfOk result (λ o. o ≡ bytes_from mem.now.abi (memory mem.now) act size place.now) }
-{
-    match place_pointer(mem, act, place) {
-        Some(at) => mem.load_bytes(at, size),
-        None => Ok(None),
+        Some(v) => Onward::At(cases.place_for(v, other)),
     }
 }
 
@@ -180,8 +155,8 @@ pub fn take(mem: &mut Store, act: u64, p: usize, step: &Step) -> Result<Option<O
         Step::Zero(size, place) => Ok(Some(take_zero(mem, act, p, *size, place)?)),
         Step::Call(_) => Ok(None),
         Step::Test(of, e, fails) => Ok(Some(take_test(mem, act, p, *of, e, *fails)?)),
-        Step::Choose(kind, e, table, other) => {
-            Ok(Some(take_choice(mem, act, p, *kind, e, table, *other)))
+        Step::Choose(kind, e, cases, other) => {
+            Ok(Some(take_choice(mem, act, p, *kind, e, cases, *other)))
         }
         Step::Forward(q) => Ok(Some(Onward::At(*q))),
         Step::Back(q) => Ok(Some(Onward::Back(*q))),

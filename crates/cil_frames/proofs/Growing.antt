@@ -221,9 +221,9 @@ module _ (abi : Abi) (link : Linked) (enter : Enter) (at : Courses) (table : Lis
       by k true = on (suc p) (further_is (length f.code.items) p (suc p) k.0) s few
       by k false = on q (further_is (length f.code.items) p q k.1) s few
   step_grows n function act p f end (step.Choose kind e cases other) s below there on h few =
-      let k = both_of (table_leads (length f.code.items) p cases.items) (further (length f.code.items) p other) h in
-      given_grows s (term_value abi s.memory act (OfKind kind) e >>= number_in) (λ v. at function act (place_for v cases.items other) s)
-      (λ v. on (place_for v cases.items other) (further_is (length f.code.items) p (place_for v cases.items other) (for_leads (length f.code.items) p other v cases.items k.0 k.1)) s few)
+      let k = both_of (table_leads (length f.code.items) p cases) (further (length f.code.items) p other) h in
+      given_grows s (term_value abi s.memory act (OfKind kind) e >>= number_in) (λ v. at function act (place_for v cases other) s)
+      (λ v. on (place_for v cases other) (further_is (length f.code.items) p (place_for v cases other) (for_leads (length f.code.items) p other v cases k.0 k.1)) s few)
   step_grows n function act p f end (step.Forward q) s below there on h few = on q (further_is (length f.code.items) p q h) s few
   step_grows n function act p f end (step.Back q) s below there on h few =
       spend_grows s (at function act q) (λ m e. below function act q (record { code = f; running = there; there = ltb-true q (length f.code.items) h }) (with_left s m) (omega arith))

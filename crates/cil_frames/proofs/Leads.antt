@@ -114,8 +114,8 @@ at_by abi m act n p b (Test t x q) c h e u =
     by k true = k.0
     by k false = k.1
 at_by abi m act n p b (Choose kind x table other) c h e u =
-    let k = both_of (table_leads n p table.items) (further n p other) h in
-    given_shows (further n p) (state_of m) (term_value abi m act (OfKind kind) x >>= number_in) (λ v. place_for v table.items other) (λ v. state_of m) b (λ v. for_leads n p other v table.items k.0 k.1) e
+    let k = both_of (table_leads n p table) (further n p other) h in
+    given_shows (further n p) (state_of m) (term_value abi m act (OfKind kind) x >>= number_in) (λ v. place_for v table other) (λ v. state_of m) b (λ v. for_leads n p other v table k.0 k.1) e
 at_by abi m act n p b (Forward q) c h e u = sym (some_same (further n p q) b (sym (shown_by (further n p q) (state_of m)) ∙ e)) ∙ h
 at_by abi m act n p b (Back q) c h e u =
     absurd (apart 0 refl (sym (units_by (further n p q) (with_left (state_of m) 0)) ∙ u))
@@ -142,7 +142,7 @@ back_by abi m act n p b (Call k) c h e u = absurd (cc)
 back_by abi m act n p b (Test t x q) c h e u =
     absurd (apart 0 refl (given_units (within n) (state_of m) (term_value abi m act t x >>= truth m t) (λ v. place_by v (suc p) q) (λ v. state_of m) b 0 (λ v. refl) e u))
 back_by abi m act n p b (Choose kind x table other) c h e u =
-    absurd (apart 0 refl (given_units (within n) (state_of m) (term_value abi m act (OfKind kind) x >>= number_in) (λ v. place_for v table.items other) (λ v. state_of m) b 0 (λ v. refl) e u))
+    absurd (apart 0 refl (given_units (within n) (state_of m) (term_value abi m act (OfKind kind) x >>= number_in) (λ v. place_for v table other) (λ v. state_of m) b 0 (λ v. refl) e u))
 back_by abi m act n p b (Forward q) c h e u =
     absurd (apart 1 (sym (units_by (within n q) (state_of m)) ∙ u) refl)
 back_by abi m act n p b (Back q) c h e u = sym (some_same (within n q) b (sym (shown_by (within n q) (with_left (state_of m) 0)) ∙ e)) ∙ h

@@ -1,6 +1,5 @@
 ghost use Rattle.std.specs.Prelude.{◌≡◌, IfOk, option_map};
 ghost use Rattle.byte_mem.specs.Store.{memory, Stored};
-ghost use Rattle.cil_machine.specs.Instructions.{pointer_from, bytes_from};
 ghost use Rattle.cil_code.specs.Calling.{passing, passing_all};
 ghost use Rattle.cil_code.specs.Taking.{datum_of};
 ghost use Rattle.cil_frames.specs.Entering.{argument_of, arguments_of};
@@ -8,10 +7,10 @@ ghost use Rattle.cil_frames.specs.Evaluating.{destination, kept_in, value_kept, 
 
 use crate::activations::Argument;
 use crate::kinds::{single, sized};
-use byte_mem::{Cells, Pointer, Scalar, Store, Value};
+use byte_mem::{Cells, Scalar, Store, Value};
 use cil_base::Memory;
 use cil_code::{Call, Datum, Kind, Operand, Receiver};
-use cil_machine::{Spot, spot_place, term_value};
+use cil_machine::{bytes_at, spot_place, term_value};
 use std::alloc::Global;
 
 /// Where the result of a call goes: a place, and the kind of its type.
@@ -31,23 +30,6 @@ pub struct Evaluated {
     /// The kind of the result that the caller's types ask for.
     pub result: Option<Kind>,
     pub arguments: Vec<Argument>,
-}
-
-/// The bytes of a struct or union at a place. None exactly where that is undefined.
-fn bytes_at(mem: &Store, act: u64, size: u32, place: &Spot) -> Result<Option<Cells>, Memory>
-    ensures { IfOk result (λ o. o ≡ bytes_from mem.now.abi (memory mem.now) act size place.now) }
-{
-    match place_at(mem, act, place) {
-        Some(at) => mem.load_bytes(at, size),
-        None => Ok(None),
-    }
-}
-
-/// The pointer that a place is.
-fn place_at(mem: &Store, act: u64, place: &Spot) -> Option<Pointer>
-    ensures { result ≡ pointer_from mem.now.abi (memory mem.now) act place.now }
-{
-    spot_place(mem, act, place)?.pointer()
 }
 
 /// The value of an operand, with its kind. None exactly where that is undefined.

@@ -1,6 +1,7 @@
-use cil_base::{IntKind, LabelId, NamePool};
+use byte_mem::Store;
+use cil_base::{IntKind, LabelId, Memory, NamePool, UnOp};
 use cil_check::Scope;
-use cil_code::{Step, load};
+use cil_code::{Onward, Step, load, take};
 use cil_machine::Setting;
 use cil_tree::{Body, CilUnit, Exp, Stmt};
 use layout_lp64::Layouts;
@@ -29,9 +30,8 @@ fn named(code: &[Step], p: usize) -> Option<usize> {
     }
 }
 
-#[test]
-fn a_body_is_loaded_with_its_targets(rt: HostRuntime) -> Result<(), Fail> {
-    let alloc = rt.alloc();
+// The steps of a body in a unit without globals.
+fn loaded(alloc: Global, stmts: Vec<Stmt>) -> Result<Vec<Step>, Memory> {
     let graph = TypeGraph::new(alloc);
     let layouts = Layouts::of_graph(alloc, &graph)?;
     let unit = CilUnit {
@@ -43,7 +43,7 @@ fn a_body_is_loaded_with_its_targets(rt: HostRuntime) -> Result<(), Fail> {
         params: Vec::new(alloc),
         locals: Vec::new(alloc),
         labels: Vec::new(alloc),
-        stmts: body(alloc)?,
+        stmts,
     };
     let setting = Setting {
         alloc,
@@ -55,11 +55,87 @@ fn a_body_is_loaded_with_its_targets(rt: HostRuntime) -> Result<(), Fail> {
         layouts: &layouts,
         entities: &[],
     };
-    let code = load(&setting, &function.stmts)?;
+    load(&setting, &function.stmts)
+}
+
+#[test]
+fn a_body_is_loaded_with_its_targets(rt: HostRuntime) -> Result<(), Fail> {
+    let code = loaded(rt.alloc(), body(rt.alloc())?)?;
     assert_eq!(rt; code.len(), 5);
     assert_eq!(rt; named(&code, 0), Some(2));
     assert_eq!(rt; named(&code, 1), Some(3));
     assert_eq!(rt; named(&code, 2), Some(3));
     assert_eq!(rt; named(&code, 3), None);
+    Ok(())
+}
+
+// Adds `case value: return;`.
+fn add_case(stmts: &mut Vec<Stmt>, value: i128) -> Result<(), AllocError> {
+    stmts.push(Stmt::Case(IntKind::Int, value))?;
+    stmts.push(Stmt::Return(None))?;
+    Ok(())
+}
+
+// `switch (e) { case 4: return; case -2147483648: return; case 4: return; case 2147483647: return; case -1: return;
+// default: return; }`
+fn switch(alloc: Global, e: Exp) -> Result<Vec<Stmt>, AllocError> {
+    let mut cases = Vec::new(alloc);
+    add_case(&mut cases, 4)?;
+    add_case(&mut cases, -2147483648)?;
+    add_case(&mut cases, 4)?;
+    add_case(&mut cases, 2147483647)?;
+    add_case(&mut cases, -1)?;
+    cases.push(Stmt::Default)?;
+    cases.push(Stmt::Return(None))?;
+    let mut stmts = Vec::new(alloc);
+    stmts.push(Stmt::Switch(e, cases))?;
+    Ok(stmts)
+}
+
+// The place that this switch leads to.
+fn chosen(alloc: Global, e: Exp) -> Result<Option<usize>, Memory> {
+    let code = loaded(alloc, switch(alloc, e)?)?;
+    let mut mem = Store::new(alloc);
+    match code.get(0) {
+        Some(step) => Ok(place(take(&mut mem, 0, 0, step)?)),
+        None => Ok(None),
+    }
+}
+
+// The place that a step leads to without a spent unit.
+fn place(onward: Option<Onward>) -> Option<usize> {
+    match onward {
+        Some(Onward::At(q)) => Some(q),
+        _ => None,
+    }
+}
+
+// An int that is not negative.
+fn number(n: u64) -> Exp {
+    Exp::Const(IntKind::Int, n)
+}
+
+// `~n`, which is `-n - 1` (C11 6.5.3.3p4).
+fn complement(alloc: Global, n: u64) -> Result<Exp, AllocError> {
+    Ok(Exp::Un(UnOp::Compl, Box::new(alloc, number(n))?))
+}
+
+#[test]
+fn a_switch_finds_the_first_case_with_the_value(rt: HostRuntime) -> Result<(), Fail> {
+    let alloc = rt.alloc();
+    assert_eq!(rt; chosen(alloc, number(4)), Ok(Some(1)));
+    assert_eq!(rt; chosen(alloc, complement(alloc, 2147483647)?), Ok(Some(2)));
+    assert_eq!(rt; chosen(alloc, number(2147483647)), Ok(Some(4)));
+    assert_eq!(rt; chosen(alloc, complement(alloc, 0)?), Ok(Some(5)));
+    Ok(())
+}
+
+#[test]
+fn a_switch_without_the_case_leads_to_its_default(rt: HostRuntime) -> Result<(), Fail> {
+    let alloc = rt.alloc();
+    assert_eq!(rt; chosen(alloc, number(0)), Ok(Some(6)));
+    assert_eq!(rt; chosen(alloc, number(5)), Ok(Some(6)));
+    assert_eq!(rt; chosen(alloc, number(2147483646)), Ok(Some(6)));
+    assert_eq!(rt; chosen(alloc, complement(alloc, 2147483646)?), Ok(Some(6)));
     Ok(())
 }

@@ -1,8 +1,8 @@
 use byte_mem::{Byte, ObjName, Scalar, Store, Value};
 use cil_base::{IntKind, LocalId, Memory};
-use cil_code::{Call, Datum, Onward, Operand, Step, take};
+use cil_code::{Call, Cases, Datum, Onward, Operand, Step, take};
 use cil_machine::{Spot, Term, term_value};
-use std::alloc::{AllocError, Global};
+use std::alloc::Global;
 use std::test::Fail;
 
 const INT: Scalar = Scalar::Int(IntKind::Int);
@@ -82,10 +82,11 @@ fn tests_and_jumps_lead_to_their_places(rt: HostRuntime) -> Result<(), Fail> {
 }
 
 /// `switch` with `case 4` at 7 and the default at 8.
-fn choice(alloc: Global, v: u64) -> Result<Step, AllocError> {
+fn choice(alloc: Global, v: u64) -> Result<Step, Memory> {
     let mut table = Vec::new(alloc);
     table.push((4, 7))?;
-    Ok(Step::Choose(IntKind::Int, Term::Number(v), table, 8))
+    let cases = Cases::new(table)?;
+    Ok(Step::Choose(IntKind::Int, Term::Number(v), cases, 8))
 }
 
 #[test]
