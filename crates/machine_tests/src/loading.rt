@@ -1,5 +1,5 @@
 use byte_mem::Store;
-use cil_base::{IntKind, LabelId, Memory, NamePool, UnOp};
+use cil_base::{IntKind, LabelId, NamePool, UnOp};
 use cil_check::Scope;
 use cil_code::{Onward, Step, load, take};
 use cil_machine::Setting;
@@ -31,7 +31,7 @@ fn named(code: &[Step], p: usize) -> Option<usize> {
 }
 
 // The steps of a body in a unit without globals.
-fn loaded(alloc: Global, stmts: Vec<Stmt>) -> Result<Vec<Step>, Memory> {
+fn loaded(alloc: Global, stmts: Vec<Stmt>) -> Result<Vec<Step>, Fail> {
     let graph = TypeGraph::new(alloc);
     let layouts = Layouts::of_graph(alloc, &graph)?;
     let unit = CilUnit {
@@ -55,7 +55,7 @@ fn loaded(alloc: Global, stmts: Vec<Stmt>) -> Result<Vec<Step>, Memory> {
         layouts: &layouts,
         entities: &[],
     };
-    load(&setting, &function.stmts)
+    Ok(load(&setting, &function.stmts)?)
 }
 
 #[test]
@@ -93,7 +93,7 @@ fn switch(alloc: Global, e: Exp) -> Result<Vec<Stmt>, AllocError> {
 }
 
 // The place that this switch leads to.
-fn chosen(alloc: Global, e: Exp) -> Result<Option<usize>, Memory> {
+fn chosen(alloc: Global, e: Exp) -> Result<Option<usize>, Fail> {
     let code = loaded(alloc, switch(alloc, e)?)?;
     let mut mem = Store::new(alloc);
     match code.get(0) {
@@ -123,19 +123,19 @@ fn complement(alloc: Global, n: u64) -> Result<Exp, AllocError> {
 #[test]
 fn a_switch_finds_the_first_case_with_the_value(rt: HostRuntime) -> Result<(), Fail> {
     let alloc = rt.alloc();
-    assert_eq!(rt; chosen(alloc, number(4)), Ok(Some(1)));
-    assert_eq!(rt; chosen(alloc, complement(alloc, 2147483647)?), Ok(Some(2)));
-    assert_eq!(rt; chosen(alloc, number(2147483647)), Ok(Some(4)));
-    assert_eq!(rt; chosen(alloc, complement(alloc, 0)?), Ok(Some(5)));
+    assert_eq!(rt; chosen(alloc, number(4))?, Some(1));
+    assert_eq!(rt; chosen(alloc, complement(alloc, 2147483647)?)?, Some(2));
+    assert_eq!(rt; chosen(alloc, number(2147483647))?, Some(4));
+    assert_eq!(rt; chosen(alloc, complement(alloc, 0)?)?, Some(5));
     Ok(())
 }
 
 #[test]
 fn a_switch_without_the_case_leads_to_its_default(rt: HostRuntime) -> Result<(), Fail> {
     let alloc = rt.alloc();
-    assert_eq!(rt; chosen(alloc, number(0)), Ok(Some(6)));
-    assert_eq!(rt; chosen(alloc, number(5)), Ok(Some(6)));
-    assert_eq!(rt; chosen(alloc, number(2147483646)), Ok(Some(6)));
-    assert_eq!(rt; chosen(alloc, complement(alloc, 2147483646)?), Ok(Some(6)));
+    assert_eq!(rt; chosen(alloc, number(0))?, Some(6));
+    assert_eq!(rt; chosen(alloc, number(5))?, Some(6));
+    assert_eq!(rt; chosen(alloc, number(2147483646))?, Some(6));
+    assert_eq!(rt; chosen(alloc, complement(alloc, 2147483646)?)?, Some(6));
     Ok(())
 }
