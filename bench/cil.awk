@@ -8,6 +8,7 @@
 #   room        an object of n bytes of malloc, all of which are set
 #   deep        n activations of a function, each within the one before
 #   forever     a loop without an end
+#   wide        n turns through a switch of m cases, each of which ends with a jump
 #   text        n parts, each an enum, a struct, a union, globals, an image and functions with every statement: a long text
 function line(text) {
     print substr("                                        ", 1, 2 * depth - 2 * (text ~ /^}/)) text
@@ -31,6 +32,29 @@ function arithmetic() {
     line("while ( 1 ) {")
     until("( i < " n "UL )")
     line("h = ( ( h * 1103515245U ) + 12345U ) ;")
+    line("i = ( i + 1UL ) ;")
+    line("}")
+    line("return ( ( int ) ( ( h / 65536U ) % 128U ) ) ;")
+    line("}")
+}
+function wide(    k) {
+    line("int main ( void ) ;")
+    line("int main ( void ) {")
+    line("unsigned long i ;")
+    line("unsigned int h ;")
+    line("i = 0UL ;")
+    line("h = 1U ;")
+    line("while ( 1 ) {")
+    until("( i < " n "UL )")
+    line("h = ( ( h * 1103515245U ) + 12345U ) ;")
+    line("switch ( ( ( int ) ( ( h / 65536U ) % " m "U ) ) ) {")
+    for (k = m - 1; k >= 0; k--) {
+        line("case " k " : ;")
+        line("h = ( h + " k "U ) ;")
+        line("goto on ;")
+    }
+    line("}")
+    line("on : ;")
     line("i = ( i + 1UL ) ;")
     line("}")
     line("return ( ( int ) ( ( h / 65536U ) % 128U ) ) ;")
@@ -272,6 +296,7 @@ function text(k) {
 BEGIN {
     depth = 0
     if (kind == "arithmetic") arithmetic()
+    else if (kind == "wide") wide()
     else if (kind == "sieve") sieve()
     else if (kind == "list") list()
     else if (kind == "calls") calls()
