@@ -3,7 +3,8 @@ use cil_runner::RunEnd;
 use std::alloc::Global;
 use std::test::Fail;
 
-// A loop with a jump to the end of its body.
+// A loop with a jump to the end of its body (C11 6.8.6.2p2).
+// int main(void) { int i; for (i = 0; i < 3; i++) { if (i == 1) continue; putchar('a' + i); } return 0; }
 const PASSES_ONE: &str = "\
 int putchar ( int ) ;
 int main ( void ) ;
@@ -15,19 +16,23 @@ int main ( void ) {
     } else {
       break ;
     }
-    if ( ( i == 1 ) ) {
-      goto step ;
-    } else {
+    {
+      if ( ( i == 1 ) ) {
+        goto __l___0 ;
+      } else {
+      }
+      putchar ( ( 97 + i ) ) ;
     }
-    putchar ( ( 97 + i ) ) ;
-    step : ;
+    __l___0 : ;
     i = ( i + 1 ) ;
   }
   return 0 ;
 }
 ";
 
-// A switch leads into a loop.
+// A switch leads into a loop (C11 6.8.4.2p4).
+// int main(void) { int n = 2; switch (7 % 4) { case 0: do { putchar('x'); case 3: putchar('x'); case 2: putchar('x');
+// case 1: putchar('x'); } while (--n > 0); } return 0; }
 const COPIES_SEVEN: &str = "\
 int putchar ( int ) ;
 int main ( void ) ;
@@ -35,19 +40,23 @@ int main ( void ) {
   int n ;
   n = 2 ;
   switch ( ( 7 % 4 ) ) {
-    case 0 : ;
-    while ( 1 ) {
-      putchar ( 120 ) ;
-      case 3 : ;
-      putchar ( 120 ) ;
-      case 2 : ;
-      putchar ( 120 ) ;
-      case 1 : ;
-      putchar ( 120 ) ;
-      n = ( n - 1 ) ;
-      if ( ( n > 0 ) ) {
-      } else {
-        break ;
+    {
+      case 0 : ;
+      while ( 1 ) {
+        {
+          putchar ( 120 ) ;
+          case 3 : ;
+          putchar ( 120 ) ;
+          case 2 : ;
+          putchar ( 120 ) ;
+          case 1 : ;
+          putchar ( 120 ) ;
+        }
+        n = ( n - 1 ) ;
+        if ( ( n > 0 ) ) {
+        } else {
+          break ;
+        }
       }
     }
   }
@@ -56,6 +65,7 @@ int main ( void ) {
 ";
 
 // An object keeps its value when a jump leads back to the block that uses it.
+// int main(void) { int k = 0; again: { int x; if (k) return x == 4; x = 4; k = 1; goto again; } }
 const KEEPS_ITS_OBJECT: &str = "\
 int main ( void ) ;
 int main ( void ) {
@@ -75,6 +85,7 @@ int main ( void ) {
 }
 ";
 
+// int main(void) { int c; while ((c = getchar()) != -1) putchar(c); return 0; }
 const ECHOES: &str = "\
 int getchar ( void ) ;
 int putchar ( int ) ;
@@ -102,6 +113,15 @@ int main ( void ) {
     putchar ( 97 ) ;
   }
   return 0 ;
+}
+";
+
+// A loop that nothing leaves (C11 6.8.5p4).
+const GOES_ON: &str = "\
+int main ( void ) ;
+int main ( void ) {
+  while ( 1 ) {
+  }
 }
 ";
 
@@ -137,6 +157,37 @@ fn bounds_cut_runs(rt: HostRuntime) -> Result<(), Fail> {
         let ran = run_text(rt.alloc(), text, &["p"], "hi", *steps)?;
         assert!(rt; has_come_to(&ran, *steps, *end, out), "{out} at {steps}");
     }
+    Ok(())
+}
+
+/// What `ECHOES` has done at a bound, on an input.
+type Echo = (&'static str, u64, RunEnd, &'static str);
+
+fn echoes() -> &'static [Echo] {
+    &[
+        ("hi\n", 3, RunEnd::StillRunning, "hi"),
+        ("hi\n", 4, RunEnd::StillRunning, "hi\n"),
+        ("hi\n", 5, RunEnd::Exited(0), "hi\n"),
+    ]
+}
+
+// Three turns copy a byte each, and the fourth finds the end of the input.
+#[test]
+fn bounds_cut_an_echo(rt: HostRuntime) -> Result<(), Fail> {
+    for (input, steps, end, out) in echoes() {
+        let ran = run_text(rt.alloc(), ECHOES, &["p"], input, *steps)?;
+        assert!(rt; has_come_to(&ran, *steps, *end, out), "{out} at {steps}");
+    }
+    Ok(())
+}
+
+#[test]
+fn an_endless_loop_is_still_running_after_a_thousand_million_units(
+    rt: HostRuntime,
+) -> Result<(), Fail> {
+    let steps = 1_000_000_000;
+    let ran = run_text(rt.alloc(), GOES_ON, &["p"], "", steps)?;
+    assert!(rt; has_come_to(&ran, steps, RunEnd::StillRunning, ""));
     Ok(())
 }
 

@@ -77,7 +77,7 @@ int main ( void ) ;
 static int depth ( int ) ;
 int main ( void ) {
   int n ;
-  n = depth ( 1000 ) ;
+  n = depth ( 100000 ) ;
   return ( n % 250 ) ;
 }
 static int depth ( int n ) {
@@ -94,7 +94,7 @@ static int depth ( int n ) {
             words: &["p"],
             end: RunEnd::Exited(7),
             out: "",
-            used: 1002,
+            used: 100_002,
         },
         Row {
             name: "structs by value",

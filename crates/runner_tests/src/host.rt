@@ -95,6 +95,22 @@ int main ( void ) {
             out: "x",
             used: 1,
         },
+        // int main(void) { abort(); }
+        Row {
+            name: "abort is all that main does",
+            text: "\
+void abort ( void ) ;
+int main ( void ) ;
+int main ( void ) {
+  abort ( ) ;
+}
+",
+            input: "",
+            words: &["p"],
+            end: RunEnd::Exited(134),
+            out: "",
+            used: 1,
+        },
         Row {
             name: "objects of malloc",
             text: "\
@@ -147,15 +163,16 @@ int main ( void ) {
             out: "",
             used: 15,
         },
+        // int main(void) { return malloc(67108865) == 0; }
         Row {
             name: "malloc gives null past 64 MiB",
             text: "\
 void * malloc ( unsigned long ) ;
 int main ( void ) ;
 int main ( void ) {
-  void * p ;
-  p = malloc ( 67108865UL ) ;
-  return ( p == ( ( void * ) 0UL ) ) ;
+  void * __t___0 ;
+  __t___0 = malloc ( ( ( unsigned long ) 67108865 ) ) ;
+  return ( __t___0 == ( ( void * ) 0 ) ) ;
 }
 ",
             input: "",

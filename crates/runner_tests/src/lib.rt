@@ -6,7 +6,7 @@
 //!
 //! Statuses, outputs and units of programs that C defines are those of a C compiler on the same texts, which are C; the
 //! units are counted there where a function is entered, where a turn of a loop begins and where a jump leads back. What
-//! is undefined, and what is own, was told by hand.
+//! is undefined, and what is own, was told by hand. Lines of C above a text are the source that it is lowered from.
 #![tactic(auto)]
 
 #[cfg(test)]

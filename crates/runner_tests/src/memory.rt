@@ -115,30 +115,33 @@ int main ( void ) {
             out: "",
             used: 1,
         },
+        // int f(int *p) { *p = 5; return *p + 1; }
+        // int main(void) { int i = 0, a[2] = {7, 7}; a[i] = i++ + f(&i); return a[0] * 10 + a[1] + i; }
         Row {
             name: "a place is told before what is stored there",
             text: "\
+int f ( int * ) ;
 int main ( void ) ;
-static int put ( int * ) ;
-int main ( void ) {
-  int i ;
-  int old ;
-  int given ;
-  int * to ;
-  int a [ 2 ] ;
-  i = 0 ;
-  a [ 0 ] = 7 ;
-  a [ 1 ] = 7 ;
-  to = ( & a [ i ] ) ;
-  old = i ;
-  i = ( i + 1 ) ;
-  given = put ( ( & i ) ) ;
-  ( * to ) = ( old + given ) ;
-  return ( ( ( a [ 0 ] * 10 ) + a [ 1 ] ) + i ) ;
-}
-static int put ( int * p ) {
+int f ( int * p ) {
   ( * p ) = 5 ;
   return ( ( * p ) + 1 ) ;
+}
+int main ( void ) {
+  int i ;
+  int a [ 2 ] ;
+  int * __t___0 ;
+  int __t___1 ;
+  int __t___2 ;
+  i = 0 ;
+  __builtin_memset ( ( & a ) , 0 , 8UL ) ;
+  a [ 0 ] = 7 ;
+  a [ 1 ] = 7 ;
+  __t___0 = ( & a [ i ] ) ;
+  __t___1 = i ;
+  i = ( __t___1 + 1 ) ;
+  __t___2 = f ( ( & i ) ) ;
+  ( * __t___0 ) = ( __t___1 + __t___2 ) ;
+  return ( ( ( a [ 0 ] * 10 ) + a [ 1 ] ) + i ) ;
 }
 ",
             input: "",
@@ -147,23 +150,51 @@ static int put ( int * p ) {
             out: "",
             used: 2,
         },
+        // int a[] = { [2] = 5, 1, [0] = 9 }; char s[3] = "abc";
+        // int main(void) { return sizeof a / sizeof a[0] * 10 + a[0] + a[2] + a[3] + (s[2] == 'c'); }
         Row {
-            name: "images of arrays",
+            name: "images of arrays (C11 6.7.9p17)",
             text: "\
-int main ( void ) ;
 extern int a [ 4 ] ;
 extern char s [ 3 ] ;
+int main ( void ) ;
 int a [ 4 ] = { [ 0 ] = 9 , [ 2 ] = 5 , [ 3 ] = 1 } ;
 char s [ 3 ] = { [ 0 ] = 97 , [ 1 ] = 98 , [ 2 ] = 99 } ;
 int main ( void ) {
-  int n ;
-  n = ( ( ( 4 * 10 ) + a [ 0 ] ) + ( a [ 1 ] + a [ 2 ] ) ) ;
-  return ( ( n + a [ 3 ] ) + ( ( ( int ) s [ 2 ] ) == 99 ) ) ;
+  return ( ( int ) ( ( ( ( ( ( 16UL / 4UL ) * ( ( unsigned long ) 10 ) ) + ( ( unsigned long ) a [ 0 ] ) ) + ( ( unsigned long ) a [ 2 ] ) ) + ( ( unsigned long ) a [ 3 ] ) ) + ( ( unsigned long ) ( ( ( int ) s [ 2 ] ) == 99 ) ) ) ) ;
 }
 ",
             input: "",
             words: &["p"],
             end: RunEnd::Exited(56),
+            out: "",
+            used: 1,
+        },
+        // typedef int T;
+        // int main(void) { int r; { int T = 6, x = 7; T * x; r = T * x; } { T * x = 0; return r + (x == 0); } }
+        Row {
+            name: "objects of one name in two blocks are two (C11 6.2.1p4)",
+            text: "\
+int main ( void ) ;
+int main ( void ) {
+  int r ;
+  int T ;
+  int x ;
+  int * x___0 ;
+  {
+    T = 6 ;
+    x = 7 ;
+    r = ( T * x ) ;
+  }
+  {
+    x___0 = ( ( int * ) 0 ) ;
+    return ( r + ( x___0 == ( ( int * ) 0 ) ) ) ;
+  }
+}
+",
+            input: "",
+            words: &["p"],
+            end: RunEnd::Exited(43),
             out: "",
             used: 1,
         },

@@ -150,5 +150,22 @@ int main ( void ) {
             out: "",
             used: 1,
         },
+        // int main(void) { int x = 1; return sizeof(x++) + x; }
+        Row {
+            name: "the operand of sizeof is not evaluated (C11 6.5.3.4p2)",
+            text: "\
+int main ( void ) ;
+int main ( void ) {
+  int x ;
+  x = 1 ;
+  return ( ( int ) ( 4UL + ( ( unsigned long ) x ) ) ) ;
+}
+",
+            input: "",
+            words: &["p"],
+            end: RunEnd::Exited(5),
+            out: "",
+            used: 1,
+        },
     ]
 }

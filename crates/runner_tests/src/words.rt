@@ -74,12 +74,13 @@ int main ( int n , char * * v ) {
             out: "",
             used: 1,
         },
+        // int main(int argc, char **argv) { return argc * 16 + argv[1][0] - 'a'; }
         Row {
             name: "a byte of a word",
             text: "\
 int main ( int , char * * ) ;
 int main ( int argc , char * * argv ) {
-  return ( ( ( argc * 16 ) + ( ( int ) ( * ( * ( argv + 1L ) ) ) ) ) - 97 ) ;
+  return ( ( ( argc * 16 ) + ( ( int ) ( * ( ( * ( argv + 1 ) ) + 0 ) ) ) ) - 97 ) ;
 }
 ",
             input: "",
