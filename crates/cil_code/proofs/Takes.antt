@@ -69,17 +69,22 @@ changed_broken old new p f u is h s same at =
     let stored : Stored None old new (f (memory old)) = subst (λ u. Stored u old new (f (memory old))) is h in
     ap (λ m. changed s (f m) (at (suc p))) same ∙ (ap (λ o. changed s o (at (suc p))) stored.0 ∙ ap (λ m. Undefined (with_memory s m)) (same ∙ ap (λ z. memory z) (sym stored.1)))
 
+-- a change leaves the data model
+same_model : (u : Option (Unit {0})) (old new : Store) (m : Option Memory) → Stored u old new m → new.abi ≡ old.abi
+same_model None old new m h = ap (λ z. z.abi) h.1
+same_model (Some x) old new m h = h.1
+
 pub set_took : (old new : Store) (act p q : ℕ) (place : Spot) (o : Operand) (u : Option (Unit {0})) (x : Unit {0}) → u ≡ Some x → q ≡ p + 1 → Stored u old new (assigned old.abi (memory old) act place o) → Took old new act p (Set place o) (At q)
-set_took old new act p q place o u x is next h = record { does = λ s same enter end at. changed_took old new p q (λ m. assigned old.abi m act place o) u x is next h s same at }
+set_took old new act p q place o u x is next h = record { does = λ s same enter end at. changed_took old new p q (λ m. assigned old.abi m act place o) u x is next h s same at; model = same_model u old new (assigned old.abi (memory old) act place o) h }
 
 pub set_broken : (old new : Store) (act p : ℕ) (place : Spot) (o : Operand) (u : Option (Unit {0})) → u ≡ None → Stored u old new (assigned old.abi (memory old) act place o) → Took old new act p (Set place o) Broken
-set_broken old new act p place o u is h = record { does = λ s same enter end at. changed_broken old new p (λ m. assigned old.abi m act place o) u is h s same at }
+set_broken old new act p place o u is h = record { does = λ s same enter end at. changed_broken old new p (λ m. assigned old.abi m act place o) u is h s same at; model = same_model u old new (assigned old.abi (memory old) act place o) h }
 
 pub zero_took : (old new : Store) (act p q size : ℕ) (place : Spot) (u : Option (Unit {0})) (x : Unit {0}) → u ≡ Some x → q ≡ p + 1 → Stored u old new (zeroed old.abi (memory old) act size place) → Took old new act p (Zero size place) (At q)
-zero_took old new act p q size place u x is next h = record { does = λ s same enter end at. changed_took old new p q (λ m. zeroed old.abi m act size place) u x is next h s same at }
+zero_took old new act p q size place u x is next h = record { does = λ s same enter end at. changed_took old new p q (λ m. zeroed old.abi m act size place) u x is next h s same at; model = same_model u old new (zeroed old.abi (memory old) act size place) h }
 
 pub zero_broken : (old new : Store) (act p size : ℕ) (place : Spot) (u : Option (Unit {0})) → u ≡ None → Stored u old new (zeroed old.abi (memory old) act size place) → Took old new act p (Zero size place) Broken
-zero_broken old new act p size place u is h = record { does = λ s same enter end at. changed_broken old new p (λ m. zeroed old.abi m act size place) u is h s same at }
+zero_broken old new act p size place u is h = record { does = λ s same enter end at. changed_broken old new p (λ m. zeroed old.abi m act size place) u is h s same at; model = same_model u old new (zeroed old.abi (memory old) act size place) h }
 
 -- a state with the memory that it has
 unmoved : (mem : Store) (s : State) (r : Remains) → s.memory ≡ memory mem → r s ≡ r (with_memory s (memory mem))
@@ -90,6 +95,7 @@ test_took mem act p q i of e h is place = record {
   does = λ s same enter end at.
       ap (λ m. given s (term_value mem.abi m act of e >>= truth m of) (λ h. at (place_by h (suc p) q) s)) same
       ∙ (ap (λ o. given s o (λ h. at (place_by h (suc p) q) s)) (sym is) ∙ (ap (λ j. at j s) (sym place) ∙ unmoved mem s (at i) same));
+  model = refl;
 }
 
 pub test_broken : (mem : Store) (act p q : ℕ) (of : Scalar) (e : Term) → None ≡ (term_value mem.abi (memory mem) act of e >>= truth (memory mem) of) → Took mem mem act p (Test of e q) Broken
@@ -97,6 +103,7 @@ test_broken mem act p q of e is = record {
   does = λ s same enter end at.
       ap (λ m. given s (term_value mem.abi m act of e >>= truth m of) (λ h. at (place_by h (suc p) q) s)) same
       ∙ (ap (λ o. given s o (λ h. at (place_by h (suc p) q) s)) (sym is) ∙ unmoved mem s (λ s. Undefined s) same);
+  model = refl;
 }
 
 pub choice_took : (mem : Store) (act p i other : ℕ) (kind : IntKind) (e : Term) (cases : List (ℤ × ℕ)) (v : ℤ) → Some v ≡ (term_value mem.abi (memory mem) act (OfKind kind) e >>= number_in) → i ≡ place_for v cases other → Took mem mem act p (Choose kind e cases other) (At i)
@@ -104,6 +111,7 @@ choice_took mem act p i other kind e cases v is place = record {
   does = λ s same enter end at.
       ap (λ m. given s (term_value mem.abi m act (OfKind kind) e >>= number_in) (λ v. at (place_for v cases other) s)) same
       ∙ (ap (λ o. given s o (λ v. at (place_for v cases other) s)) (sym is) ∙ (ap (λ j. at j s) (sym place) ∙ unmoved mem s (at i) same));
+  model = refl;
 }
 
 pub choice_broken : (mem : Store) (act p other : ℕ) (kind : IntKind) (e : Term) (cases : List (ℤ × ℕ)) → None ≡ (term_value mem.abi (memory mem) act (OfKind kind) e >>= number_in) → Took mem mem act p (Choose kind e cases other) Broken
@@ -111,28 +119,31 @@ choice_broken mem act p other kind e cases is = record {
   does = λ s same enter end at.
       ap (λ m. given s (term_value mem.abi m act (OfKind kind) e >>= number_in) (λ v. at (place_for v cases other) s)) same
       ∙ (ap (λ o. given s o (λ v. at (place_for v cases other) s)) (sym is) ∙ unmoved mem s (λ s. Undefined s) same);
+  model = refl;
 }
 
 pub forward_took : (mem : Store) (act p q : ℕ) → Took mem mem act p (Forward q) (At q)
-forward_took mem act p q = record { does = λ s same enter end at. unmoved mem s (at q) same }
+forward_took mem act p q = record { does = λ s same enter end at. unmoved mem s (at q) same; model = refl }
 
 pub back_took : (mem : Store) (act p q : ℕ) → Took mem mem act p (Back q) (GoBack q)
-back_took mem act p q = record { does = λ s same enter end at. unmoved mem s (λ s. spend s (at q)) same }
+back_took mem act p q = record { does = λ s same enter end at. unmoved mem s (λ s. spend s (at q)) same; model = refl }
 
 pub stuck_took : (mem : Store) (act p : ℕ) → Took mem mem act p Stuck Broken
-stuck_took mem act p = record { does = λ s same enter end at. unmoved mem s (λ s. Undefined s) same }
+stuck_took mem act p = record { does = λ s same enter end at. unmoved mem s (λ s. Undefined s) same; model = refl }
 
 pub leave_took : (mem : Store) (act p : ℕ) → Took mem mem act p (Leave None) (Ended None)
-leave_took mem act p = record { does = λ s same enter end at. unmoved mem s (λ s. Goes end s) same }
+leave_took mem act p = record { does = λ s same enter end at. unmoved mem s (λ s. Goes end s) same; model = refl }
 
 pub leave_with : (mem : Store) (act p : ℕ) (o : Operand) (d : CodeDatum) → option_map datum_of (Some d) ≡ operand_datum mem.abi (memory mem) act o → Took mem mem act p (Leave (Some o)) (Ended (Some d))
 leave_with mem act p o d is = record {
   does = λ s same enter end at.
       ap (λ m. given s (operand_datum mem.abi m act o) (λ d. Goes d s)) same ∙ (ap (λ u. given s u (λ d. Goes d s)) (sym is) ∙ unmoved mem s (λ s. Goes (datum_of d) s) same);
+  model = refl;
 }
 
 pub leave_broken : (mem : Store) (act p : ℕ) (o : Operand) → None ≡ operand_datum mem.abi (memory mem) act o → Took mem mem act p (Leave (Some o)) Broken
 leave_broken mem act p o is = record {
   does = λ s same enter end at.
       ap (λ m. given s (operand_datum mem.abi m act o) (λ d. Goes d s)) same ∙ (ap (λ u. given s u (λ d. Goes d s)) (sym is) ∙ unmoved mem s (λ s. Undefined s) same);
+  model = refl;
 }

@@ -33,6 +33,7 @@ on end at (Back q) s = spend s (at q)
 on end at (Ended d) s = Goes (ended end d) s
 on end at Broken s = Undefined s
 
--- in each state with the old memory, the step leads there with the new one
+-- in each state with the old memory, the step leads there with the new one; the data model stays
 pub record Took (old new : Store) (act p : ℕ) (step : Step) (n : Onward) : Type 0 where
   pub does : (s : State) → s.memory ≡ memory old → (enter : Enter) (end : passed.Datum) (at : ℕ → Remains) → done old.abi act enter end at p step s ≡ on end at n (with_memory s (memory new))
+  pub model : new.abi ≡ old.abi
