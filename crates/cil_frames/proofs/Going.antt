@@ -3,7 +3,6 @@ use Rattle.std.proofs.Common.{◌≡◌, ℕ, zero, suc, ◌+◌, ◌-◌, ◌*�
 use Rattle.std.proofs.lemmas.Option.{slice_get_read}
 use Rattle.std.proofs.Math.Nat.{suc-mul}
 use Rattle.cil_base.specs.declared.kinds.Abi.{Abi}
-use Rattle.cil_base.specs.declared.kinds.Abi.TheVariants.{Lp64}
 use Rattle.byte_mem.specs.declared.stores.Store.{Store}
 use Rattle.byte_mem.specs.Memory.{Memory}
 use Rattle.byte_mem.specs.Store.{memory}
@@ -25,10 +24,6 @@ use Rattle.cil_frames.specs.declared.courses.Pace.{Pace}
 use Rattle.cil_frames.specs.declared.courses.Pace.TheVariants.{On, Stopped}
 use Rattle.cil_frames.specs.Course.{GoesBy, with_both, NotBehind, StopsThere, Ran, Went, Stands, Advanced, ahead, Stepped, Turned, Led}
 use Rattle.cil_frames.proofs.Leads.{step_leads, at_leads, back_leads, further_is}
-
--- there is one data model
-pub one_model : (a b : Abi) → a ≡ b
-one_model Lp64 Lp64 = refl
 
 -- a state with that memory and so many units
 both_same : (s : State) (m : Memory) (n : ℕ) → s.memory ≡ m → s.left ≡ n → s ≡ with_both s m n
@@ -95,7 +90,7 @@ went_at old new act code p before q after y t e =
       went = record {
         does = λ enter end at goes s same units. goes p y t.there s ∙ (t.took.does s same enter end at ∙ ap (at q) (left_same s (memory new) after (units ∙ sym e)));
         on = let rise : p < q = k.0 in inr (e, omega arith);
-        abi = one_model new.abi old.abi;
+        abi = t.took.model;
       };
       within = k.1;
       falls = subst (λ a. ahead code q a < ahead code p before) (sym e) (rises (length code) p q before k.0 k.1);
@@ -107,7 +102,7 @@ went_back old new act code p n q after y t e = record {
     does = λ enter end at goes s same units.
         goes p y t.there s ∙ (t.took.does s same enter end at ∙ (ap (λ n. spent n (with_memory s (memory new)) (at q)) units ∙ ap (λ n. at q (with_both s (memory new) n)) (sym e)));
     on = inl (omega arith);
-    abi = one_model new.abi old.abi;
+    abi = t.took.model;
   };
   within = back_leads old new act (length code) p q y t.plain t.leads t.took;
   falls = subst (λ a. ahead code q a < ahead code p (suc n)) (sym e) (spends (length code) p q n);
@@ -118,21 +113,21 @@ ran_out old new act code p q after y t e = record {
   does = λ enter end at goes s same units.
       goes p y t.there s ∙ (t.took.does s same enter end at ∙ (ap (λ n. spent n (with_memory s (memory new)) (at q)) units ∙ ap states.Running (left_same s (memory new) after (units ∙ sym e))));
   there = e;
-  abi = one_model new.abi old.abi;
+  abi = t.took.model;
 }
 
 ran_to_end : (old new : Store) (act : ℕ) (code : List Step) (p before after : ℕ) (y : Step) (d : _) → IsTaken old new act code p y (onward.Ended d) → after ≡ before → Ran old new act code p before after (Ended d)
 ran_to_end old new act code p before after y d t e = record {
   does = λ enter end at goes s same units. goes p y t.there s ∙ (t.took.does s same enter end at ∙ ap (Goes (ended end d)) (left_same s (memory new) after (units ∙ sym e)));
   there = omega arith;
-  abi = one_model new.abi old.abi;
+  abi = t.took.model;
 }
 
 ran_wrong : (old new : Store) (act : ℕ) (code : List Step) (p before after : ℕ) (y : Step) → IsTaken old new act code p y onward.Undefined → after ≡ before → Ran old new act code p before after Undefined
 ran_wrong old new act code p before after y t e = record {
   does = λ enter end at goes s same units. goes p y t.there s ∙ (t.took.does s same enter end at ∙ ap states.Undefined (left_same s (memory new) after (units ∙ sym e)));
   there = omega arith;
-  abi = one_model new.abi old.abi;
+  abi = t.took.model;
 }
 
 stepped_back : (old new : Store) (act : ℕ) (code : List Step) (p before q after : ℕ) (y : Step) (pace : Pace) → IsTaken old new act code p y (onward.Back q) → Turned q before after pace → Stepped old new act code p before after pace

@@ -1,6 +1,6 @@
 -- Device: steps and activations leave the objects of malloc.
 use Rattle.std.proofs.Common.{◌≡◌, ℕ, ◌+◌, ◌≤◌, Bool, true, false, cond, List, [], length, replicate, Option, Some, None, option_map, refl, sym, ap, ◌∙◌, subst, arith, ℤ, pos}
-use Rattle.std.specs.Prelude.{nat_eq, ◌%◌}
+use Rattle.std.specs.Prelude.{nat_eq, not, ◌%◌}
 use Rattle.std.proofs.lemmas.Option.{none-some}
 use Rattle.cil_base.specs.declared.kinds.Abi.{Abi}
 use Rattle.byte_mem.specs.declared.pointers.ObjName.{ObjName}
@@ -152,3 +152,8 @@ took_keeps old new act p y n c took =
     let t = took.does (base (memory old)) refl goes_nowhere nothing at_once in
     let e : (last (done old.abi act goes_nowhere nothing at_once p y (base (memory old)))).memory ≡ memory new = ap (λ r. (last r).memory) t ∙ on_memory (memory old) (memory new) n in
     subst (SameHeap (memory old)) e (done_keeps old.abi (memory old) act p y c)
+
+-- what is taken is no call
+pub no_call : (b : Bool) → true ≡ not b → b ≡ false
+no_call true h = absurd (cc)
+no_call false h = refl
