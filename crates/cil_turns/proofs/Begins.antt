@@ -10,7 +10,7 @@ use Rattle.execution.specs.States.{State, Result, Running, Undefined, with_left,
 use Rattle.execution.specs.Data.{Datum, same_kind}
 use Rattle.execution.specs.Calls as meaning
 use Rattle.execution.specs.Calls.{Enter, Meaning, Object, Code, Host, Linked, activated, entered, matches, arguments_match, called, entity_at, meant}
-use Rattle.cil_code.specs.Calling.{kind_from, called_in}
+use Rattle.cil_code.specs.Calling.{kind_from}
 use Rattle.cil_frames.specs.declared.activations.Argument.{Argument}
 use Rattle.cil_frames.specs.declared.calling.Evaluated.{Evaluated}
 use Rattle.cil_frames.specs.declared.frames.Function.{Function}
@@ -19,7 +19,6 @@ use Rattle.cil_frames.specs.declared.frames.Entity.{Entity}
 use Rattle.cil_frames.specs.declared.frames.Entity.TheVariants.{Program as OfProgram}
 use Rattle.cil_frames.specs.Entering.{arguments_of, objects_of, begun_in}
 use Rattle.cil_frames.specs.Frames.{StandsAtCall as FrameCall}
-use Rattle.cil_frames.specs.Evaluating.{goes_into}
 use Rattle.cil_frames.specs.Frames.{Courses, whole, entered_state, entry_at, IsFunction, IsNoFunction, IsMachine}
 use Rattle.cil_frames.specs.Keeping.{SameHeap}
 use Rattle.cil_frames.proofs.Turns.{entity_meant, code_meant, frames_are_meant}
@@ -35,7 +34,7 @@ use Rattle.cil_turns.specs.Standing.{Waits, Stands, remains, from_stand, from_fi
 use Rattle.cil_turns.specs.Moving.{Arrives, Finishes}
 use Rattle.cil_turns.specs.Turning.{StandsAtCall, kinds_agree, Begun, frame_of, FirstStands}
 use Rattle.cil_turns.proofs.KindLemmas.{agree_long}
-use Rattle.cil_turns.proofs.Wholes.{one_model, remains_is, remains_grows, whole_grows, cut_off, stand_push, ahead_push, ahead_at_most, steps_there, spends}
+use Rattle.cil_turns.proofs.Wholes.{remains_is, remains_grows, whole_grows, cut_off, stand_push, ahead_push, ahead_at_most, steps_there, spends}
 use Rattle.cil_turns.proofs.Heap.{begun_heap, still_counted}
 use Rattle.cil_turns.proofs.Moves.{moved, quiet_moves, quiet_comes}
 
@@ -45,6 +44,7 @@ pub begun : (old new : Run) (m : Store) (callee act left next : ℕ) (f : Functi
 begun old new m callee act left next f arguments h a l n e = record {
   stand = ap (λ act. record { function = callee; act = act; place = 0 }) a;
   memory = ap (λ (r : Run). memory r.mem) e ∙ (h.0 ∙ ap (λ act. begun_in old.mem.abi act (arguments_of arguments) (objects_of f.objects.items) (memory old.mem)) a);
+  model = ap (λ (r : Run). r.mem.abi) e ∙ h.1;
   streams = ap (λ (r : Run). r.streams) e;
   left = ap (λ (r : Run). suc r.left) e ∙ l;
   next = ap (λ (r : Run). r.next) e ∙ n;
@@ -57,6 +57,7 @@ pub pushed : (old mid new : Run) (frame : Frame) (callee : ℕ) (f : Function) (
 pushed old mid new frame callee f arguments x e more h = record {
   stand = h.stand ∙ ap (λ (r : Run). record { function = callee; act = r.next; place = 0 }) e;
   memory = h.memory ∙ ap (λ (r : Run). begun_in r.mem.abi r.next (arguments_of arguments) (objects_of f.objects.items) (memory r.mem)) e;
+  model = h.model ∙ ap (λ (r : Run). r.mem.abi) e;
   streams = h.streams ∙ ap (λ (r : Run). r.streams) e;
   left = h.left ∙ ap (λ (r : Run). r.left) e;
   next = h.next ∙ ap (λ (r : Run). suc r.next) e;
@@ -64,25 +65,24 @@ pushed old mid new frame callee f arguments x e more h = record {
 }
 
 -- the state in which it runs
-entered_is : (abi : Abi) (old new : Run) (waiting : List Frame) (callee : ℕ) (f : Function) (arguments : List Argument) (x : Stand) (s : State) → Begun old new waiting callee f arguments x → s.memory ≡ memory old.mem → s.next ≡ old.next
-    → entered_state abi f (arguments_of arguments) (with_left s new.left) ≡ moved s new
-entered_is abi old new waiting callee f arguments x s b same next =
+entered_is : (old new : Run) (waiting : List Frame) (callee : ℕ) (f : Function) (arguments : List Argument) (x : Stand) (s : State) → Begun old new waiting callee f arguments x → s.memory ≡ memory old.mem → s.next ≡ old.next
+    → entered_state old.mem.abi f (arguments_of arguments) (with_left s new.left) ≡ moved s new
+entered_is old new waiting callee f arguments x s b same next =
     ap (λ m. record s { memory = m; left = new.left; next = suc s.next })
-    (ap (λ (a : Abi). begun_in a s.next (arguments_of arguments) (objects_of f.objects.items) s.memory) (one_model abi old.mem.abi)
-    ∙ (ap (λ n. begun_in old.mem.abi n (arguments_of arguments) (objects_of f.objects.items) s.memory) next
-    ∙ (ap (begun_in old.mem.abi old.next (arguments_of arguments) (objects_of f.objects.items)) same ∙ sym b.memory)))
+    (ap (λ n. begun_in old.mem.abi n (arguments_of arguments) (objects_of f.objects.items) s.memory) next
+    ∙ (ap (begun_in old.mem.abi old.next (arguments_of arguments) (objects_of f.objects.items)) same ∙ sym b.memory))
     ∙ ap (λ n. record s { memory = memory new.mem; left = new.left; next = n }) (ap suc next ∙ sym b.next)
 
 -- and the whole run then
-begun_remains : (abi : Abi) (at : Courses) (table : List (Option Entity)) (old new : Run) (waiting : List Frame) (callee : ℕ) (f : Function) (arguments : List Argument) (x : Stand) (s : State) → Begun old new waiting callee f arguments x → s.memory ≡ memory old.mem → s.next ≡ old.next
+begun_remains : (at : Courses) (table : List (Option Entity)) (old new : Run) (waiting : List Frame) (callee : ℕ) (f : Function) (arguments : List Argument) (x : Stand) (s : State) → Begun old new waiting callee f arguments x → s.memory ≡ memory old.mem → s.next ≡ old.next
     → slice_get table callee ≡ Some (Some (OfProgram f))
-    → whole abi at table waiting s.next f (at callee s.next 0 (entered_state abi f (arguments_of arguments) (with_left s new.left))) ≡ remains abi at table new.frames.items x (moved s new)
-begun_remains abi at table old new waiting callee f arguments x s b same next there =
-    ap (λ t. whole abi at table waiting s.next f (at callee s.next 0 t)) (entered_is abi old new waiting callee f arguments x s b same next)
-    ∙ (ap (λ n. whole abi at table waiting n f (at callee n 0 (moved s new))) next
-    ∙ (ap (λ ws. whole abi at table ws old.next f (at callee old.next 0 (moved s new))) (sym b.frames)
-    ∙ (sym (remains_is abi at table new.frames.items (record { function = callee; act = old.next; place = 0 }) f (moved s new) there)
-    ∙ ap (λ (y : Stand). remains abi at table new.frames.items y (moved s new)) (sym b.stand))))
+    → whole old.mem.abi at table waiting s.next f (at callee s.next 0 (entered_state old.mem.abi f (arguments_of arguments) (with_left s new.left))) ≡ remains old.mem.abi at table new.frames.items x (moved s new)
+begun_remains at table old new waiting callee f arguments x s b same next there =
+    ap (λ t. whole old.mem.abi at table waiting s.next f (at callee s.next 0 t)) (entered_is old new waiting callee f arguments x s b same next)
+    ∙ (ap (λ n. whole old.mem.abi at table waiting n f (at callee n 0 (moved s new))) next
+    ∙ (ap (λ ws. whole old.mem.abi at table ws old.next f (at callee old.next 0 (moved s new))) (sym b.frames)
+    ∙ (sym (remains_is old.mem.abi at table new.frames.items (record { function = callee; act = old.next; place = 0 }) f (moved s new) there)
+    ∙ ap (λ (y : Stand). remains old.mem.abi at table new.frames.items y (moved s new)) (sym b.stand))))
 
 -- it stands there
 begun_stands : (table : List (Option Entity)) (old new : Run) (waiting : List Frame) (callee : ℕ) (f : Function) (arguments : List Argument) (x : Stand) → Waits table old → StandIn table waiting → slice_get table callee ≡ Some (Some (OfProgram f)) → Begun old new waiting callee f arguments x
@@ -98,27 +98,28 @@ begun_stands table old new waiting callee f arguments x w frames there b = recor
 }
 
 -- a machine that stands at a call
-pub stands_at : (abi : Abi) (table : List (Option Entity)) (run : Run) (x y : Stand) (e : Evaluated) (h : StandsAtCall table run x y e) (s : State) → s.memory ≡ memory run.mem
-    → FrameCall abi table x.function x.act x.place h.before.function h.call (Some e) s
-stands_at abi table run x y e h s same = record {
+pub stands_at : (table : List (Option Entity)) (run : Run) (x y : Stand) (e : Evaluated) (h : StandsAtCall table run x y e) (s : State) → s.memory ≡ memory run.mem
+    → FrameCall run.mem.abi table x.function x.act x.place h.before.function h.call (Some e) s
+stands_at table run x y e h s same = record {
   running = h.before.running;
   there = h.before.there;
-  parts = λ enter. subst (λ (a : Abi). called_in a x.act enter h.call s ≡ goes_into a enter (Some e) s) (one_model run.mem.abi abi) (h.parts.does s same enter);
+  parts = λ enter. h.parts.does s same enter;
 }
 
 -- a call of a loaded function whose kinds agree
 pub enters : (table : List (Option Entity)) (old new : Run) (x y z : Stand) (callee : ℕ) (g : Function) (e : Evaluated) → StandsAtCall table old x y e → entity_at e.callee ≡ Some callee → slice_get table callee ≡ Some (Some (OfProgram g)) → kinds_agree g e.result e.arguments.items ≡ true
     → Begun old new (old.frames.items ++ frame_of y e.to ∷ []) callee g e.arguments.items z → (left taken : Option (List ℕ)) → Arrives table (from_stand table old x) old new z left left taken taken
 enters table old new x y z callee g e h calls there fits b left taken = record {
-  means = λ abi link enter at machine grow.
-      quiet_moves (from_stand table old x abi enter at) old new b.streams left taken (from_stand table new z abi enter at) (λ s same units next.
-      remains_is abi at table old.frames.items x h.before.function s h.before.running
-      ∙ ((frames_are_meant abi link enter at table machine).enters old.frames.items x.function x.act x.place callee new.left h.before.function g h.call e s (stands_at abi table old x y e h s same) calls there fits (units ∙ sym b.left)
-      ∙ (ap (λ (v : Stand). whole abi at table (old.frames.items ++ frame_of v e.to ∷ []) s.next g (at callee s.next 0 (entered_state abi g (arguments_of e.arguments.items) (with_left s new.left)))) (sym h.before.behind)
-      ∙ begun_remains abi at table old new (old.frames.items ++ frame_of y e.to ∷ []) callee g e.arguments.items z s b same next there)));
+  means = λ link enter at machine grow.
+      quiet_moves (from_stand table old x old.mem.abi enter at) old new b.streams left taken (from_stand table new z old.mem.abi enter at) (λ s same units next.
+      remains_is old.mem.abi at table old.frames.items x h.before.function s h.before.running
+      ∙ ((frames_are_meant old.mem.abi link enter at table machine).enters old.frames.items x.function x.act x.place callee new.left h.before.function g h.call e s (stands_at table old x y e h s same) calls there fits (units ∙ sym b.left)
+      ∙ (ap (λ (v : Stand). whole old.mem.abi at table (old.frames.items ++ frame_of v e.to ∷ []) s.next g (at callee s.next 0 (entered_state old.mem.abi g (arguments_of e.arguments.items) (with_left s new.left)))) (sym h.before.behind)
+      ∙ begun_remains at table old new (old.frames.items ++ frame_of y e.to ∷ []) callee g e.arguments.items z s b same next there)));
   stands = begun_stands table old new (old.frames.items ++ frame_of y e.to ∷ []) callee g e.arguments.items z h.before.stands.waits
       (stand_push table old.frames.items (frame_of y e.to) h.before.stands.waits.waiting
       (subst (λ (v : Stand). IsPlace table v.function v.place) (sym h.before.behind) (record { code = h.before.function; running = h.before.running; there = h.before.within }))) there b;
+  model = b.model;
 }
 
 -- it takes from what is ahead
@@ -148,33 +149,33 @@ entry_of table v n e calls there = ap (λ o. o >>= λ n. slice_get table n >>= �
 pub misfits : (table : List (Option Entity)) (run : Run) (x y : Stand) (callee : ℕ) (g : Function) (e : Evaluated) → StandsAtCall table run x y e → entity_at e.callee ≡ Some callee → slice_get table callee ≡ Some (Some (OfProgram g)) → kinds_agree g e.result e.arguments.items ≡ false
     → (left taken : Option (List ℕ)) → Finishes table (from_stand table run x) WentUndefined run run left left taken taken
 misfits table run x y callee g e h calls there fits left taken = record {
-  means = λ abi link enter at machine grow.
-      quiet_comes (from_stand table run x abi enter at) run run refl left taken WentUndefined tt (λ tail s same units next.
-      ends_along WentUndefined (from_stand table run x abi enter at) (Undefined s) s.out tail run.left s
-      (remains_is abi at table run.frames.items x h.before.function s h.before.running
-      ∙ (frames_are_meant abi link enter at table machine).misfits run.frames.items x.function x.act x.place h.before.function g h.call e s (stands_at abi table run x y e h s same) (entry_of table e.callee callee (Some (OfProgram g)) calls there) fits)
+  means = λ link enter at machine grow.
+      quiet_comes (from_stand table run x run.mem.abi enter at) run run refl left taken WentUndefined tt (λ tail s same units next.
+      ends_along WentUndefined (from_stand table run x run.mem.abi enter at) (Undefined s) s.out tail run.left s
+      (remains_is run.mem.abi at table run.frames.items x h.before.function s h.before.running
+      ∙ (frames_are_meant run.mem.abi link enter at table machine).misfits run.frames.items x.function x.act x.place h.before.function g h.call e s (stands_at table run x y e h s same) (entry_of table e.callee callee (Some (OfProgram g)) calls there) fits)
       (refl, units));
 }
 
 pub lacks : (table : List (Option Entity)) (run : Run) (x y : Stand) (callee : ℕ) (g : Function) (e : Evaluated) → StandsAtCall table run x y e → entity_at e.callee ≡ Some callee → slice_get table callee ≡ Some (Some (OfProgram g)) → kinds_agree g e.result e.arguments.items ≡ true → run.left ≡ 0
     → (left taken : Option (List ℕ)) → Finishes table (from_stand table run x) StillRunning run run left left taken taken
 lacks table run x y callee g e h calls there fits none left taken = record {
-  means = λ abi link enter at machine grow.
-      quiet_comes (from_stand table run x abi enter at) run run refl left taken StillRunning tt (λ tail s same units next.
-      ends_along StillRunning (from_stand table run x abi enter at) (Running s) s.out tail run.left s
-      (remains_is abi at table run.frames.items x h.before.function s h.before.running
-      ∙ (frames_are_meant abi link enter at table machine).lacks run.frames.items x.function x.act x.place h.before.function g h.call e s (stands_at abi table run x y e h s same) (entry_of table e.callee callee (Some (OfProgram g)) calls there) fits (units ∙ none))
+  means = λ link enter at machine grow.
+      quiet_comes (from_stand table run x run.mem.abi enter at) run run refl left taken StillRunning tt (λ tail s same units next.
+      ends_along StillRunning (from_stand table run x run.mem.abi enter at) (Running s) s.out tail run.left s
+      (remains_is run.mem.abi at table run.frames.items x h.before.function s h.before.running
+      ∙ (frames_are_meant run.mem.abi link enter at table machine).lacks run.frames.items x.function x.act x.place h.before.function g h.call e s (stands_at table run x y e h s same) (entry_of table e.callee callee (Some (OfProgram g)) calls there) fits (units ∙ none))
       (refl, units));
 }
 
 -- what is called is no function
 pub no_function : (table : List (Option Entity)) (run : Run) (x y : Stand) (e : Evaluated) → StandsAtCall table run x y e → IsNoFunction (entry_at table e.callee) → (left taken : Option (List ℕ)) → Finishes table (from_stand table run x) WentUndefined run run left left taken taken
 no_function table run x y e h empty left taken = record {
-  means = λ abi link enter at machine grow.
-      quiet_comes (from_stand table run x abi enter at) run run refl left taken WentUndefined tt (λ tail s same units next.
-      ends_along WentUndefined (from_stand table run x abi enter at) (Undefined s) s.out tail run.left s
-      (remains_is abi at table run.frames.items x h.before.function s h.before.running
-      ∙ (frames_are_meant abi link enter at table machine).wrong run.frames.items x.function x.act x.place h.before.function h.call e s (stands_at abi table run x y e h s same) empty)
+  means = λ link enter at machine grow.
+      quiet_comes (from_stand table run x run.mem.abi enter at) run run refl left taken WentUndefined tt (λ tail s same units next.
+      ends_along WentUndefined (from_stand table run x run.mem.abi enter at) (Undefined s) s.out tail run.left s
+      (remains_is run.mem.abi at table run.frames.items x h.before.function s h.before.running
+      ∙ (frames_are_meant run.mem.abi link enter at table machine).wrong run.frames.items x.function x.act x.place h.before.function h.call e s (stands_at table run x y e h s same) empty)
       (refl, units));
 }
 
@@ -199,10 +200,10 @@ nothing_there table v n y calls there empty = subst IsNoFunction (sym (entry_of 
 -- memory is wanting where a machine stands, and what was sent and what waits is the output so far
 pub wants_at : (table : List (Option Entity)) (old new : Run) (x : Stand) → Stands table old x → new.streams ≡ old.streams → new.left ≡ old.left → (left taken : Option (List ℕ)) → Finishes table (from_stand table old x) WantOfMemory old new left left taken taken
 wants_at table old new x h same kept left taken = record {
-  means = λ abi link enter at machine grow.
-      quiet_comes (from_stand table old x abi enter at) old new same left taken WantOfMemory tt (λ tail s m units next.
+  means = λ link enter at machine grow.
+      quiet_comes (from_stand table old x old.mem.abi enter at) old new same left taken WantOfMemory tt (λ tail s m units next.
       let low : s.left ≡ new.left = units ∙ sym kept in
-      cut_off (remains abi at table old.frames.items x s) s new.left (remains_grows abi link enter at table grow old.frames.items h.waits.waiting x h.place s) (omega arith));
+      cut_off (remains old.mem.abi at table old.frames.items x s) s new.left (remains_grows old.mem.abi link enter at table grow old.frames.items h.waits.waiting x h.place s) (omega arith));
 }
 
 -- the first call
@@ -231,25 +232,26 @@ pub first_enters : (table : List (Option Entity)) (old new : Run) (f : Function)
 first_enters table old new f c x h fits b left taken =
     let d : Begun old new [] c.callee f c.arguments.items x = subst (λ fs. Begun old new fs c.callee f c.arguments.items x) h.frames b in
     record {
-      means = λ abi link enter at machine grow.
-          quiet_moves (from_first c abi enter at) old new b.streams left taken (from_stand table new x abi enter at) (λ s same units next.
-          begun_first abi link enter at table c f new.left s machine h.running fits (units ∙ sym b.left) ∙ begun_remains abi at table old new [] c.callee f c.arguments.items x s d same next h.running);
+      means = λ link enter at machine grow.
+          quiet_moves (from_first c old.mem.abi enter at) old new b.streams left taken (from_stand table new x old.mem.abi enter at) (λ s same units next.
+          begun_first old.mem.abi link enter at table c f new.left s machine h.running fits (units ∙ sym b.left) ∙ begun_remains at table old new [] c.callee f c.arguments.items x s d same next h.running);
       stands = begun_stands table old new [] c.callee f c.arguments.items x h.waits tt h.running d;
+      model = b.model;
     }
 
 pub first_misfits : (table : List (Option Entity)) (run : Run) (f : Function) (c : FirstCall) → FirstStands table run f c → kinds_agree f c.result c.arguments.items ≡ false → (left taken : Option (List ℕ)) → Finishes table (from_first c) WentUndefined run run left left taken taken
 first_misfits table run f c h fits left taken = record {
-  means = λ abi link enter at machine grow.
-      quiet_comes (from_first c abi enter at) run run refl left taken WentUndefined tt (λ tail s same units next.
-      ends_along WentUndefined (from_first c abi enter at) (Undefined s) s.out tail run.left s (first_is abi link enter at table c f false s machine h.running fits).2 (refl, units));
+  means = λ link enter at machine grow.
+      quiet_comes (from_first c run.mem.abi enter at) run run refl left taken WentUndefined tt (λ tail s same units next.
+      ends_along WentUndefined (from_first c run.mem.abi enter at) (Undefined s) s.out tail run.left s (first_is run.mem.abi link enter at table c f false s machine h.running fits).2 (refl, units));
 }
 
 pub first_lacks : (table : List (Option Entity)) (run : Run) (f : Function) (c : FirstCall) → FirstStands table run f c → kinds_agree f c.result c.arguments.items ≡ true → run.left ≡ 0 → (left taken : Option (List ℕ)) → Finishes table (from_first c) StillRunning run run left left taken taken
 first_lacks table run f c h fits none left taken = record {
-  means = λ abi link enter at machine grow.
-      quiet_comes (from_first c abi enter at) run run refl left taken StillRunning tt (λ tail s same units next.
-      let k = first_is abi link enter at table c f true s machine h.running fits in
-      ends_along StillRunning (from_first c abi enter at) (Running s) s.out tail run.left s (k.2 ∙ ap (λ u. spent u s (activated enter k.0 (arguments_of c.arguments.items))) (units ∙ none)) (refl, units));
+  means = λ link enter at machine grow.
+      quiet_comes (from_first c run.mem.abi enter at) run run refl left taken StillRunning tt (λ tail s same units next.
+      let k = first_is run.mem.abi link enter at table c f true s machine h.running fits in
+      ends_along StillRunning (from_first c run.mem.abi enter at) (Running s) s.out tail run.left s (k.2 ∙ ap (λ u. spent u s (activated enter k.0 (arguments_of c.arguments.items))) (units ∙ none)) (refl, units));
 }
 
 above : (n : ℕ) → 0 < n → (k : ℕ) × (n ≡ suc k)
@@ -263,11 +265,11 @@ first_wants table old new f c h fits some same kept left taken =
     let one : old.left ≡ suc k.0 = k.1 in
     let low : k.0 ≤ new.left = omega (arith, kept) in
     record {
-      means = λ abi link enter at machine grow.
-          quiet_comes (from_first c abi enter at) old new same left taken WantOfMemory tt (λ tail s m units next.
-          let t = entered_state abi f (arguments_of c.arguments.items) (with_left s k.0) in
+      means = λ link enter at machine grow.
+          quiet_comes (from_first c old.mem.abi enter at) old new same left taken WantOfMemory tt (λ tail s m units next.
+          let t = entered_state old.mem.abi f (arguments_of c.arguments.items) (with_left s k.0) in
           let place : IsPlace table c.callee 0 = record { code = f; running = h.running; there = (h.waits.leads c.callee f h.running).1 } in
-          ends_along WantOfMemory (from_first c abi enter at) (whole abi at table [] s.next f (at c.callee s.next 0 t)) s.out tail new.left s
-          (begun_first abi link enter at table c f k.0 s machine h.running fits (units ∙ k.1))
-          (cut_off (whole abi at table [] s.next f (at c.callee s.next 0 t)) t new.left (whole_grows abi link enter at table grow [] tt s.next f t (at c.callee s.next 0 t) (grow.places c.callee s.next 0 place t)) low));
+          ends_along WantOfMemory (from_first c old.mem.abi enter at) (whole old.mem.abi at table [] s.next f (at c.callee s.next 0 t)) s.out tail new.left s
+          (begun_first old.mem.abi link enter at table c f k.0 s machine h.running fits (units ∙ k.1))
+          (cut_off (whole old.mem.abi at table [] s.next f (at c.callee s.next 0 t)) t new.left (whole_grows old.mem.abi link enter at table grow [] tt s.next f t (at c.callee s.next 0 t) (grow.places c.callee s.next 0 place t)) low));
     }

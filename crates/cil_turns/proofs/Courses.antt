@@ -10,7 +10,6 @@ use Rattle.execution.specs.States.{State}
 use Rattle.execution.specs.Calls.{Enter, Linked}
 use Rattle.cil_code.specs.declared.calls.Call.{Call}
 use Rattle.cil_code.specs.declared.steps.Step.{Step}
-use Rattle.cil_code.specs.Calling.{called_in}
 use Rattle.cil_code.specs.declared.taking.Datum.{Datum as CodeDatum}
 use Rattle.cil_code.specs.declared.steps.Step.TheVariants.{Call as CallStep}
 use Rattle.cil_code.specs.Taking.{datum_of}
@@ -20,7 +19,7 @@ use Rattle.cil_frames.specs.declared.frames.Function.{Function}
 use Rattle.cil_frames.specs.declared.frames.Entity.{Entity}
 use Rattle.cil_frames.specs.declared.frames.Entity.TheVariants.{Data as OfData, Program as OfProgram, Host as OfHost}
 use Rattle.cil_frames.specs.Course.{GoesBy, NotBehind, IsCallAt, StopsThere, Ran, stopped, with_both}
-use Rattle.cil_frames.specs.Evaluating.{Evaluates, goes_into}
+use Rattle.cil_frames.specs.Evaluating.{Evaluates}
 use Rattle.cil_frames.specs.Frames.{Courses, whole, IsMachine}
 use Rattle.cil_frames.specs.Keeping.{SameHeap}
 use Rattle.cil_frames.proofs.Leads.{step_leads, further_is}
@@ -34,7 +33,7 @@ use Rattle.cil_turns.specs.Ends.{Ends}
 use Rattle.cil_turns.specs.Standing.{Waits, Stands, remains, from_stand, from_stop, from_end, steps_ahead, longest, waiting_ahead, waiting_burden, burden, stop_burden, Falls}
 use Rattle.cil_turns.specs.Moving.{Finishes, Turned, TurnedQuietly}
 use Rattle.cil_turns.specs.Turning.{Coursed, CallsAt, StopsAt, StandsBefore}
-use Rattle.cil_turns.proofs.Wholes.{one_model, remains_is, whole_running, whole_undefined, ahead_at_most, spends}
+use Rattle.cil_turns.proofs.Wholes.{remains_is, whole_running, whole_undefined, ahead_at_most, spends}
 use Rattle.cil_turns.proofs.Heap.{still_counted}
 use Rattle.cil_turns.proofs.Moves.{moved, same_moved, quiet_moves, quiet_comes, turned_behind}
 
@@ -92,11 +91,11 @@ course_stops table old mid x f y s there h = record {
 }
 
 -- what remains where it stops
-goes_there : (abi : Abi) (link : Linked) (enter : Enter) (at : Courses) (table : List (Option Entity)) (n act : ℕ) (f : Function) (b : Abi) → IsMachine abi link enter at table → slice_get table n ≡ Some (Some (OfProgram f)) → GoesBy b act f.code.items enter (datum_of f.end) (at n act)
-goes_there abi link enter at table n act f b machine there =
+goes_there : (abi : Abi) (link : Linked) (enter : Enter) (at : Courses) (table : List (Option Entity)) (n act : ℕ) (f : Function) → IsMachine abi link enter at table → slice_get table n ≡ Some (Some (OfProgram f)) → GoesBy abi act f.code.items enter (datum_of f.end) (at n act)
+goes_there abi link enter at table n act f machine there =
     let m = entity_meant abi enter at link table 0 n n (Some (OfProgram f)) machine.entries there (omega arith) in
     let g = code_meant abi enter (at n) m.0 f m.2 in
-    subst (λ (a : Abi). GoesBy a act f.code.items enter (datum_of f.end) (at n act)) (one_model abi b) (g.2.goes act)
+    g.2.goes act
 
 both_moved : (old mid : Run) (x : Stand) (code : List Step) (y : Stop) (s : State) → Coursed old mid x code y → s.next ≡ old.next → with_both s (memory mid.mem) mid.left ≡ moved s mid
 both_moved old mid x code y s h next = ap (λ n. record s { memory = memory mid.mem; left = mid.left; next = n }) (next ∙ ap (λ (r : Run). r.next) (sym h.others))
@@ -104,13 +103,13 @@ both_moved old mid x code y s h next = ap (λ n. record s { memory = memory mid.
 pub course_turned : (table : List (Option Entity)) (old mid new : Run) (x : Stand) (f : Function) (y : Stop) (turn : Turn) (left left' taken taken' : Option (List ℕ)) → slice_get table x.function ≡ Some (Some (OfProgram f)) → Coursed old mid x f.code.items y
     → Turned table (from_stop table mid x f y) mid new turn left left' taken taken' → Turned table (from_stand table old x) old new turn left left' taken taken'
 course_turned table old mid new x f y turn left left' taken taken' there h rest =
-    turned_behind table (from_stand table old x) (from_stop table mid x f y) old mid new turn left left left' taken taken taken'
-    (λ abi link enter at machine grow.
-    quiet_moves (from_stand table old x abi enter at) old mid (ap (λ (r : Run). r.streams) h.others) left taken (from_stop table mid x f y abi enter at) (λ s same units next.
-    remains_is abi at table old.frames.items x f s there
-    ∙ (ap (whole abi at table old.frames.items x.act f) (h.ran.does enter (datum_of f.end) (at x.function x.act) (goes_there abi link enter at table x.function x.act f old.mem.abi machine there) s same units)
-    ∙ (ap (λ t. whole abi at table old.frames.items x.act f (stopped (datum_of f.end) (at x.function x.act) y t)) (both_moved old mid x f.code.items y s h next)
-    ∙ ap (λ (r : Run). whole abi at table r.frames.items x.act f (stopped (datum_of f.end) (at x.function x.act) y (moved s mid))) (sym h.others)))))
+    turned_behind table (from_stand table old x) (from_stop table mid x f y) old mid new turn left left left' taken taken taken' h.ran.abi
+    (λ link enter at machine grow.
+    quiet_moves (from_stand table old x old.mem.abi enter at) old mid (ap (λ (r : Run). r.streams) h.others) left taken (from_stop table mid x f y old.mem.abi enter at) (λ s same units next.
+    remains_is old.mem.abi at table old.frames.items x f s there
+    ∙ (ap (whole old.mem.abi at table old.frames.items x.act f) (h.ran.does enter (datum_of f.end) (at x.function x.act) (goes_there old.mem.abi link enter at table x.function x.act f machine there) s same units)
+    ∙ (ap (λ t. whole old.mem.abi at table old.frames.items x.act f (stopped (datum_of f.end) (at x.function x.act) y t)) (both_moved old mid x f.code.items y s h next)
+    ∙ ap (λ (r : Run). whole old.mem.abi at table r.frames.items x.act f (stopped (datum_of f.end) (at x.function x.act) y (moved s mid))) (sym h.others)))))
     rest
 
 -- and what is ahead there
@@ -159,11 +158,11 @@ stands_there table run x z f q h e = subst (Stands table run) (sym e) (record { 
 pub call_turned : (table : List (Option Entity)) (old new : Run) (x z : Stand) (f : Function) (q : ℕ) (turn : Turn) (left left' taken taken' : Option (List ℕ)) → slice_get table x.function ≡ Some (Some (OfProgram f)) → z ≡ record x { place = q }
     → Turned table (from_stand table old z) old new turn left left' taken taken' → Turned table (from_stop table old x f (stop.Call q)) old new turn left left' taken taken'
 call_turned table old new x z f q turn left left' taken taken' there e rest =
-    turned_behind table (from_stop table old x f (stop.Call q)) (from_stand table old z) old old new turn left left left' taken taken taken'
-    (λ abi link enter at machine grow.
-    quiet_moves (from_stop table old x f (stop.Call q) abi enter at) old old refl left taken (from_stand table old z abi enter at) (λ s same units next.
-    sym (remains_is abi at table old.frames.items (record x { place = q }) f s there)
-    ∙ (ap (λ (v : Stand). remains abi at table old.frames.items v s) (sym e) ∙ ap (remains abi at table old.frames.items z) (same_moved old s same units next))))
+    turned_behind table (from_stop table old x f (stop.Call q)) (from_stand table old z) old old new turn left left left' taken taken taken' refl
+    (λ link enter at machine grow.
+    quiet_moves (from_stop table old x f (stop.Call q) old.mem.abi enter at) old old refl left taken (from_stand table old z old.mem.abi enter at) (λ s same units next.
+    sym (remains_is old.mem.abi at table old.frames.items (record x { place = q }) f s there)
+    ∙ (ap (λ (v : Stand). remains old.mem.abi at table old.frames.items v s) (sym e) ∙ ap (remains old.mem.abi at table old.frames.items z) (same_moved old s same units next))))
     rest
 
 -- the body has ended, with a value or without
@@ -183,30 +182,30 @@ ended_falls table old new x y z turn e h = subst (λ (y : Stop). Falls table (st
 -- no unit is left
 pub runs_still : (table : List (Option Entity)) (run : Run) (x : Stand) (f : Function) (left taken : Option (List ℕ)) → Finishes table (from_stop table run x f stop.Running) StillRunning run run left left taken taken
 runs_still table run x f left taken = record {
-  means = λ abi link enter at machine grow.
-      quiet_comes (from_stop table run x f stop.Running abi enter at) run run refl left taken StillRunning tt (λ tail s same units next.
-      subst (λ r. Ends StillRunning r s.out tail run.left) (sym (whole_running abi at table run.frames.items x.act f s)) (refl, units));
+  means = λ link enter at machine grow.
+      quiet_comes (from_stop table run x f stop.Running run.mem.abi enter at) run run refl left taken StillRunning tt (λ tail s same units next.
+      subst (λ r. Ends StillRunning r s.out tail run.left) (sym (whole_running run.mem.abi at table run.frames.items x.act f s)) (refl, units));
 }
 
 -- a step is undefined
 pub goes_wrong : (table : List (Option Entity)) (run : Run) (x : Stand) (f : Function) (left taken : Option (List ℕ)) → Finishes table (from_stop table run x f stop.Undefined) WentUndefined run run left left taken taken
 goes_wrong table run x f left taken = record {
-  means = λ abi link enter at machine grow.
-      quiet_comes (from_stop table run x f stop.Undefined abi enter at) run run refl left taken WentUndefined tt (λ tail s same units next.
-      subst (λ r. Ends WentUndefined r s.out tail run.left) (sym (whole_undefined abi at table run.frames.items x.act f s)) (refl, units));
+  means = λ link enter at machine grow.
+      quiet_comes (from_stop table run x f stop.Undefined run.mem.abi enter at) run run refl left taken WentUndefined tt (λ tail s same units next.
+      subst (λ r. Ends WentUndefined r s.out tail run.left) (sym (whole_undefined run.mem.abi at table run.frames.items x.act f s)) (refl, units));
 }
 
 -- a part of a call is undefined
 pub parts_wrong : (table : List (Option Entity)) (run : Run) (x y : Stand) (k : Call) → StandsBefore table run x y k → Evaluates run.mem x.act k None → (left taken : Option (List ℕ)) → Finishes table (from_stand table run x) WentUndefined run run left left taken taken
 parts_wrong table run x y k h parts left taken = record {
-  means = λ abi link enter at machine grow.
-      quiet_comes (from_stand table run x abi enter at) run run refl left taken WentUndefined tt (λ tail s same units next.
+  means = λ link enter at machine grow.
+      quiet_comes (from_stand table run x run.mem.abi enter at) run run refl left taken WentUndefined tt (λ tail s same units next.
       subst (λ r. Ends WentUndefined r s.out tail run.left)
-      (sym (remains_is abi at table run.frames.items x h.function s h.running
-      ∙ (frames_are_meant abi link enter at table machine).undefined run.frames.items x.function x.act x.place h.function k s (record {
+      (sym (remains_is run.mem.abi at table run.frames.items x h.function s h.running
+      ∙ (frames_are_meant run.mem.abi link enter at table machine).undefined run.frames.items x.function x.act x.place h.function k s (record {
         running = h.running;
         there = h.there;
-        parts = λ enter. subst (λ (a : Abi). called_in a x.act enter k s ≡ goes_into a enter None s) (one_model run.mem.abi abi) (parts.does s same enter);
+        parts = λ enter. parts.does s same enter;
       })))
       (refl, units));
 }

@@ -1,7 +1,6 @@
 -- Device: whole runs from their first call to their end, and the output that waits then.
 use Rattle.std.proofs.Common.{◌≡◌, ℕ, ◌⊎◌, inl, inr, List, [], ◌++◌, Option, option_map, refl, sym, ap, ◌∙◌, subst, append_assoc, arith}
 use Rattle.std.proofs.lemmas.List.{append-nil}
-use Rattle.cil_base.specs.declared.kinds.Abi.{Abi}
 use Rattle.cil_base.specs.declared.runs.Outcome.{Outcome}
 use Rattle.cil_base.specs.declared.runs.Outcome.TheVariants as outcome
 use Rattle.byte_mem.specs.declared.values.Value.TheVariants.{Int, Ptr, Unknown, Part}
@@ -31,17 +30,18 @@ use Rattle.cil_turns.proofs.Moves.{same_moved, quiet_moves, turned_behind, sends
 -- a machine that has gone nowhere yet
 pub arrives_first : (table : List (Option Entity)) (run : Run) (x : Stand) → Stands table run x → (left taken : Option (List ℕ)) → Arrives table (from_stand table run x) run run x left left taken taken
 arrives_first table run x h left taken = record {
-  means = λ abi link enter at machine grow.
-      quiet_moves (from_stand table run x abi enter at) run run refl left taken (from_stand table run x abi enter at) (λ s same units next. ap (remains abi at table run.frames.items x) (same_moved run s same units next));
+  means = λ link enter at machine grow.
+      quiet_moves (from_stand table run x run.mem.abi enter at) run run refl left taken (from_stand table run x run.mem.abi enter at) (λ s same units next. ap (remains run.mem.abi at table run.frames.items x) (same_moved run s same units next));
   stands = h;
+  model = refl;
 }
 
 -- and one that takes a turn
 pub arrives_on : (table : List (Option Entity)) (f : Seen) (a b c : Run) (x : Stand) (turn : Turn) (l m n t u v : Option (List ℕ)) → Arrives table f a b x l m t u → Turned table (from_stand table b x) b c turn m n u v → Turned table f a c turn l n t v
-arrives_on table f a b c x turn l m n t u v h k = turned_behind table f (from_stand table b x) a b c turn l m n t u v h.means k
+arrives_on table f a b c x turn l m n t u v h k = turned_behind table f (from_stand table b x) a b c turn l m n t u v h.model h.means k
 
 pub finishes_behind : (table : List (Option Entity)) (f : Seen) (a b c : Run) (x : Stand) (end : RunEnd) (l m n t u v : Option (List ℕ)) → Arrives table f a b x l m t u → Finishes table (from_stand table b x) end b c m n u v → Finishes table f end a c l n t v
-finishes_behind table f a b c x end l m n t u v h k = turned_behind table f (from_stand table b x) a b c (Stopped end) l m n t u v h.means k
+finishes_behind table f a b c x end l m n t u v h k = turned_behind table f (from_stand table b x) a b c (Stopped end) l m n t u v h.model h.means k
 
 -- what an outcome tells of the output
 
@@ -162,10 +162,10 @@ read_failed WantOfMemory result waiting u v h is = plain_reads_well WantOfMemory
 -- the whole run, from its first call
 pub runs_to : (table : List (Option Entity)) (call : FirstCall) (end result : RunEnd) (old mid new : Run) (left left' taken between taken' : Option (List ℕ)) → Finishes table (from_first call) end old mid left left' taken between → old.next ≡ 0
     → Flushed end result mid.streams.waiting between taken' → new.streams.ended ≡ mid.streams.ended → new.left ≡ mid.left
-    → (abi : Abi) (link : Linked) (enter : Enter) (at : Courses) → IsMachine abi link enter at table → OnlyGrows abi link enter at table
-    → RunsTo result (enter (call_of_first abi call)) (memory old.mem) old.streams old.left new.left 0 left left' taken taken'
-runs_to table call end result old mid new left left' taken between taken' h none flushed ended units abi link enter at machine grow =
-    let c = h.means abi link enter at machine grow in
+    → (link : Linked) (enter : Enter) (at : Courses) → IsMachine old.mem.abi link enter at table → OnlyGrows old.mem.abi link enter at table
+    → RunsTo result (enter (call_of_first old.mem.abi call)) (memory old.mem) old.streams old.left new.left 0 left left' taken taken'
+runs_to table call end result old mid new left left' taken between taken' h none flushed ended units link enter at machine grow =
+    let c = h.means link enter at machine grow in
     let k = settled end result c.sent mid.streams.waiting taken between taken' c.sends flushed in
     record {
       got = c.got;
@@ -173,14 +173,14 @@ runs_to table call end result old mid new left left' taken between taken' h none
       ended = mid.streams.ended;
       read = c.read;
       sends = k.sends;
-      asked = needed_along (FindsFrom old (enter (call_of_first abi call))) (FindsEnd (enter (call_of_first abi call)) (memory old.mem) old.streams old.left 0) old.streams.ended mid.streams.ended c.got
+      asked = needed_along (FindsFrom old (enter (call_of_first old.mem.abi call))) (FindsEnd (enter (call_of_first old.mem.abi call)) (memory old.mem) old.streams old.left 0) old.streams.ended mid.streams.ended c.got
           (λ input found s written x before next. found s written (record { matches = x; left = before; next = next ∙ sym none })) c.asked;
       stays = c.stays;
       stops = λ is. c.stops (read_failed end result mid.streams.waiting between taken' flushed is);
       finds = c.finds;
       means = λ s written tail over x before next.
-          subst (Ends result (enter (call_of_first abi call) s) (written ++ (c.sent ++ k.more)) tail) (sym units)
-          (k.ends (enter (call_of_first abi call) s) written tail mid.left (c.means s written tail over (record { matches = x; left = before; next = next ∙ sym none })));
+          subst (Ends result (enter (call_of_first old.mem.abi call) s) (written ++ (c.sent ++ k.more)) tail) (sym units)
+          (k.ends (enter (call_of_first old.mem.abi call) s) written tail mid.left (c.means s written tail over (record { matches = x; left = before; next = next ∙ sym none })));
     }
 
 -- counts of faults

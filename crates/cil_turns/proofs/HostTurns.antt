@@ -42,7 +42,7 @@ use Rattle.cil_turns.specs.Ends.{Ends, CutOff, Sends, ReadAsNeeded}
 use Rattle.cil_turns.specs.Standing.{Stands, remains, keeping, from_stand, from_kept, steps_at, steps_ahead, longest, waiting_ahead, burden, Falls}
 use Rattle.cil_turns.specs.Moving.{StandsFor, FindsFrom, Moves, told, Comes, Finishes, Turned}
 use Rattle.cil_turns.specs.Turning.{StandsAtCall, GoesTo, HostFinds, Asked, IsOver, HostTurned}
-use Rattle.cil_turns.proofs.Wholes.{one_model, remains_is, keeping_is, whole_exits, whole_undefined, remains_grows, keeping_grows, call_grows, grows_front, cut_off, steps_there}
+use Rattle.cil_turns.proofs.Wholes.{remains_is, keeping_is, whole_exits, whole_undefined, remains_grows, keeping_grows, call_grows, grows_front, cut_off, steps_there}
 use Rattle.cil_turns.proofs.Begins.{stands_at}
 use Rattle.cil_turns.proofs.Needed.{not_both, needed_none, needed_once, needed_along}
 use Rattle.cil_turns.proofs.Moves.{turned_behind}
@@ -111,14 +111,13 @@ module _ (abi : Abi) (name : HostName) (e : Evaluated) (m : Memory) (held : Stre
 -- what comes behind the answer
 
 -- the whole run at a call of the host, by what the call gives
-at_host : (abi : Abi) (link : Linked) (enter : Enter) (at : Courses) (table : List (Option Entity)) (run : Run) (x y : Stand) (e : Evaluated) (name : HostName) (h : StandsAtCall table run x y e) (s : State) (r : Result Datum) → IsMachine abi link enter at table → entry_at table e.callee ≡ Some (OfHost name)
-    → s.memory ≡ memory run.mem → host_called name (call_of run.mem.abi e) s ≡ r → remains abi at table run.frames.items x s ≡ whole abi at table run.frames.items y.act h.before.function (bind (bind r (keeps abi e.to)) (λ g. at y.function y.act y.place))
-at_host abi link enter at table run x y e name h s r machine entry same gives =
-    remains_is abi at table run.frames.items x h.before.function s h.before.running
-    ∙ ((frames_are_meant abi link enter at table machine).hosts run.frames.items x.function x.act x.place h.before.function h.call e name s (stands_at abi table run x y e h s same) entry
-    ∙ (ap (λ (a : Abi). whole abi at table run.frames.items x.act h.before.function (bind (bind (host_called name (call_of a e) s) (keeps abi e.to)) (λ g. at x.function x.act (suc x.place)))) (one_model abi run.mem.abi)
-    ∙ (ap (λ r. whole abi at table run.frames.items x.act h.before.function (bind (bind r (keeps abi e.to)) (λ g. at x.function x.act (suc x.place)))) gives
-    ∙ ap (λ (v : Stand). whole abi at table run.frames.items v.act h.before.function (bind (bind r (keeps abi e.to)) (λ g. at v.function v.act v.place))) (sym h.before.behind))))
+at_host : (link : Linked) (enter : Enter) (at : Courses) (table : List (Option Entity)) (run : Run) (x y : Stand) (e : Evaluated) (name : HostName) (h : StandsAtCall table run x y e) (s : State) (r : Result Datum) → IsMachine run.mem.abi link enter at table → entry_at table e.callee ≡ Some (OfHost name)
+    → s.memory ≡ memory run.mem → host_called name (call_of run.mem.abi e) s ≡ r → remains run.mem.abi at table run.frames.items x s ≡ whole run.mem.abi at table run.frames.items y.act h.before.function (bind (bind r (keeps run.mem.abi e.to)) (λ g. at y.function y.act y.place))
+at_host link enter at table run x y e name h s r machine entry same gives =
+    remains_is run.mem.abi at table run.frames.items x h.before.function s h.before.running
+    ∙ ((frames_are_meant run.mem.abi link enter at table machine).hosts run.frames.items x.function x.act x.place h.before.function h.call e name s (stands_at table run x y e h s same) entry
+    ∙ (ap (λ r. whole run.mem.abi at table run.frames.items x.act h.before.function (bind (bind r (keeps run.mem.abi e.to)) (λ g. at x.function x.act (suc x.place)))) gives
+    ∙ ap (λ (v : Stand). whole run.mem.abi at table run.frames.items v.act h.before.function (bind (bind r (keeps run.mem.abi e.to)) (λ g. at v.function v.act v.place))) (sym h.before.behind)))
 
 -- behind a call lies a place
 behind_place : (table : List (Option Entity)) (run : Run) (x y : Stand) (e : Evaluated) → StandsAtCall table run x y e → IsPlace table y.function y.place
@@ -150,34 +149,34 @@ module _ (table : List (Option Entity)) (old mid : Run) (x y : Stand) (e : Evalu
   Answered end = Asked end old.mem.abi name e (memory old.mem) (memory mid.mem) old.streams mid.streams left left' taken taken'
 
   -- where the call finds the end of the input, so does the whole run
-  found_there : (abi : Abi) (link : Linked) (enter : Enter) (at : Courses) → IsMachine abi link enter at table → OnlyGrows abi link enter at table
-      → (input : List ℕ) → HostFinds old.mem.abi name e (memory old.mem) old.streams input → FindsFrom old (from_stand table old x abi enter at) input
-  found_there abi link enter at machine grow input found s written st =
+  found_there : (link : Linked) (enter : Enter) (at : Courses) → IsMachine old.mem.abi link enter at table → OnlyGrows old.mem.abi link enter at table
+      → (input : List ℕ) → HostFinds old.mem.abi name e (memory old.mem) old.streams input → FindsFrom old (from_stand table old x old.mem.abi enter at) input
+  found_there link enter at machine grow input found s written st =
       let r = host_called name (call_of old.mem.abi e) s in
-      ap (λ (q : Result Datum). (last q).at_end) (at_host abi link enter at table old x y e name h s r machine entry st.matches.memory refl)
-      ∙ (call_grows abi link enter at table grow old.frames.items h.before.stands.waits.waiting e.to y h.before.function (behind_place table old x y e h) r).at_end (found s written st.matches)
+      ap (λ (q : Result Datum). (last q).at_end) (at_host link enter at table old x y e name h s r machine entry st.matches.memory refl)
+      ∙ (call_grows old.mem.abi link enter at table grow old.frames.items h.before.stands.waits.waiting e.to y h.before.function (behind_place table old x y e h) r).at_end (found s written st.matches)
 
-  needed : (from : HostEnd) (a : Answered from) (abi : Abi) (link : Linked) (enter : Enter) (at : Courses) → IsMachine abi link enter at table → OnlyGrows abi link enter at table
-      → ReadAsNeeded (FindsFrom old (from_stand table old x abi enter at)) old.streams.ended a.got mid.streams.ended
-  needed from a abi link enter at machine grow =
-      needed_along (HostFinds old.mem.abi name e (memory old.mem) old.streams) (FindsFrom old (from_stand table old x abi enter at)) old.streams.ended mid.streams.ended a.got (found_there abi link enter at machine grow) a.asked
+  needed : (from : HostEnd) (a : Answered from) (link : Linked) (enter : Enter) (at : Courses) → IsMachine old.mem.abi link enter at table → OnlyGrows old.mem.abi link enter at table
+      → ReadAsNeeded (FindsFrom old (from_stand table old x old.mem.abi enter at)) old.streams.ended a.got mid.streams.ended
+  needed from a link enter at machine grow =
+      needed_along (HostFinds old.mem.abi name e (memory old.mem) old.streams) (FindsFrom old (from_stand table old x old.mem.abi enter at)) old.streams.ended mid.streams.ended a.got (found_there link enter at machine grow) a.asked
 
-  value_moves : (v : values.Value) → Answered (host_end.Value v) → (abi : Abi) (link : Linked) (enter : Enter) (at : Courses) → IsMachine abi link enter at table → OnlyGrows abi link enter at table
-      → Moves (from_stand table old x abi enter at) (from_kept table mid e.to (Single v) y abi enter at) old mid left left' taken taken'
-  value_moves v a abi link enter at machine grow = record {
+  value_moves : (v : values.Value) → Answered (host_end.Value v) → (link : Linked) (enter : Enter) (at : Courses) → IsMachine old.mem.abi link enter at table → OnlyGrows old.mem.abi link enter at table
+      → Moves (from_stand table old x old.mem.abi enter at) (from_kept table mid e.to (Single v) y old.mem.abi enter at) old mid left left' taken taken'
+  value_moves v a link enter at machine grow = record {
     got = a.got;
     sent = a.sent;
     read = a.read;
     sends = a.sends;
-    asked = needed (host_end.Value v) a abi link enter at machine grow;
+    asked = needed (host_end.Value v) a link enter at machine grow;
     stays = a.stays;
     finds = a.finds;
     means = λ s written tail over st.
         let k = a.means s written tail over st.matches in (
           k.0,
-          at_host abi link enter at table old x y e name h s (Goes (Single v) k.0) machine entry st.matches.memory k.1
-              ∙ (sym (keeping_is abi at table old.frames.items e.to (Single v) y h.before.function k.0 (behind_running table old x y e h))
-              ∙ ap (λ fs. keeping abi at table fs e.to (Single v) y k.0) (sym (same_frames old mid others))),
+          at_host link enter at table old x y e name h s (Goes (Single v) k.0) machine entry st.matches.memory k.1
+              ∙ (sym (keeping_is old.mem.abi at table old.frames.items e.to (Single v) y h.before.function k.0 (behind_running table old x y e h))
+              ∙ ap (λ fs. keeping old.mem.abi at table fs e.to (Single v) y k.0) (sym (same_frames old mid others))),
           leads_stands old mid s k.0 (written ++ a.sent) tail others st.left st.next k.2,
         );
   }
@@ -185,71 +184,71 @@ module _ (table : List (Option Entity)) (old mid : Run) (x y : Stand) (e : Evalu
   -- the answers that end the run
 
   abbrev Ended : RunEnd → Type 0
-  Ended end = (abi : Abi) (link : Linked) (enter : Enter) (at : Courses) → IsMachine abi link enter at table → OnlyGrows abi link enter at table → Comes end (from_stand table old x abi enter at) old mid left left' taken taken'
+  Ended end = (link : Linked) (enter : Enter) (at : Courses) → IsMachine old.mem.abi link enter at table → OnlyGrows old.mem.abi link enter at table → Comes end (from_stand table old x old.mem.abi enter at) old mid left left' taken taken'
 
   comes : (from : HostEnd) (end : RunEnd) (a : Answered from) → (end ≡ ReadFault → mid.streams.ended ≡ false) → Sends end taken taken' a.sent
-      → ((abi : Abi) (link : Linked) (enter : Enter) (at : Courses) → IsMachine abi link enter at table → OnlyGrows abi link enter at table → (s : State) (written tail : List ℕ) → StandsFor old s written (a.got ++ tail)
-      → host.Means from (host_called name (call_of old.mem.abi e) s) s (memory mid.mem) mid.streams written a.sent tail → Ends end (remains abi at table old.frames.items x s) (told end (written ++ a.sent) mid.streams.waiting) tail mid.left)
+      → ((link : Linked) (enter : Enter) (at : Courses) → IsMachine old.mem.abi link enter at table → OnlyGrows old.mem.abi link enter at table → (s : State) (written tail : List ℕ) → StandsFor old s written (a.got ++ tail)
+      → host.Means from (host_called name (call_of old.mem.abi e) s) s (memory mid.mem) mid.streams written a.sent tail → Ends end (remains old.mem.abi at table old.frames.items x s) (told end (written ++ a.sent) mid.streams.waiting) tail mid.left)
       → Ended end
-  comes from end a stops sends means abi link enter at machine grow = record {
+  comes from end a stops sends means link enter at machine grow = record {
     got = a.got;
     sent = a.sent;
     read = a.read;
     sends = sends;
-    asked = needed from a abi link enter at machine grow;
+    asked = needed from a link enter at machine grow;
     stays = a.stays;
     stops = stops;
     finds = a.finds;
-    means = λ s written tail over st. means abi link enter at machine grow s written tail st (a.means s written tail over st.matches);
+    means = λ s written tail over st. means link enter at machine grow s written tail st (a.means s written tail over st.matches);
   }
 
   exit_comes : (status : ℕ) → Answered (host_end.Exit status) → Ended (Exited status)
-  exit_comes status a = comes (host_end.Exit status) (Exited status) a (λ fault. absurd (cc)) a.sends (λ abi link enter at machine grow s written tail st k.
+  exit_comes status a = comes (host_end.Exit status) (Exited status) a (λ fault. absurd (cc)) a.sends (λ link enter at machine grow s written tail st k.
       let m = leads_stands old mid s k.0 (written ++ a.sent) tail others st.left st.next k.2 in
       subst (λ r. Ends (Exited status) r ((written ++ a.sent) ++ mid.streams.waiting) tail mid.left)
-      (sym (at_host abi link enter at table old x y e name h s (Exits status k.0) machine entry st.matches.memory k.1 ∙ whole_exits abi at table old.frames.items y.act h.before.function status k.0))
+      (sym (at_host link enter at table old x y e name h s (Exits status k.0) machine entry st.matches.memory k.1 ∙ whole_exits old.mem.abi at table old.frames.items y.act h.before.function status k.0))
       (ap (Exit status) m.matches.out, m.left))
 
   undefined_comes : Answered host_end.Undefined → Ended WentUndefined
-  undefined_comes a = comes host_end.Undefined WentUndefined a (λ fault. absurd (cc)) a.sends (λ abi link enter at machine grow s written tail st k.
+  undefined_comes a = comes host_end.Undefined WentUndefined a (λ fault. absurd (cc)) a.sends (λ link enter at machine grow s written tail st k.
       subst (λ r. Ends WentUndefined r ((written ++ a.sent) ++ mid.streams.waiting) tail mid.left)
-      (sym (at_host abi link enter at table old x y e name h s (Undefined s) machine entry st.matches.memory k.0 ∙ whole_undefined abi at table old.frames.items y.act h.before.function s))
+      (sym (at_host link enter at table old x y e name h s (Undefined s) machine entry st.matches.memory k.0 ∙ whole_undefined old.mem.abi at table old.frames.items y.act h.before.function s))
       (ap OutcomeUndefined k.1.out, st.left ∙ sym (same_left old mid others)))
 
   -- a run that is cut off behind the output of the call
-  cut_behind : (abi : Abi) (link : Linked) (enter : Enter) (at : Courses) → IsMachine abi link enter at table → OnlyGrows abi link enter at table
-      → (s : State) (text : List ℕ) → s.memory ≡ memory old.mem → s.left ≡ old.left → output (host_called name (call_of old.mem.abi e) s) ≡ text → CutOff (remains abi at table old.frames.items x s) text mid.left
-  cut_behind abi link enter at machine grow s text same units is =
+  cut_behind : (link : Linked) (enter : Enter) (at : Courses) → IsMachine old.mem.abi link enter at table → OnlyGrows old.mem.abi link enter at table
+      → (s : State) (text : List ℕ) → s.memory ≡ memory old.mem → s.left ≡ old.left → output (host_called name (call_of old.mem.abi e) s) ≡ text → CutOff (remains old.mem.abi at table old.frames.items x s) text mid.left
+  cut_behind link enter at machine grow s text same units is =
       let r = host_called name (call_of old.mem.abi e) s in
-      let w = whole abi at table old.frames.items y.act h.before.function (bind (bind r (keeps abi e.to)) (λ g. at y.function y.act y.place)) in
-      let low : (last (remains abi at table old.frames.items x s)).left ≤ s.left = (remains_grows abi link enter at table grow old.frames.items h.before.stands.waits.waiting x h.before.stands.place s).left in
+      let w = whole old.mem.abi at table old.frames.items y.act h.before.function (bind (bind r (keeps old.mem.abi e.to)) (λ g. at y.function y.act y.place)) in
+      let low : (last (remains old.mem.abi at table old.frames.items x s)).left ≤ s.left = (remains_grows old.mem.abi link enter at table grow old.frames.items h.before.stands.waits.waiting x h.before.stands.place s).left in
       let kept : mid.left ≡ old.left = same_left old mid others in
       record {
-        written = subst (λ q. IsPrefix text (output q)) (sym (at_host abi link enter at table old x y e name h s r machine entry same refl))
-            (subst (λ text. IsPrefix text (output w)) is (grows_front (last r) (last w) (call_grows abi link enter at table grow old.frames.items h.before.stands.waits.waiting e.to y h.before.function (behind_place table old x y e h) r)));
+        written = subst (λ q. IsPrefix text (output q)) (sym (at_host link enter at table old x y e name h s r machine entry same refl))
+            (subst (λ text. IsPrefix text (output w)) is (grows_front (last r) (last w) (call_grows old.mem.abi link enter at table grow old.frames.items h.before.stands.waits.waiting e.to y h.before.function (behind_place table old x y e h) r)));
         spent = omega arith;
       }
 
   read_comes : Answered host_end.ReadFault → Ended ReadFault
-  read_comes a = comes host_end.ReadFault ReadFault a (λ fault. a.stops refl) a.sends (λ abi link enter at machine grow s written tail st k. (
-    cut_behind abi link enter at machine grow s (written ++ a.sent) st.matches.memory st.left k.0,
+  read_comes a = comes host_end.ReadFault ReadFault a (λ fault. a.stops refl) a.sends (λ link enter at machine grow s written tail st k. (
+    cut_behind link enter at machine grow s (written ++ a.sent) st.matches.memory st.left k.0,
     λ none.
         let q = k.1 none in
         let minus = Single (Int (negsuc 0)) in
         subst (λ r. (last r).at_end ≡ true)
-        (sym (at_host abi link enter at table old x y e name h s (Goes minus q.0) machine entry st.matches.memory q.1
-        ∙ sym (keeping_is abi at table old.frames.items e.to minus y h.before.function q.0 (behind_running table old x y e h))))
-        ((keeping_grows abi link enter at table grow old.frames.items h.before.stands.waits.waiting e.to minus y (behind_place table old x y e h) q.0).at_end q.3.matches.at_end),
+        (sym (at_host link enter at table old x y e name h s (Goes minus q.0) machine entry st.matches.memory q.1
+        ∙ sym (keeping_is old.mem.abi at table old.frames.items e.to minus y h.before.function q.0 (behind_running table old x y e h))))
+        ((keeping_grows old.mem.abi link enter at table grow old.frames.items h.before.stands.waits.waiting e.to minus y (behind_place table old x y e h) q.0).at_end q.3.matches.at_end),
   ))
 
   write_comes : Answered host_end.WriteFault → Ended WriteFault
-  write_comes a = comes host_end.WriteFault WriteFault a (λ fault. absurd (cc)) a.sends (λ abi link enter at machine grow s written tail st k. cut_behind abi link enter at machine grow s (written ++ a.sent) st.matches.memory st.left k)
+  write_comes a = comes host_end.WriteFault WriteFault a (λ fault. absurd (cc)) a.sends (λ link enter at machine grow s written tail st k. cut_behind link enter at machine grow s (written ++ a.sent) st.matches.memory st.left k)
 
   memory_comes : Answered host_end.Memory → Ended WantOfMemory
-  memory_comes a = comes host_end.Memory WantOfMemory a (λ fault. absurd (cc)) a.sends (λ abi link enter at machine grow s written tail st k.
+  memory_comes a = comes host_end.Memory WantOfMemory a (λ fault. absurd (cc)) a.sends (λ link enter at machine grow s written tail st k.
       let low : s.left ≡ mid.left = st.left ∙ sym (same_left old mid others) in
-      subst (λ text. CutOff (remains abi at table old.frames.items x s) text mid.left) k
-      (cut_off (remains abi at table old.frames.items x s) s mid.left (remains_grows abi link enter at table grow old.frames.items h.before.stands.waits.waiting x h.before.stands.place s) (omega arith)))
+      subst (λ text. CutOff (remains old.mem.abi at table old.frames.items x s) text mid.left) k
+      (cut_off (remains old.mem.abi at table old.frames.items x s) s mid.left (remains_grows old.mem.abi link enter at table grow old.frames.items h.before.stands.waits.waiting x h.before.stands.place s) (omega arith)))
 
   over : (new : Run) (turn : Turn) (end : RunEnd) → Ended end → IsOver turn end mid new → Turned table (from_stand table old x) old new turn left left' taken taken'
   over new turn end c o = subst (λ t. Turned table (from_stand table old x) old new t left left' taken taken') (sym o.over) (subst (λ (r : Run). Finishes table (from_stand table old x) end old r left left' taken taken') (sym o.same) (record { means = c }))
@@ -265,14 +264,14 @@ module _ (table : List (Option Entity)) (old mid : Run) (x y : Stand) (e : Evalu
     place = behind_place table old x y e h;
   }
 
-  pub host_turns : (end : HostEnd) (new : Run) (turn : Turn) → IsCounted (host_part (memory mid.mem) mid.streams) → Answered end → HostTurned end table mid new e.to y turn → Turned table (from_stand table old x) old new turn left left' taken taken'
-  host_turns (host_end.Value v) new turn counted a t =
-      turned_behind table (from_stand table old x) (from_kept table mid e.to (Single v) y) old mid new turn left left' left' taken taken' taken' (value_moves v a) (t (behind_stands counted) left' taken')
-  host_turns (host_end.Exit status) new turn counted a t = over new turn (Exited status) (exit_comes status a) t
-  host_turns host_end.Undefined new turn counted a t = over new turn WentUndefined (undefined_comes a) t
-  host_turns host_end.ReadFault new turn counted a t = over new turn ReadFault (read_comes a) t
-  host_turns host_end.WriteFault new turn counted a t = over new turn WriteFault (write_comes a) t
-  host_turns host_end.Memory new turn counted a t = over new turn WantOfMemory (memory_comes a) t
+  pub host_turns : (end : HostEnd) (new : Run) (turn : Turn) → mid.mem.abi ≡ old.mem.abi → IsCounted (host_part (memory mid.mem) mid.streams) → Answered end → HostTurned end table mid new e.to y turn → Turned table (from_stand table old x) old new turn left left' taken taken'
+  host_turns (host_end.Value v) new turn model counted a t =
+      turned_behind table (from_stand table old x) (from_kept table mid e.to (Single v) y) old mid new turn left left' left' taken taken' taken' model (value_moves v a) (t (behind_stands counted) left' taken')
+  host_turns (host_end.Exit status) new turn model counted a t = over new turn (Exited status) (exit_comes status a) t
+  host_turns host_end.Undefined new turn model counted a t = over new turn WentUndefined (undefined_comes a) t
+  host_turns host_end.ReadFault new turn model counted a t = over new turn ReadFault (read_comes a) t
+  host_turns host_end.WriteFault new turn model counted a t = over new turn WriteFault (write_comes a) t
+  host_turns host_end.Memory new turn model counted a t = over new turn WantOfMemory (memory_comes a) t
 
   -- it takes from what is ahead
   pub host_falls : (new : Run) (turn : Turn) → GoesTo y mid new turn → Falls table (burden table old x) new turn

@@ -192,16 +192,19 @@ module _ (f : State → Result Datum) (old new : Run) (same : new.streams ≡ ol
 
 -- turns behind something else
 
-pub turned_behind : (table : List (Option Entity)) (f g : Seen) (a b c : Run) (turn : Turn) (l m n t u v : Option (List ℕ))
-    → ((abi : Abi) (link : Linked) (enter : Enter) (at : Courses) → IsMachine abi link enter at table → OnlyGrows abi link enter at table → Moves (f abi enter at) (g abi enter at) a b l m t u) → Turned table g b c turn m n u v → Turned table f a c turn l n t v
-turned_behind table f g a b c (On x) l m n t u v first rest = record {
-  means = λ abi link enter at machine grows.
-      moves_then (f abi enter at) (g abi enter at) a b c l m n t u v (from_stand table c x abi enter at) (first abi link enter at machine grows) (rest.means abi link enter at machine grows);
+pub turned_behind : (table : List (Option Entity)) (f g : Seen) (a b c : Run) (turn : Turn) (l m n t u v : Option (List ℕ)) → b.mem.abi ≡ a.mem.abi
+    → ((link : Linked) (enter : Enter) (at : Courses) → IsMachine a.mem.abi link enter at table → OnlyGrows a.mem.abi link enter at table → Moves (f a.mem.abi enter at) (g a.mem.abi enter at) a b l m t u) → Turned table g b c turn m n u v → Turned table f a c turn l n t v
+turned_behind table f g a b c (On x) l m n t u v model first rest = record {
+  means = λ link enter at machine grow.
+      moves_then (f a.mem.abi enter at) (g a.mem.abi enter at) a b c l m n t u v (from_stand table c x a.mem.abi enter at) (first link enter at machine grow)
+      (subst (λ (z : Abi). IsMachine z link enter at table → OnlyGrows z link enter at table → Moves (g z enter at) (from_stand table c x z enter at) b c m n u v) model (rest.means link enter at) machine grow);
   stands = rest.stands;
+  model = rest.model ∙ model;
 }
-turned_behind table f g a b c (Stopped end) l m n t u v first rest = record {
-  means = λ abi link enter at machine grows.
-      comes_behind (f abi enter at) (g abi enter at) a b c l m n t u v end (first abi link enter at machine grows) (rest.means abi link enter at machine grows);
+turned_behind table f g a b c (Stopped end) l m n t u v model first rest = record {
+  means = λ link enter at machine grow.
+      comes_behind (f a.mem.abi enter at) (g a.mem.abi enter at) a b c l m n t u v end (first link enter at machine grow)
+      (subst (λ (z : Abi). IsMachine z link enter at table → OnlyGrows z link enter at table → Comes end (g z enter at) b c m n u v) model (rest.means link enter at) machine grow);
 }
 
 -- without faults no count changes

@@ -32,7 +32,7 @@ use Rattle.cil_turns.specs.Ends.{Ends}
 use Rattle.cil_turns.specs.Standing.{Waits, Stands, keeping, from_stand, from_kept, from_end, from_result, standing_at, steps_ahead, longest, waiting_ahead, waiting_burden, Falls}
 use Rattle.cil_turns.specs.Moving.{Arrives, Finishes, TurnedQuietly, IsPlainEnd}
 use Rattle.cil_turns.specs.Turning.{Left, GoesTo, Status}
-use Rattle.cil_turns.proofs.Wholes.{one_model, remains_is, keeping_is, whole_undefined, cut_off, stand_pop, ahead_push}
+use Rattle.cil_turns.proofs.Wholes.{remains_is, keeping_is, whole_undefined, cut_off, stand_pop, ahead_push}
 use Rattle.cil_turns.proofs.Heap.{without_heap, kept_heap, still_counted}
 use Rattle.cil_turns.proofs.Moves.{moved, quiet_moves, quiet_comes, turned_behind}
 
@@ -57,30 +57,31 @@ waits_still table old new m e heap w = subst (Waits table) (sym e) (record {
 pub kept_on : (table : List (Option Entity)) (old new : Run) (m : Store) (to : Option Destination) (d : Datum) (x : Stand) (u : Unit {0}) → Stored (Some u) old.mem m (kept_in old.mem.abi to d (memory old.mem)) → new ≡ record old { mem = m } → Stands table old x
     → (left taken : Option (List ℕ)) → Arrives table (from_kept table old to d x) old new x left left taken taken
 kept_on table old new m to d x u stored e h left taken = record {
-  means = λ abi link enter at machine grow.
-      quiet_moves (from_kept table old to d x abi enter at) old new (ap (λ (r : Run). r.streams) e) left taken (from_stand table new x abi enter at) (λ s same units next.
-      keeping_is abi at table old.frames.items to d x h.place.code s h.place.running
-      ∙ (ap (λ o. whole abi at table old.frames.items x.act h.place.code (bind (written s o) (λ g. at x.function x.act x.place)))
-      (ap (λ (a : Abi). kept_in a to d s.memory) (one_model abi old.mem.abi) ∙ (ap (kept_in old.mem.abi to d) same ∙ stored.0))
-      ∙ (ap (λ t. whole abi at table old.frames.items x.act h.place.code (at x.function x.act x.place t)) (memory_moved old new m s e units next)
-      ∙ (ap (λ (r : Run). whole abi at table r.frames.items x.act h.place.code (at x.function x.act x.place (moved s new))) (sym e)
-      ∙ sym (remains_is abi at table new.frames.items x h.place.code (moved s new) h.place.running)))));
+  means = λ link enter at machine grow.
+      quiet_moves (from_kept table old to d x old.mem.abi enter at) old new (ap (λ (r : Run). r.streams) e) left taken (from_stand table new x old.mem.abi enter at) (λ s same units next.
+      keeping_is old.mem.abi at table old.frames.items to d x h.place.code s h.place.running
+      ∙ (ap (λ o. whole old.mem.abi at table old.frames.items x.act h.place.code (bind (written s o) (λ g. at x.function x.act x.place)))
+      (ap (kept_in old.mem.abi to d) same ∙ stored.0)
+      ∙ (ap (λ t. whole old.mem.abi at table old.frames.items x.act h.place.code (at x.function x.act x.place t)) (memory_moved old new m s e units next)
+      ∙ (ap (λ (r : Run). whole old.mem.abi at table r.frames.items x.act h.place.code (at x.function x.act x.place (moved s new))) (sym e)
+      ∙ sym (remains_is old.mem.abi at table new.frames.items x h.place.code (moved s new) h.place.running)))));
   stands = record {
     waits = waits_still table old new m e (kept_heap old.mem.abi to d (memory old.mem) (memory m) stored.0) h.waits;
     place = h.place;
   };
+  model = ap (λ (r : Run). r.mem.abi) e ∙ stored.1;
 }
 
 pub kept_nowhere : (table : List (Option Entity)) (old new : Run) (m : Store) (to : Option Destination) (d : Datum) (x : Stand) → Stored None old.mem m (kept_in old.mem.abi to d (memory old.mem)) → new ≡ record old { mem = m } → Stands table old x
     → (left taken : Option (List ℕ)) → Finishes table (from_kept table old to d x) WentUndefined old new left left taken taken
 kept_nowhere table old new m to d x stored e h left taken = record {
-  means = λ abi link enter at machine grow.
-      quiet_comes (from_kept table old to d x abi enter at) old new (ap (λ (r : Run). r.streams) e) left taken WentUndefined tt (λ tail s same units next.
+  means = λ link enter at machine grow.
+      quiet_comes (from_kept table old to d x old.mem.abi enter at) old new (ap (λ (r : Run). r.streams) e) left taken WentUndefined tt (λ tail s same units next.
       subst (λ r. Ends WentUndefined r s.out tail new.left)
-      (sym (keeping_is abi at table old.frames.items to d x h.place.code s h.place.running
-      ∙ (ap (λ o. whole abi at table old.frames.items x.act h.place.code (bind (written s o) (λ g. at x.function x.act x.place)))
-      (ap (λ (a : Abi). kept_in a to d s.memory) (one_model abi old.mem.abi) ∙ (ap (kept_in old.mem.abi to d) same ∙ stored.0))
-      ∙ whole_undefined abi at table old.frames.items x.act h.place.code s)))
+      (sym (keeping_is old.mem.abi at table old.frames.items to d x h.place.code s h.place.running
+      ∙ (ap (λ o. whole old.mem.abi at table old.frames.items x.act h.place.code (bind (written s o) (λ g. at x.function x.act x.place)))
+      (ap (kept_in old.mem.abi to d) same ∙ stored.0)
+      ∙ whole_undefined old.mem.abi at table old.frames.items x.act h.place.code s)))
       (refl, units ∙ ap (λ (r : Run). r.left) (sym e)));
 }
 
@@ -103,6 +104,7 @@ left_is old new m act n f objects same is h e = record {
       ∙ ((h (blanks n) (blanks_long n)).0
       ∙ ap (λ os. ended_in act (blanks n) (objects_of os) (memory old.mem)) is
       ∙ ap (λ ns. without_objects act ns (without_objects act (map number_of (objects_of f.objects.items)) (memory old.mem))) (numbers_counted (blanks n) 0 ∙ ap (counted 0) (blanks_long n ∙ same)));
+  model = ap (λ (r : Run). r.mem.abi) e ∙ (h (blanks n) (blanks_long n)).1;
   others = e ∙ ap (λ (r : Run). record old { mem = r.mem }) (sym e);
 }
 
@@ -123,19 +125,19 @@ left_waits table old new act f h w = waits_still table old new new.mem h.others 
 
 pub ends_turned : (table : List (Option Entity)) (old mid new : Run) (act : ℕ) (f : Function) (d : Datum) (turn : Turn) → Left old mid act f → Waits table old → (Waits table mid → TurnedQuietly table (from_result table mid d) mid new turn) → TurnedQuietly table (from_end table old act f d) old new turn
 ends_turned table old mid new act f d turn h w rest left taken =
-    turned_behind table (from_end table old act f d) (from_result table mid d) old mid new turn left left left taken taken taken
-    (λ abi link enter at machine grow.
-    quiet_moves (from_end table old act f d abi enter at) old mid (ap (λ (r : Run). r.streams) h.others) left taken (from_result table mid d abi enter at) (λ s same units next.
-    ap (λ t. unwound abi at table old.frames.items (Goes d t)) (behind_is old mid act f s h same units next) ∙ ap (λ (r : Run). unwound abi at table r.frames.items (Goes d (moved s mid))) (sym h.others)))
+    turned_behind table (from_end table old act f d) (from_result table mid d) old mid new turn left left left taken taken taken h.model
+    (λ link enter at machine grow.
+    quiet_moves (from_end table old act f d old.mem.abi enter at) old mid (ap (λ (r : Run). r.streams) h.others) left taken (from_result table mid d old.mem.abi enter at) (λ s same units next.
+    ap (λ t. unwound old.mem.abi at table old.frames.items (Goes d t)) (behind_is old mid act f s h same units next) ∙ ap (λ (r : Run). unwound old.mem.abi at table r.frames.items (Goes d (moved s mid))) (sym h.others)))
     (rest (left_waits table old mid act f h w) left taken)
 
 -- memory is wanting there
 pub wants_end : (table : List (Option Entity)) (old new : Run) (act : ℕ) (f : Function) (d : Datum) → Waits table old → new.streams ≡ old.streams → new.left ≡ old.left → (left taken : Option (List ℕ)) → Finishes table (from_end table old act f d) WantOfMemory old new left left taken taken
 wants_end table old new act f d w same kept left taken = record {
-  means = λ abi link enter at machine grow.
-      quiet_comes (from_end table old act f d abi enter at) old new same left taken WantOfMemory tt (λ tail s m units next.
+  means = λ link enter at machine grow.
+      quiet_comes (from_end table old act f d old.mem.abi enter at) old new same left taken WantOfMemory tt (λ tail s m units next.
       let low : s.left ≡ new.left = units ∙ sym kept in
-      cut_off (whole abi at table old.frames.items act f (Goes d s)) s new.left (grow.wholes old.frames.items w.waiting act f (Goes d s)) (omega arith));
+      cut_off (whole old.mem.abi at table old.frames.items act f (Goes d s)) s new.left (grow.wholes old.frames.items w.waiting act f (Goes d s)) (omega arith));
 }
 
 -- where none waits, the run has ended
@@ -157,9 +159,9 @@ status_plain WantOfMemory d h = absurd h
 
 pub over : (table : List (Option Entity)) (old new : Run) (d : Datum) (end : RunEnd) → old.frames.items ≡ [] → new.streams ≡ old.streams → new.left ≡ old.left → Status d end → (left taken : Option (List ℕ)) → Finishes table (from_result table old d) end old new left left taken taken
 over table old new d end none same l status left taken = record {
-  means = λ abi link enter at machine grow.
-      quiet_comes (from_result table old d abi enter at) old new same left taken end (status_plain end d status) (λ tail s m units next.
-      subst (λ r. Ends end r s.out tail new.left) (sym (ap (λ fs. unwound abi at table fs (Goes d s)) none)) (ends_with end d s tail new.left status (units ∙ sym l)));
+  means = λ link enter at machine grow.
+      quiet_comes (from_result table old d old.mem.abi enter at) old new same left taken end (status_plain end d status) (λ tail s m units next.
+      subst (λ r. Ends end r s.out tail new.left) (sym (ap (λ fs. unwound old.mem.abi at table fs (Goes d s)) none)) (ends_with end d s tail new.left status (units ∙ sym l)));
 }
 
 -- else the innermost activation that waits goes on
@@ -192,11 +194,11 @@ pub popped : (table : List (Option Entity)) (old mid new : Run) (frame : Frame) 
     → (Stands table mid (standing_at frame) → TurnedQuietly table (from_kept table mid frame.to d (standing_at frame)) mid new turn) → TurnedQuietly table (from_result table old d) old new turn
 popped table old mid new frame d turn more e w rest left taken =
     let stands = popped_stands table old mid frame more e w in
-    turned_behind table (from_result table old d) (from_kept table mid frame.to d (standing_at frame)) old mid new turn left left left taken taken taken
-    (λ abi link enter at machine grow.
-    quiet_moves (from_result table old d abi enter at) old mid (ap (λ (r : Run). r.streams) e) left taken (from_kept table mid frame.to d (standing_at frame) abi enter at) (λ s same units next.
-    ap (λ fs. unwound abi at table fs (Goes d s)) more
-    ∙ (popped_is abi at table mid.frames.items frame stands.place.code d s stands.place.running ∙ ap (keeping abi at table mid.frames.items frame.to d (standing_at frame)) (same_state old mid s e same units next))))
+    turned_behind table (from_result table old d) (from_kept table mid frame.to d (standing_at frame)) old mid new turn left left left taken taken taken (ap (λ (r : Run). r.mem.abi) e)
+    (λ link enter at machine grow.
+    quiet_moves (from_result table old d old.mem.abi enter at) old mid (ap (λ (r : Run). r.streams) e) left taken (from_kept table mid frame.to d (standing_at frame) old.mem.abi enter at) (λ s same units next.
+    ap (λ fs. unwound old.mem.abi at table fs (Goes d s)) more
+    ∙ (popped_is old.mem.abi at table mid.frames.items frame stands.place.code d s stands.place.running ∙ ap (keeping old.mem.abi at table mid.frames.items frame.to d (standing_at frame)) (same_state old mid s e same units next))))
     (rest stands left taken)
 
 pub popping_falls : (table : List (Option Entity)) (old mid new : Run) (frame : Frame) (turn : Turn) → old.frames.items ≡ mid.frames.items ++ frame ∷ [] → mid.left ≡ old.left → GoesTo (standing_at frame) mid new turn → Falls table (waiting_burden table old) new turn

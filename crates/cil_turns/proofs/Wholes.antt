@@ -1,9 +1,8 @@
 -- Device: whole runs where a machine stands, which only grow, and what turns take from what is ahead.
-use Rattle.std.proofs.Common.{◌≡◌, ℕ, zero, suc, ◌+◌, ◌*◌, ◌<◌, ◌≤◌, List, [], ◌∷◌, ◌++◌, length, Option, Some, None, slice_get, refl, sym, ap, ◌∙◌, subst, arith, append_assoc}
+use Rattle.std.proofs.Common.{◌≡◌, ℕ, zero, suc, ◌+◌, ◌*◌, ◌<◌, ◌≤◌, List, [], ◌∷◌, ◌++◌, length, Option, Some, None, slice_get, sym, ap, ◌∙◌, subst, arith, append_assoc}
 use Rattle.std.proofs.lemmas.List.{append-nil}
 use Rattle.std.proofs.Math.Nat.{suc-mul, mul-le-mul_right}
 use Rattle.cil_base.specs.declared.kinds.Abi.{Abi}
-use Rattle.cil_base.specs.declared.kinds.Abi.TheVariants.{Lp64}
 use Rattle.cil_base.specs.Outcome.{IsPrefix}
 use Rattle.byte_mem.specs.Memory.{Memory}
 use Rattle.execution.specs.States.{State, Result, Goes, Exits, Running, Undefined, with_memory, bind, last}
@@ -22,10 +21,6 @@ use Rattle.cil_turns.specs.declared.runs.Stand.{Stand}
 use Rattle.cil_frames.specs.Growing.{Grows, IsPlace, StandIn, OnlyGrows}
 use Rattle.cil_turns.specs.Ends.{CutOff}
 use Rattle.cil_turns.specs.Standing.{remains_in, remains, keeping_in, keeping, steps_at, steps_ahead, longest, waiting_ahead}
-
--- there is one data model
-pub one_model : (a b : Abi) → a ≡ b
-one_model Lp64 Lp64 = refl
 
 -- whole runs
 

@@ -1,6 +1,5 @@
 -- Device: how whole runs go on and end over a source and a sink.
 use Rattle.std.specs.Prelude.{◌≡◌, ℕ, false, true, List, [], ◌++◌, Option, IfSome}
-use Rattle.cil_base.specs.declared.kinds.Abi.{Abi}
 use Rattle.outside.specs.Moves.{Wrote, WasRead}
 use Rattle.byte_mem.specs.Store.{memory}
 use Rattle.execution.specs.States.{State, Result, last}
@@ -61,15 +60,16 @@ pub record Comes (end : RunEnd) (before : State → Result Datum) (old new : Run
   pub finds : old.streams.ended ≡ false → new.streams.ended ≡ true → IfSome left' (λ bytes. bytes ≡ [])
   pub means : (s : State) (written tail : List ℕ) → (new.streams.ended ≡ true → tail ≡ []) → StandsFor old s written (got ++ tail) → Ends end (before s) (told end (written ++ sent) new.streams.waiting) tail new.left
 
--- in each machine with that table the whole run goes on where the machine stands now
+-- in each machine with that table, of the store's data model, the whole run goes on where the machine stands now; the data model stays
 pub record Arrives (table : List (Option Entity)) (before : Seen) (old new : Run) (x : Stand) (left left' taken taken' : Option (List ℕ)) : Type 0 where
-  pub means : (abi : Abi) (link : Linked) (enter : Enter) (at : Courses) → IsMachine abi link enter at table → OnlyGrows abi link enter at table
-      → Moves (before abi enter at) (from_stand table new x abi enter at) old new left left' taken taken'
+  pub means : (link : Linked) (enter : Enter) (at : Courses) → IsMachine old.mem.abi link enter at table → OnlyGrows old.mem.abi link enter at table
+      → Moves (before old.mem.abi enter at) (from_stand table new x old.mem.abi enter at) old new left left' taken taken'
   pub stands : Stands table new x
+  pub model : new.mem.abi ≡ old.mem.abi
 
--- in each machine with that table it ends so
+-- in each machine with that table, of the store's data model, it ends so
 pub record Finishes (table : List (Option Entity)) (before : Seen) (end : RunEnd) (old new : Run) (left left' taken taken' : Option (List ℕ)) : Type 0 where
-  pub means : (abi : Abi) (link : Linked) (enter : Enter) (at : Courses) → IsMachine abi link enter at table → OnlyGrows abi link enter at table → Comes end (before abi enter at) old new left left' taken taken'
+  pub means : (link : Linked) (enter : Enter) (at : Courses) → IsMachine old.mem.abi link enter at table → OnlyGrows old.mem.abi link enter at table → Comes end (before old.mem.abi enter at) old new left left' taken taken'
 
 -- what a turn leaves of the whole run
 abbrev pub Turned : List (Option Entity) → Seen → Run → Run → Turn → Option (List ℕ) → Option (List ℕ) → Option (List ℕ) → Option (List ℕ) → Type 0

@@ -87,6 +87,7 @@ kinds_agree f result arguments = same_kind (kind_from f.result) (kind_from resul
 pub record Begun (old new : Run) (waiting : List Frame) (callee : ℕ) (f : Function) (arguments : List Argument) (x : Stand) : Type 0 where
   pub stand : x ≡ record { function = callee; act = old.next; place = 0 }
   pub memory : memory new.mem ≡ begun_in old.mem.abi old.next (arguments_of arguments) (objects_of f.objects.items) (memory old.mem)
+  pub model : new.mem.abi ≡ old.mem.abi
   pub streams : new.streams ≡ old.streams
   pub left : suc new.left ≡ old.left
   pub next : new.next ≡ suc old.next
@@ -105,6 +106,7 @@ pub record FirstStands (table : List (Option Entity)) (run : Run) (f : Function)
 -- the objects of an activation have ended
 pub record Left (old new : Run) (act : ℕ) (f : Function) : Type 0 where
   pub memory : memory new.mem ≡ without_objects act (counted 0 (length f.parameters.items)) (without_objects act (map number_of (objects_of f.objects.items)) (memory old.mem))
+  pub model : new.mem.abi ≡ old.mem.abi
   pub others : new ≡ record old { mem = new.mem }
 
 -- a run goes on there, or is undefined; no unit is spent, and the same activations wait

@@ -77,6 +77,7 @@ fn ask<I: Source, O: Sink>(
     ensures asked { Asked result run.old.mem.abi name e.now (memory run.old.mem) (memory run.new.mem) run.old.streams run.new.streams
         (I.left input.old) (I.left input.new) (O.taken out.old) (O.taken out.new) }
     ensures counted { IsCounted (host_part (memory run.new.mem) run.new.streams) }
+    ensures model { run.new.mem.abi ≡ run.old.mem.abi }
     ensures others { run.new ≡ record run.old { mem = run.new.mem; streams = run.new.streams } }
     ensures reads { HostReads result (I.faults input.old) (I.faults input.new) }
     ensures writes { HostWrites result (O.faults out.old) (O.faults out.new) }
