@@ -1,6 +1,6 @@
 -- Device: a loaded machine is fresh.
-use Rattle.std.proofs.Common.{◌≡◌, ℕ, zero, suc, ◌+◌, ◌<◌, ◌≤◌, List, [], ◌∷◌, ◌++◌, All, Option, Some, None, option_map, length, take, get_or, slice_get, refl, sym, ap, ◌∙◌, subst, arith}
-use Rattle.std.proofs.lemmas.List.Elements.{All-weaker}
+use Rattle.std.proofs.Common.{◌≡◌, ℕ, zero, suc, ◌+◌, ◌<◌, ◌≤◌, List, [], ◌∷◌, ◌++◌, All, Option, Some, None, option_map, length, map, take, get_or, slice_get, refl, sym, ap, ◌∙◌, subst, arith}
+use Rattle.std.proofs.lemmas.List.Elements.{All-nil, All-cons, All-same, All-map, All-weaker}
 use Rattle.type_graph.specs.Arena.{Graph}
 use Rattle.layout_lp64.specs.declared.layouts.Layouts.{Layouts}
 use Rattle.layout_lp64.specs.Tables.{InStep, IsLeastTooBig}
@@ -29,7 +29,7 @@ use Rattle.cil_streams.specs.Held.{StreamsState, fresh, host_part}
 use Rattle.cil_link.specs.declared.entities.Definer.{Definer}
 use Rattle.cil_link.specs.Entities.{linked_in}
 use Rattle.cil_start.specs.Ready.{AreInStep}
-use Rattle.cil_start.specs.Starts.{Starts}
+use Rattle.cil_start.specs.Starts.{HaveOneModel, Starts}
 use Rattle.cil_link.specs.declared.mains.Main.{Main}
 use Rattle.cil_link.specs.Mains.{BeginsWith}
 use Rattle.cil_table.specs.Courses.{courses_in}
@@ -84,14 +84,16 @@ counted_at_start s programs words held h e =
 -- a machine whose parts are loaded stands before the first step
 pub machine_loads : (m : Machine) (programs : List Program) (words : List (List ℕ)) (definers : List Definer) (s : Store) (held : StreamsState) → IsLoadedTable programs definers m.table.items → Starts s programs words → m.run.mem ≡ s → held ≡ fresh → m.run.streams ≡ held
     → BeginsWith programs m.main → m.words ≡ length words → Loads m programs words
-machine_loads m programs words definers s held table start mem new streams main count = record {
-  at = courses_in programs definers;
-  table = table m.run.mem.abi;
-  store = subst (λ s. Starts s programs words) (sym mem) start;
-  streams = streams ∙ new;
-  main = main;
-  count = count;
-}
+machine_loads m programs words definers s held table start mem new streams main count =
+    let here : Starts m.run.mem programs words = subst (λ s. Starts s programs words) (sym mem) start in
+    record {
+      at = courses_in programs definers;
+      table = table m.run.mem.abi here.model;
+      store = here;
+      streams = streams ∙ new;
+      main = main;
+      count = count;
+    }
 
 pub machine_is_fresh : (m : Machine) (programs : List Program) (words : List (List ℕ)) → Loads m programs words → AllLead m.table.items → IsNew m.run → m.used ≡ 0 → IsFresh m
 machine_is_fresh m programs words loads leads new used = record {
@@ -135,3 +137,12 @@ all_small names us all = All-weaker (λ u. IsUnit (program_of names u)) (λ u. T
 -- well-formed programs are units that can be linked
 pub all_units : (names : List (List ℕ)) (us : List CilUnit) → All (λ u. IsProgram (program_of names u)) us → All (λ u. IsUnit (program_of names u)) us
 all_units names us all = All-weaker (λ u. IsProgram (program_of names u)) (λ u. IsUnit (program_of names u)) (λ u is. program_is_unit (program_of names u) is) us all
+
+-- programs of a data model have one
+pub are_alike : (names : List (List ℕ)) (us : List CilUnit) (abi : Abi) → All (λ u. u.graph.abi ≡ abi) us → HaveOneModel (map (program_of names) us)
+are_alike names us abi all = record { model = abi; each = All-map (λ (p : Program). p.graph.abi ≡ abi) (program_of names) us all }
+
+pub one_alone : (names : List (List ℕ)) (u : CilUnit) (us : List CilUnit) → us ≡ u ∷ [] → HaveOneModel (map (program_of names) us)
+one_alone names u us e =
+    let alike = λ (v : CilUnit). v.graph.abi ≡ u.graph.abi in
+    are_alike names us u.graph.abi (All-same alike us (u ∷ []) e (All-cons alike u [] refl (All-nil alike)))

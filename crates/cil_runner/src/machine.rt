@@ -5,6 +5,7 @@ ghost use Rattle.cil_tree.specs.Tree.{Program};
 ghost use Rattle.cil_tree.specs.View.{program_of};
 ghost use Rattle.cil_tree.specs.Programs.{IsProgram};
 ghost use Rattle.cil_semantics.specs.Units.{IsUnit};
+ghost use Rattle.cil_start.specs.Starts.{HaveOneModel};
 ghost use Rattle.cil_turns.specs.Ends.{CountsReads, CountsWrites};
 ghost use Rattle.cil_runner.specs.Machine.{Loads, RunsAs};
 ghost use Rattle.cil_runner.specs.Beginning.{IsFresh};
@@ -59,8 +60,8 @@ impl Machine {
 
     /// A machine that stands before the first step of the run of programs, which are linked, with these argument words,
     /// the first of which names them (C11 5.1.1.2p1 phase 8, 5.1.2.2.1p2). Each is well-formed but for its names, missing
-    /// tags and the order of its aggregates, and each of its globals has a name. `names` are the texts of the names of
-    /// all of them.
+    /// tags and the order of its aggregates, and each of its globals has a name; all have one data model (own). `names` are
+    /// the texts of the names of all of them.
     ///
     /// Memory comes for want of memory, and where a number would not fit.
     pub fn link(
@@ -69,7 +70,8 @@ impl Machine {
         names: &NamePool,
         words: &[Bytes],
     ) -> Result<Machine, Memory>
-        requires { All (λ u. IsUnit (program_of names.now u)) units.now }
+        requires units { All (λ u. IsUnit (program_of names.now u)) units.now }
+        requires model { HaveOneModel (map (program_of names.now) units.now) }
         ensures loads { IfOk result (λ m. Loads m (map (program_of names.now) units.now) words.now) }
         ensures fresh { IfOk result IsFresh }
     {

@@ -1,6 +1,7 @@
 ghost use Rattle.std.specs.Prelude.{◌≡◌, Some, IfOk, All, map};
 ghost use Rattle.cil_tree.specs.View.{program_of};
 ghost use Rattle.cil_semantics.specs.Units.{IsUnit};
+ghost use Rattle.cil_start.specs.Starts.{HaveOneModel};
 ghost use Rattle.cil_semantics.specs.Runs.{RunCil};
 ghost use Rattle.cil_runner.specs.Beginning.{outcome_by};
 
@@ -25,7 +26,7 @@ fn outcome(end: RunEnd, text: Bytes) -> Result<Outcome, Memory>
 
 /// The outcome of the run of programs, which are linked, in an environment and within so many units (C11 5.1.1.2p1
 /// phase 8, 5.1.2.2.1; own: units). Each is well-formed but for its names, missing tags and the order of its aggregates,
-/// and each of its globals has a name. `names` are the texts of the names of all of them.
+/// and each of its globals has a name; all have one data model (own). `names` are the texts of the names of all of them.
 ///
 /// Memory comes for want of memory, and where a number would not fit.
 pub fn run_cil(
@@ -35,7 +36,8 @@ pub fn run_cil(
     env: &Env,
     n: u64,
 ) -> Result<Outcome, Memory>
-    requires { All (λ u. IsUnit (program_of names.now u)) units.now }
+    requires units { All (λ u. IsUnit (program_of names.now u)) units.now }
+    requires model { HaveOneModel (map (program_of names.now) units.now) }
     ensures { IfOk result (λ o. o ≡ RunCil (map (program_of names.now) units.now) env.now.args.items env.now.input n) }
 {
     let mut machine = Machine::link(alloc, units, names, env.args.as_slice())?;

@@ -25,7 +25,6 @@ use Rattle.type_graph.specs.Layouts.{layout}
 use Rattle.type_graph.proofs.LayoutLaws.{layout_there}
 use Rattle.layout_lp64.specs.Tables.{found}
 use Rattle.execution.specs.Runs.{writable, entity_held, memory_of}
-use Rattle.cil_tree.specs.declared.globals.CilUnit.{CilUnit}
 use Rattle.cil_tree.specs.declared.globals.Body as code_body
 use Rattle.cil_tree.specs.declared.globals.ImageItem.{ImageItem}
 use Rattle.cil_tree.specs.declared.globals.GlobalDecl.{GlobalDecl}
@@ -34,7 +33,7 @@ use Rattle.cil_tree.specs.declared.globals.GlobalDef.TheVariants as code
 use Rattle.cil_tree.specs.Tree as plain
 use Rattle.cil_tree.specs.Tree.{Item, Program, Body}
 use Rattle.cil_tree.specs.Typing.{is_function}
-use Rattle.cil_tree.specs.View.{program_of, item_of, body_of, definition_of, global_of}
+use Rattle.cil_tree.specs.View.{item_of, body_of, definition_of, global_of}
 use Rattle.cil_tree.specs.Globals.{item_fits, global_fits, is_nonempty, has_definition, object_is_complete, definition_fits}
 use Rattle.cil_semantics.specs.Values.{size_in}
 use Rattle.cil_semantics.specs.Runs.{with_item, with_items, zeros, object, global_meaning, definition_meaning, function_meaning, is_main}

@@ -1,8 +1,10 @@
 -- Device: the loaded programs of a run by their numbers.
-use Rattle.std.proofs.Common.{◌≡◌, ℕ, zero, suc, ◌<◌, List, [], ◌∷◌, length, get_or, slice_get, Option, Some, None, All, Global, refl, sym, ap, ◌∙◌, subst, arith}
+use Rattle.std.proofs.Common.{◌≡◌, ℕ, zero, suc, ◌<◌, List, [], ◌∷◌, length, get_or, slice_get, Option, Some, None, Global, refl, sym, ap, ◌∙◌, subst, arith}
 use Rattle.std.specs.declared.vec.Vec.{Vec}
 use Rattle.std.proofs.lemmas.List.{length-map}
+use Rattle.std.proofs.lemmas.List.Elements.{All-head, All-tail}
 use Rattle.std.proofs.lemmas.Option.{slice_get_within}
+use Rattle.cil_base.specs.declared.kinds.Abi.{Abi}
 use Rattle.cil_base.specs.declared.numbers.EntityId.{EntityId}
 use Rattle.cil_base.specs.declared.numbers.UnitNo.{UnitNo}
 use Rattle.layout_lp64.specs.declared.layouts.Layouts.{Layouts}
@@ -11,13 +13,17 @@ use Rattle.cil_tree.specs.declared.globals.CilUnit.{CilUnit}
 use Rattle.cil_tree.specs.View.{global_of, program_of}
 use Rattle.cil_semantics.specs.Units.{IsUnit}
 use Rattle.cil_link.specs.declared.units.Units.{Units}
-use Rattle.cil_link.specs.Entities.{InRun, IsThere}
+use Rattle.execution.specs.Linking.{Symbol, rank_behind}
+use Rattle.cil_tree.specs.Tree.{Program}
+use Rattle.cil_semantics.specs.Runs.{linkables}
+use Rattle.cil_link.specs.Entities.{InRun, IsThere, in_run_from, in_run}
 use Rattle.cil_link.specs.Units.{units_in}
-use Rattle.cil_link.proofs.UnitLaws.{UnitIs, unit_is}
+use Rattle.cil_link.proofs.UnitLaws.{unit_is}
 use Rattle.cil_start.specs.declared.loaded.Loaded.{Loaded}
 use Rattle.cil_start.specs.declared.loaded.LoadedUnits.{LoadedUnits}
 use Rattle.cil_start.specs.Loads.{IsReady, loaded_in}
 use Rattle.cil_start.specs.Ready.{AreReady, AreInStep}
+use Rattle.cil_start.specs.Starts.{HaveModel}
 
 as_many : (ys : List Layouts) (us : List CilUnit) → AreInStep ys us → length ys ≡ length us
 as_many [] [] h = refl
@@ -59,3 +65,13 @@ loaded_low l k e r is at =
     let same : is.program ≡ loaded_in r = cc in
     let there : e.0 < length is.program.program.globals = slice_get_within is.program.program.globals e.0 is.global is.global_is in
     subst (λ n. e.0 < n) (ap (λ (w : InRun). length w.program.globals) same ∙ length-map r.unit.now.globals.items (global_of r.unit.now.graph.nodes r.names.now)) there
+
+-- a program of a run has the data model of all
+model_from : (abi : Abi) (table : List Symbol) (rank : ℕ) (programs : List Program) (k : ℕ) (u : InRun) → HaveModel abi programs → slice_get (in_run_from table rank programs) k ≡ Some u → u.program.graph.abi ≡ abi
+model_from abi table rank [] k u h e = absurd (cc)
+model_from abi table rank (p ∷ programs) zero u h e =
+    subst (λ (o : Option InRun). elim o [ None ↦ abi | Some v ↦ v.program.graph.abi ] ≡ abi) e (All-head (λ (q : Program). q.graph.abi ≡ abi) p programs h)
+model_from abi table rank (p ∷ programs) (suc k) u h e = model_from abi table (rank_behind rank (linkables p)) programs k u (All-tail (λ (q : Program). q.graph.abi ≡ abi) p programs h) e
+
+pub model_at : (abi : Abi) (programs : List Program) (k : ℕ) (u : InRun) → HaveModel abi programs → slice_get (in_run programs) k ≡ Some u → u.program.graph.abi ≡ abi
+model_at abi programs k u h e = model_from abi _ 0 programs k u h e

@@ -6,7 +6,6 @@ use Rattle.std.specs.Option.{option_and_then}
 use Rattle.std.proofs.Math.Nat.{mul-mod_left}
 use Rattle.cil_base.specs.declared.numbers.EntityId.{EntityId}
 use Rattle.cil_base.specs.declared.kinds.Abi.{Abi}
-use Rattle.cil_base.specs.declared.kinds.Abi.TheVariants.{Lp64}
 use Rattle.cil_base.specs.declared.kinds.IntKind.TheVariants.{Int as int}
 use Rattle.cil_base.specs.Integer.{size_of, pointer_size_of}
 use Rattle.byte_mem.specs.declared.pointers.ObjName.{ObjName}
@@ -42,7 +41,7 @@ use Rattle.cil_tree.specs.declared.globals.ImageItem.{ImageItem}
 use Rattle.cil_tree.specs.Tree.{Item, Program}
 use Rattle.cil_tree.specs.Typing.{is_scalar, is_enum}
 use Rattle.cil_tree.specs.Text.{shape_layout}
-use Rattle.cil_tree.specs.View.{program_of, item_of}
+use Rattle.cil_tree.specs.View.{item_of}
 use Rattle.cil_tree.specs.Globals.{Part, item_fits}
 use Rattle.cil_semantics.specs.Values.{size_in, scalar_in, scalar_kind, aggregate_kind}
 use Rattle.cil_semantics.specs.Runs.{constant_value}
@@ -132,9 +131,6 @@ written_is p es s x w =
     ∙ ap (λ (o : Option Scalar). o >>= λ t. constant_value es x.value >>= λ v. let r : Written = record { at = w.part.1; scalar = t; value = v } in Some r) w.kind
     ∙ ap (λ (o : Option Value). o >>= λ v. let r : Written = record { at = w.part.1; scalar = w.scalar; value = v } in Some r) w.means
 
-pub one_abi : (a b : Abi) → a ≡ b
-one_abi Lp64 Lp64 = refl
-
 -- a store of what an item writes
 stored_is : (p : Program) (es : List ℕ) (s : Shape) (x : Item) (m : Memory) (e : EntityId) (bytes : List Byte) (all : length es ≡ length p.globals) (l : Lands p es s x (length bytes)) → m (Entity e) ≡ Some (writable bytes)
     → store p.graph.abi m (record { name = Entity e; offset = pos l.writes.part.1 }) l.writes.scalar l.writes.value ≡ Some (with_held m (Entity e) (item_held p.graph es s x (m (Entity e))))
@@ -174,17 +170,17 @@ item_none l t x o ready fits object e =
     let both : None ≡ Some (record { at = k.lands.writes.part.1; scalar = k.lands.writes.scalar; value = k.lands.writes.value }) = e ∙ k.written in
     cc
 
-pub item_put : (l : Loaded) (t : ℕ) (x : Item) (e : EntityId) (old new : Store) (w : Written) → IsReady l → item_fits (program_in l) (shape l.unit.now.graph.nodes t) x ≡ true → IsObject l.unit.now.graph (shape l.unit.now.graph.nodes t) (memory old (Entity e))
+pub item_put : (l : Loaded) (t : ℕ) (x : Item) (e : EntityId) (old new : Store) (w : Written) → IsReady l → old.abi ≡ l.unit.now.graph.abi → item_fits (program_in l) (shape l.unit.now.graph.nodes t) x ≡ true → IsObject l.unit.now.graph (shape l.unit.now.graph.nodes t) (memory old (Entity e))
     → Some w ≡ written_of l.unit.now.graph l.entities.now (shape l.unit.now.graph.nodes t) x → Changed old new (store old.abi (memory old) (place_of e w) w.scalar w.value)
     → Becomes old new (with_held (memory old) (Entity e) (item_held l.unit.now.graph l.entities.now (shape l.unit.now.graph.nodes t) x (memory old (Entity e))))
-item_put l t x e old new w ready fits object is h =
+item_put l t x e old new w ready model fits object is h =
     let k = known l t x (memory old (Entity e)) ready fits object in
     let v : Written = record { at = k.lands.writes.part.1; scalar = k.lands.writes.scalar; value = k.lands.writes.value } in
     let both : Some w ≡ Some v = is ∙ k.written in
     let same : w ≡ v = cc in
     let stored = stored_is (program_in l) l.entities.now (shape l.unit.now.graph.nodes t) x (memory old) e k.object.bytes ready.numbers k.lands k.object.is in
     let path : store old.abi (memory old) (place_of e w) w.scalar w.value ≡ Some (with_held (memory old) (Entity e) (item_held l.unit.now.graph l.entities.now (shape l.unit.now.graph.nodes t) x (memory old (Entity e)))) =
-    ap (λ (a : Abi). store a (memory old) (place_of e w) w.scalar w.value) (one_abi old.abi l.unit.now.graph.abi) ∙ ap (λ (u : Written). store l.unit.now.graph.abi (memory old) (place_of e u) u.scalar u.value) same ∙ stored in
+    ap (λ (a : Abi). store a (memory old) (place_of e w) w.scalar w.value) model ∙ ap (λ (u : Written). store l.unit.now.graph.abi (memory old) (place_of e u) u.scalar u.value) same ∙ stored in
     subst (λ (o : Option Memory). Changed old new o) path h
 
 -- an object stays one

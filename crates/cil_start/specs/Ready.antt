@@ -3,8 +3,9 @@ use Rattle.std.specs.Prelude.{List, [], ◌∷◌}
 use Rattle.layout_lp64.specs.declared.layouts.Layouts.{Layouts}
 use Rattle.layout_lp64.specs.Tables.{InStep}
 use Rattle.cil_tree.specs.declared.globals.CilUnit.{CilUnit}
-use Rattle.cil_link.specs.Units.{AreLinked}
+use Rattle.cil_link.specs.Units.{AreLinked, programs_in}
 use Rattle.cil_start.specs.declared.loaded.LoadedUnits.{LoadedUnits}
+use Rattle.cil_start.specs.Starts.{HaveOneModel}
 
 -- each program's layouts are those of its types
 abbrev pub AreInStep : List Layouts → List CilUnit → Type 0
@@ -13,7 +14,8 @@ AreInStep (y ∷ layouts) (u ∷ units) = InStep y u.graph × AreInStep layouts 
 AreInStep [] (u ∷ units) = ⊥
 AreInStep (y ∷ layouts) [] = ⊥
 
--- the programs are linked, and each has its layouts
+-- the programs are linked, each has its layouts, and they have one data model
 pub record AreReady (l : LoadedUnits) : Type 0 where
   pub linked : AreLinked l.linked
   pub step : AreInStep l.layouts.now l.linked.units.now
+  pub model : HaveOneModel (programs_in l.linked)

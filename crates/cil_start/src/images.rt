@@ -102,6 +102,7 @@ fn put(mem: &mut Store, e: EntityId, w: Written)
 #[tactic(auto, using(crate::proofs::Writings::item_low, crate::proofs::Writings::item_put, crate::proofs::Writings::item_none))]
 fn write_item(l: &Loaded, mem: &mut Store, e: EntityId, t: TypeId, x: &ImageItem)
     requires ready { IsReady l.now }
+    requires model { mem.old.abi ≡ l.now.unit.now.graph.abi }
     requires there { t.0 < length l.now.unit.now.graph.nodes }
     requires complete { complete_shape l.now.unit.now.graph.aggs (shape l.now.unit.now.graph.nodes t.0) ≡ true }
     requires fits { item_fits (program_in l.now) (shape l.now.unit.now.graph.nodes t.0) (item_of x.now) ≡ true }
@@ -118,6 +119,7 @@ fn write_item(l: &Loaded, mem: &mut Store, e: EntityId, t: TypeId, x: &ImageItem
 #[tactic(auto, using(crate::proofs::Writings::item_at, crate::proofs::Writings::writing_begins, crate::proofs::Writings::writing_next, crate::proofs::Writings::writing_done))]
 pub(crate) fn write_items(l: &Loaded, mem: &mut Store, e: EntityId, t: TypeId, items: &[ImageItem])
     requires ready { IsReady l.now }
+    requires model { mem.old.abi ≡ l.now.unit.now.graph.abi }
     requires there { t.0 < length l.now.unit.now.graph.nodes }
     requires complete { complete_shape l.now.unit.now.graph.aggs (shape l.now.unit.now.graph.nodes t.0) ≡ true }
     requires fits { list_all (item_fits (program_in l.now) (shape l.now.unit.now.graph.nodes t.0)) (map item_of items.now) ≡ true }

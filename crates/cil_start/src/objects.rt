@@ -11,8 +11,9 @@ ghost use Rattle.cil_tree.specs.Globals.{item_fits, global_fits};
 ghost use Rattle.cil_semantics.specs.Values.{size_in};
 ghost use Rattle.cil_start.specs.Loads.{program_in, IsReady, image_held, global_held, definer_held};
 ghost use Rattle.cil_link.specs.Entities.{IsOne, IsThere};
-ghost use Rattle.cil_link.specs.Units.{units_in};
+ghost use Rattle.cil_link.specs.Units.{programs_in, units_in};
 ghost use Rattle.cil_start.specs.Ready.{AreReady};
+ghost use Rattle.cil_start.specs.Starts.{HaveModel};
 
 use crate::images::write_items;
 use crate::loaded::{Loaded, LoadedUnits};
@@ -41,6 +42,7 @@ fn make_object(
     items: &[ImageItem],
 ) -> Result<(), Memory>
     requires ready { IsReady l.now }
+    requires model { mem.old.abi ≡ l.now.unit.now.graph.abi }
     requires there { t.0 < length l.now.unit.now.graph.nodes }
     requires complete { complete_shape l.now.unit.now.graph.aggs (shape l.now.unit.now.graph.nodes t.0) ≡ true }
     requires fits { list_all (item_fits (program_in l.now) (shape l.now.unit.now.graph.nodes t.0)) (map item_of items.now) ≡ true }
@@ -56,6 +58,7 @@ fn make_object(
 #[tactic(auto, using(crate::proofs::ObjectLaws::type_there, crate::proofs::ObjectLaws::zero_complete, crate::proofs::ObjectLaws::image_complete, crate::proofs::ObjectLaws::image_items_fit, crate::proofs::ObjectLaws::declared_held, crate::proofs::ObjectLaws::nothing_made))]
 fn make_global(l: &Loaded, mem: &mut Store, e: EntityId, x: &GlobalDecl) -> Result<(), Memory>
     requires ready { IsReady l.now }
+    requires model { mem.old.abi ≡ l.now.unit.now.graph.abi }
     requires fits { global_fits (program_in l.now) (global_of l.now.unit.now.graph.nodes l.now.names.now x.now) ≡ true }
     requires absent { memory mem.old (Entity e) ≡ None }
     ensures { OnOk result (Becomes mem.old mem.new (with_held (memory mem.old) (Entity e) (global_held (program_in l.now) l.now.entities.now (global_of l.now.unit.now.graph.nodes l.now.names.now x.now)))) }
@@ -77,6 +80,7 @@ fn make_numbered(
     global: EntityId,
 ) -> Result<(), Memory>
     requires ready { AreReady l.now }
+    requires model { HaveModel mem.old.abi (programs_in l.now.linked) }
     requires there { IsThere (units_in l.now.linked) unit global }
     requires absent { memory mem.old (Entity e) ≡ None }
     ensures { OnOk result (Becomes mem.old mem.new (with_held (memory mem.old) (Entity e) (definer_held (units_in l.now.linked) (Definer.Global unit global)))) }
@@ -95,6 +99,7 @@ fn make_entity(
     definer: Definer,
 ) -> Result<(), Memory>
     requires ready { AreReady l.now }
+    requires model { HaveModel mem.old.abi (programs_in l.now.linked) }
     requires one { IsOne (units_in l.now.linked) definer }
     requires absent { memory mem.old (Entity e) ≡ None }
     ensures { OnOk result (Becomes mem.old mem.new (with_held (memory mem.old) (Entity e) (definer_held (units_in l.now.linked) definer))) }
@@ -111,6 +116,7 @@ fn make_entity(
 /// After Memory some of them are made.
 pub(crate) fn make_entities(l: &LoadedUnits, mem: &mut Store) -> Result<(), Memory>
     requires ready { AreReady l.now }
+    requires model { HaveModel mem.old.abi (programs_in l.now.linked) }
     requires empty { memory mem.old ≡ no_memory }
     ensures { OnOk result (Becomes mem.old mem.new (memory_of (map (definer_held (units_in l.now.linked)) l.now.linked.entities.now.definers.items) [])) }
 {

@@ -1,7 +1,8 @@
-ghost use Rattle.std.specs.Prelude.{IfOk};
+ghost use Rattle.std.specs.Prelude.{ℕ, IfOk, List, map};
+ghost use Rattle.cil_tree.specs.View.{program_of};
 ghost use Rattle.cil_link.specs.Units.{programs_in};
 ghost use Rattle.cil_start.specs.Ready.{AreReady};
-ghost use Rattle.cil_start.specs.Starts.{Starts};
+ghost use Rattle.cil_start.specs.Starts.{HaveModel, HaveOneModel, Starts};
 
 use crate::loaded::LoadedUnits;
 use crate::objects::make_entities;
@@ -12,7 +13,9 @@ use cil_tree::CilUnit;
 use std::alloc::Global;
 
 /// The model of the programs of a run; they have one (own).
-fn abi_of(units: &[CilUnit]) -> Abi {
+fn abi_of(units: &[CilUnit]) -> Abi
+    ensures { (names : List (List ℕ)) → HaveOneModel (map (program_of names) units.now) → HaveModel result (map (program_of names) units.now) }
+{
     match units.first() {
         None => Abi::Lp64,
         Some(u) => u.graph.abi(),

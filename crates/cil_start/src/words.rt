@@ -103,7 +103,8 @@ pub(crate) fn make_arguments(
     abi: Abi,
     words: &[Bytes],
 ) -> Result<(), Memory>
-    ensures { (entities : List (Option Held)) → memory mem.old ≡ memory_of entities [] → OnOk result (memory mem.new ≡ memory_of entities (words_held abi words.now)) }
+    ensures model { OnOk result (mem.new.abi ≡ mem.old.abi) }
+    ensures filled { (entities : List (Option Held)) → memory mem.old ≡ memory_of entities [] → OnOk result (memory mem.new ≡ memory_of entities (words_held abi words.now)) }
 {
     if words.len() >= u32::MAX as usize {
         return Err(Memory);

@@ -9,6 +9,7 @@ use Rattle.cil_frames.specs.declared.frames.Entity.{Entity}
 use Rattle.cil_frames.specs.Frames.{IsEntity, IsMachine}
 use Rattle.cil_link.specs.declared.entities.Definer.{Definer}
 use Rattle.cil_link.specs.Entities.{InRun, in_run, linked_in, meant}
+use Rattle.cil_start.specs.Starts.{HaveModel}
 use Rattle.cil_table.specs.Courses.{global_course, entity_course, courses_in}
 
 -- the global is one of the program
@@ -20,9 +21,9 @@ pub record IsGlobal (p : Program) (x : GlobalDecl) : Type 0 where
 abbrev pub IsGlobalEntry : InRun → GlobalDecl → Option Entity → Type 0
 IsGlobalEntry u x e = (programs : List Program) → IsEntity u.program.graph.abi (calls_in programs) (global_course programs u (Some x)) (global_meaning u.program x u.entities) e
 
--- an entry is what an entity means; the model is that of each program, since there is one
+-- an entry is what an entity means, in the data model of the programs
 abbrev pub IsEntry : List Program → Definer → Option Entity → Type 0
-IsEntry programs d e = (abi : Abi) → IsEntity abi (calls_in programs) (entity_course programs (Some d)) (meant (in_run programs) d) e
+IsEntry programs d e = (abi : Abi) → HaveModel abi programs → IsEntity abi (calls_in programs) (entity_course programs (Some d)) (meant (in_run programs) d) e
 
 -- entries one by one
 abbrev pub AreEntries : List Program → List Definer → List (Option Entity) → Type 0
@@ -31,6 +32,6 @@ AreEntries programs (d ∷ definers) (e ∷ table) = IsEntry programs d e × Are
 AreEntries programs [] (e ∷ table) = ⊥
 AreEntries programs (d ∷ definers) [] = ⊥
 
--- the table is what the linked programs mean
+-- the table is what the linked programs mean, in their data model
 abbrev pub IsLoadedTable : List Program → List Definer → List (Option Entity) → Type 0
-IsLoadedTable programs definers table = (abi : Abi) → IsMachine abi (linked_in programs) (calls_in programs) (courses_in programs definers) table
+IsLoadedTable programs definers table = (abi : Abi) → HaveModel abi programs → IsMachine abi (linked_in programs) (calls_in programs) (courses_in programs definers) table

@@ -1,9 +1,10 @@
 ghost use Rattle.std.specs.Prelude.{◌≡◌, true, All, IfOk};
+ghost use Rattle.cil_base.specs.declared.kinds.Abi.TheVariants.{Lp64};
 ghost use Rattle.cil_tree.specs.View.{program_of};
 ghost use Rattle.cil_tree.specs.Programs.{IsProgram};
 
 use crate::units::{Digit, Form, Locals, Row, unit};
-use cil_base::{Bytes, Env, Memory, NamePool, Outcome};
+use cil_base::{Abi, Bytes, Env, Memory, NamePool, Outcome};
 use cil_check::check;
 use cil_runner::run_cil;
 use cil_tree::CilUnit;
@@ -30,6 +31,18 @@ fn all_check(units: &[CilUnit], names: &NamePool) -> Result<bool, Memory>
     Ok(true)
 }
 
+/// Whether all units have the data model of the rows.
+fn all_alike(units: &[CilUnit]) -> bool
+    ensures { result ≡ true → All (λ u. u.graph.abi ≡ Lp64) units.now }
+{
+    for i in 0..units.len() {
+        if units[i].graph.abi() != Abi::Lp64 {
+            return false;
+        }
+    }
+    true
+}
+
 /// One word, and the input `A`.
 fn environment(alloc: Global) -> Result<Env, Memory> {
     let mut args = Vec::new(alloc);
@@ -40,9 +53,10 @@ fn environment(alloc: Global) -> Result<Env, Memory> {
     })
 }
 
-/// The status of the run of units, which are linked; Memory also where one of them is no well-formed program.
+/// The status of the run of units, which are linked; Memory also where one of them is no well-formed program, or
+/// has another data model than the rows.
 fn run_units(alloc: Global, units: &[CilUnit], names: &NamePool) -> Result<Option<u8>, Memory> {
-    if !all_check(units, names)? {
+    if !all_check(units, names)? || !all_alike(units) {
         return Err(Memory);
     }
     let env = environment(alloc)?;

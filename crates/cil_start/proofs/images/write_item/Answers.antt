@@ -8,7 +8,7 @@ pub put-requires : goal.put-requires
 put-requires c = item_low c.args.l.now c.args.t.0 (item_of c.args.x.now) (memory c.args.mem.now (Entity c.args.e)) c.in-Some.w c.requires.ready c.requires.fits c.requires.object c.in-Some.ensures
 
 pub returns-in-Some : goal.returns-in-Some
-returns-in-Some c = item_put c.args.l.now c.args.t.0 (item_of c.args.x.now) c.args.e c.args.mem.now c.put.new.mem c.in-Some.w c.requires.ready c.requires.fits c.requires.object c.in-Some.ensures c.put.ensures
+returns-in-Some c = item_put c.args.l.now c.args.t.0 (item_of c.args.x.now) c.args.e c.args.mem.now c.put.new.mem c.in-Some.w c.requires.ready c.requires.model c.requires.fits c.requires.object c.in-Some.ensures c.put.ensures
 
 pub returns-in-None : goal.returns-in-None
 returns-in-None c = absurd (item_none c.args.l.now c.args.t.0 (item_of c.args.x.now) (memory c.args.mem.now (Entity c.args.e)) c.requires.ready c.requires.fits c.requires.object c.in-None.ensures)

@@ -1,9 +1,12 @@
-use Rattle.std.proofs.Common.{map, arith}
+use Rattle.std.proofs.Common.{map, ◌∙◌, arith}
 use Rattle.type_graph.specs.Shapes.{shape}
 use Rattle.cil_tree.specs.View.{item_of}
 use Rattle.cil_start.specs.Loads.{program_in}
 use Rattle.cil_start.proofs.Writings.{item_at, writing_next, writing_done}
 use Rattle.cil_start.proofs.images.write_items.Goals as goal
+
+pub write_item-requires-clause-model : goal.write_item-requires-clause-model
+write_item-requires-clause-model c = c.loop-i.invariant.abi ∙ c.requires.model
 
 pub write_item-requires-clause-fits : goal.write_item-requires-clause-fits
 write_item-requires-clause-fits c =

@@ -2,12 +2,17 @@ use Rattle.std.proofs.Common.{arith, sym, subst}
 use Rattle.std.proofs.lemmas.List.Elements.{All-get_or}
 use Rattle.cil_link.specs.declared.entities.Definer.TheVariants.{Nothing}
 use Rattle.cil_link.specs.Entities.{IsOne}
-use Rattle.cil_link.specs.Units.{units_in}
+use Rattle.cil_base.specs.declared.kinds.Abi.{Abi}
+use Rattle.cil_link.specs.Units.{programs_in, units_in}
+use Rattle.cil_start.specs.Starts.{HaveModel}
 use Rattle.cil_start.proofs.ObjectLaws.{entities_begin, entities_end, entities_next, next_absent}
 use Rattle.cil_start.proofs.objects.make_entities.Goals as goal
 
 pub loop-i-init : goal.loop-i-init
 loop-i-init c = entities_begin (units_in c.args.l.now.linked) c.args.mem.now c.args.l.now.linked.entities.now.definers.items c.requires.empty
+
+pub make_entity-requires-clause-model : goal.make_entity-requires-clause-model
+make_entity-requires-clause-model c = subst (λ (a : Abi). HaveModel a (programs_in c.args.l.now.linked)) (sym c.loop-i.invariant.1) c.requires.model
 
 pub make_entity-requires-clause-one : goal.make_entity-requires-clause-one
 make_entity-requires-clause-one c =

@@ -1,8 +1,11 @@
-use Rattle.std.proofs.Common.{map}
+use Rattle.std.proofs.Common.{map, ◌∙◌}
 use Rattle.type_graph.specs.Shapes.{shape}
 use Rattle.cil_tree.specs.View.{item_of}
 use Rattle.cil_start.proofs.ObjectLaws.{begun_object, made_object}
 use Rattle.cil_start.proofs.objects.make_object.Goals as goal
+
+pub write_items-requires-clause-model : goal.write_items-requires-clause-model
+write_items-requires-clause-model c = c.in_ok-make.ensures.1 ∙ c.requires.model
 
 pub write_items-requires-clause-object : goal.write_items-requires-clause-object
 write_items-requires-clause-object c =

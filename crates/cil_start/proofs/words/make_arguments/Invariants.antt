@@ -5,4 +5,7 @@ use Rattle.execution.specs.Runs.{memory_of, words_held}
 use Rattle.cil_start.proofs.words.make_arguments.Given as goal
 
 abbrev pub invariant-loop-i : goal.invariant-loop-i
-invariant-loop-i l = (entities : List (Option Held)) → memory l.fn.mem ≡ memory_of entities [] → memory l.mem ≡ memory_of entities (take (l.i + 1) (words_held l.fn.abi l.words))
+invariant-loop-i l = record {
+  model : l.mem.abi ≡ l.fn.mem.abi;
+  filled : (entities : List (Option Held)) → memory l.fn.mem ≡ memory_of entities [] → memory l.mem ≡ memory_of entities (take (l.i + 1) (words_held l.fn.abi l.words));
+}

@@ -26,4 +26,4 @@ returns-clause-machine c =
     table_is (programs_in c.args.l.now.linked) c.args.l.now.linked.entities.now.definers.items c.loop-i.table.items c.requires.linked.table (entries_end (programs_in c.args.l.now.linked) c.args.l.now.linked.entities.now.definers.items c.loop-i.i c.loop-i.table.items (omega arith) c.loop-i.invariant)
 
 pub returns-clause-leads : goal.returns-clause-leads
-returns-clause-leads c = all_lead (programs_in c.args.l.now.linked) c.args.l.now.linked.entities.now.definers.items c.loop-i.table.items (entries_end (programs_in c.args.l.now.linked) c.args.l.now.linked.entities.now.definers.items c.loop-i.i c.loop-i.table.items (omega arith) c.loop-i.invariant)
+returns-clause-leads c = all_lead (programs_in c.args.l.now.linked) c.args.l.now.linked.entities.now.definers.items c.loop-i.table.items c.requires.model (entries_end (programs_in c.args.l.now.linked) c.args.l.now.linked.entities.now.definers.items c.loop-i.i c.loop-i.table.items (omega arith) c.loop-i.invariant)

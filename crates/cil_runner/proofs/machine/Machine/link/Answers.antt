@@ -3,7 +3,7 @@ use Rattle.cil_runner.proofs.Loads.{all_small, machine_loads, machine_is_fresh}
 use Rattle.cil_runner.proofs.machine.Machine.link.Goals as goal
 
 pub all_layouts-requires : goal.all_layouts-requires
-all_layouts-requires c = all_small c.args.names.now c.args.units.now c.requires
+all_layouts-requires c = all_small c.args.names.now c.args.units.now c.requires.units
 
 pub returns-clause-loads : goal.returns-clause-loads
 returns-clause-loads c = machine_loads _ _ _ _ _ _ c.in_ok-table.ensures.machine c.in_ok-mem.ensures c.new-2.ensures.mem c.in_ok-streams.ensures c.new-2.ensures.streams c.main_of.ensures refl

@@ -5,11 +5,14 @@ use Rattle.cil_tree.specs.declared.globals.CilUnit.{CilUnit}
 use Rattle.cil_tree.specs.View.{program_of}
 use Rattle.cil_tree.specs.Programs.{IsProgram}
 use Rattle.cil_runner.specs.Machine.{Loads}
-use Rattle.cil_runner.proofs.Loads.{all_units}
+use Rattle.cil_runner.proofs.Loads.{all_units, one_alone}
 use Rattle.cil_runner.proofs.machine.Machine.load.Goals as goal
 
-pub link-requires : goal.link-requires
-link-requires c =
+pub link-requires-clause-model : goal.link-requires-clause-model
+link-requires-clause-model c = one_alone c.args.names.now c.args.u.now c.from_ref.result.now c.from_ref.ensures.value
+
+pub link-requires-clause-units : goal.link-requires-clause-units
+link-requires-clause-units c =
     let is_program = λ (u : CilUnit). IsProgram (program_of c.args.names.now u) in
     let all = All-cons is_program c.args.u.now [] c.requires (All-nil is_program) in
     all_units c.args.names.now c.from_ref.result.now (All-same is_program c.from_ref.result.now (c.args.u.now ∷ []) c.from_ref.ensures.value all)
