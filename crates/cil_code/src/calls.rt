@@ -23,7 +23,9 @@ use type_graph::Node;
 /// What calls compare of a type (own).
 #[derive(Clone, Copy, Debug, PartialEq, Eq)]
 pub enum Kind {
+    /// No value (C11 6.2.5p19).
     Void,
+    /// A value of the scalar.
     Single(Scalar),
     /// The size of a struct or union.
     Bytes(u32),
@@ -32,17 +34,22 @@ pub enum Kind {
 /// Where the result of a call goes.
 #[derive(Drop)]
 pub struct Receiver {
+    /// The place.
     pub place: Spot,
+    /// The kind of its type, if it has one.
     pub kind: Option<Kind>,
 }
 
 /// A call (C11 6.5.2.2).
 #[derive(Drop)]
 pub struct Call {
+    /// Where the result goes, if it is stored.
     pub to: Option<Receiver>,
+    /// What is called.
     pub callee: Term,
     /// The kind of the result that is asked for.
     pub result: Option<Kind>,
+    /// What is passed (6.5.2.2p4).
     pub arguments: Vec<Operand>,
 }
 
@@ -142,7 +149,9 @@ fn resolve_receiver(s: &Setting, to: &Option<Lval>) -> Result<Option<Receiver>, 
 /// What is called: a pointer to a function, and the kind of its result by its type.
 #[derive(Drop)]
 pub struct Called {
+    /// The pointer to it (C11 6.5.2.2p1).
     pub pointer: Term,
+    /// The kind of the result, if its type has one.
     pub result: Option<Kind>,
 }
 

@@ -17,6 +17,7 @@ use cil_machine::{
 /// A value that is returned.
 #[derive(Drop)]
 pub enum Datum {
+    /// A value of a scalar.
     Single(Value),
     /// The bytes of a struct or union.
     Bytes(Cells),
@@ -31,6 +32,7 @@ pub enum Onward {
     Back(usize),
     /// The end of the body, with what it returns.
     Ended(Option<Datum>),
+    /// Undefined behaviour (C11 3.4.3).
     Undefined,
 }
 

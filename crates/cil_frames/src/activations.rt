@@ -17,14 +17,18 @@ use cil_code::{Datum, Kind};
 /// An argument of a call, with the kind of its type.
 #[derive(Drop)]
 pub struct Argument {
+    /// The kind of its type, if it has one.
     pub kind: Option<Kind>,
+    /// What is passed.
     pub datum: Datum,
 }
 
 /// An object with automatic storage duration (C11 6.2.4p5): its number in its function, and its size in bytes.
 #[derive(Clone, Copy, Debug, PartialEq, Eq)]
 pub struct Automatic {
+    /// Its number in its function.
     pub number: LocalId,
+    /// Its size in bytes.
     pub size: u32,
 }
 

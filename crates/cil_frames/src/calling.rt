@@ -16,19 +16,22 @@ use std::alloc::Global;
 /// Where the result of a call goes: a place, and the kind of its type.
 #[derive(Clone, Copy, Debug, PartialEq, Eq)]
 pub struct Destination {
+    /// The address of the place.
     pub place: Value,
+    /// The kind of its type, if it has one.
     pub kind: Option<Kind>,
 }
 
 /// The parts of a call, evaluated (C11 6.5.2.2p4, p10).
 #[derive(Drop)]
 pub struct Evaluated {
-    /// None where the result is not stored.
+    /// Where the result goes, none where it is not stored.
     pub to: Option<Destination>,
     /// What is called.
     pub callee: Value,
     /// The kind of the result that the caller's types ask for.
     pub result: Option<Kind>,
+    /// What is passed, in order.
     pub arguments: Vec<Argument>,
 }
 

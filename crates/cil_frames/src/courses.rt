@@ -27,6 +27,7 @@ pub enum Stop {
 pub enum Pace {
     /// A place, from which the course goes on.
     On(usize),
+    /// Nowhere: the course stops.
     Stopped(Stop),
 }
 

@@ -10,6 +10,7 @@ pub struct Function {
     pub code: Vec<Step>,
     /// The kinds of its parameters, which are its first objects.
     pub parameters: Vec<Option<Kind>>,
+    /// The kind of its result.
     pub result: Option<Kind>,
     /// Its other objects with automatic storage duration.
     pub objects: Vec<Automatic>,
@@ -32,8 +33,12 @@ pub enum Entity {
 /// the result goes.
 #[derive(Clone, Copy, Debug, PartialEq, Eq)]
 pub struct Frame {
+    /// The number of its function's entity.
     pub function: usize,
+    /// Its number.
     pub act: u64,
+    /// The place behind the call.
     pub place: usize,
+    /// Where the result goes, if it is stored.
     pub to: Option<Destination>,
 }

@@ -1,4 +1,5 @@
-//! The machine that runs CIL programs, over the whole language; so far its expressions and places.
+//! The expressions and places of the machine that runs CIL programs, over the whole language, and the stores that its
+//! instructions make.
 //!
 //! A function's expressions and lvalues are resolved once, by `resolve` and `resolve_place`: types become scalars,
 //! kinds and sizes, members offsets, and globals the run's numbers of their entities. Then `term_value` and

@@ -29,8 +29,11 @@ use type_graph::{Node, QualType, TypeGraph};
 /// What a function's expressions are resolved by.
 #[derive(Clone, Copy)]
 pub struct Setting<'a> {
+    /// Where the terms' memory comes from.
     pub alloc: Global,
+    /// What the function's body sees: its program, the names and the body.
     pub scope: Scope<'a>,
+    /// The layouts of the program's types.
     pub layouts: &'a Layouts,
     /// The run's number of each global.
     pub entities: &'a [u32],
@@ -39,14 +42,18 @@ pub struct Setting<'a> {
 /// A resolved expression, with its type if it has one.
 #[derive(Drop)]
 pub struct Typed {
+    /// What gives its value.
     pub term: Term,
+    /// Its type, if it has one.
     pub ty: Option<Seen>,
 }
 
 /// A resolved place, with its type if it has one.
 #[derive(Drop)]
 pub struct TypedSpot {
+    /// What gives its address.
     pub spot: Spot,
+    /// Its type, if it has one.
     pub ty: Option<TypeId>,
 }
 

@@ -12,8 +12,8 @@ use Rattle.execution.specs.Jumps.{ToLabel, Entry, Signal, Normal, Broken, Jumped
 use Rattle.execution.specs.Calls.{Enter}
 use Rattle.execution.specs.Likeness.{Ending, Exact, Past, Later, Like, Same, LikeSignal, LikeGoer, Grows, Needs, Along}
 use Rattle.execution.specs.Bounds.{cut_at, Twins, twins, Tied, Calm, Guarded, TiedSteps, CalmStep}
-use Rattle.execution.proofs.Congruence.{later_refl, later_trans, needs, always, bind_like, bind_grows, seq_like, if_like, switch_like, turned_grows, turn_ends_like, loop_like, caught_like, spending_grows}
-use Rattle.execution.proofs.FixedPoint.{calm_grows, spend_tied, needed, meaning_is, meanings_tied}
+use Rattle.execution.proofs.Congruence.{later_refl, later_trans, needs, needed, always, bind_like, bind_grows, seq_like, if_like, switch_like, turned_grows, turn_ends_like, loop_like, caught_like, spending_grows}
+use Rattle.execution.proofs.FixedPoint.{calm_grows, spend_tied, meaning_is, meanings_tied}
 use Rattle.execution.proofs.Twins.{like_weaker, signal_same, signal_like, signals_wider, at_twin, goes_tied, undefined_tied, given_tied, pure_tied, along_same, carried, spending_tied}
 use Rattle.cil_tree.specs.Tree as tree
 use Rattle.cil_tree.specs.Tree.{Exp, Lval, Callee, Instr, Set, Zero, Stmt, Do, If, Switch, Loop, Block, Label, Case, Default, Goto, Break, Return, Stmts, Done, Seq}

@@ -11,8 +11,11 @@ use layout_lp64::Layouts;
 /// A program of a run that is loaded.
 #[derive(Clone, Copy)]
 pub struct Loaded<'a> {
+    /// Its tree.
     pub unit: &'a CilUnit,
+    /// The pool of its names.
     pub names: &'a NamePool,
+    /// The layouts of its types.
     pub layouts: &'a Layouts,
     /// The run's number of each global.
     pub entities: &'a [u32],
@@ -21,6 +24,7 @@ pub struct Loaded<'a> {
 /// All programs of a run, linked and loaded.
 #[derive(Clone, Copy)]
 pub struct LoadedUnits<'a> {
+    /// The programs, which are linked.
     pub linked: Units<'a>,
     /// The layouts of each program's types.
     pub layouts: &'a [Layouts],

@@ -12,7 +12,9 @@ use std::alloc::Global;
 #[derive(Drop)]
 pub struct Run {
     pub(crate) alloc: Global,
+    /// Its memory.
     pub mem: Store,
+    /// Its input and output.
     pub streams: Streams,
     /// The units that are left.
     pub left: u64,
@@ -46,15 +48,20 @@ impl Run {
 pub struct FirstCall {
     /// The number of an entity.
     pub callee: u32,
+    /// The kind of the result that is asked for.
     pub result: Option<Kind>,
+    /// What is passed, in order.
     pub arguments: Vec<Argument>,
 }
 
 /// Where a machine stands: at a place of a function's steps, in an activation.
 #[derive(Clone, Copy, Debug, PartialEq, Eq)]
 pub struct Stand {
+    /// The number of the function's entity.
     pub function: usize,
+    /// The number of the activation.
     pub act: u64,
+    /// The place of the step that is next.
     pub place: usize,
 }
 

@@ -1,5 +1,5 @@
 -- Device: calls in a program whose bodies are tame have a meaning that is a fixed point, and units more only continue them.
-use Rattle.std.proofs.Common.{◌≡◌, ℕ, zero, suc, ◌+◌, ◌<◌, ◌≤◌, Bool, true, false, List, [], ◌∷◌, Option, Some, None, map, slice_get, refl, arith}
+use Rattle.std.proofs.Common.{◌≡◌, ℕ, zero, suc, ◌+◌, ◌<◌, ◌≤◌, Bool, List, [], ◌∷◌, Option, Some, None, map, slice_get, refl, sym, subst, arith}
 use Rattle.cil_base.specs.Outcome.{IsPrefix}
 use Rattle.cil_base.proofs.OutcomeLaws.{IsPrefix-trans}
 use Rattle.byte_mem.specs.Steps.{◌>>=◌}
@@ -8,16 +8,18 @@ use Rattle.host_calls.specs.declared.calls.HostResult.{HostResult}
 use Rattle.host_calls.specs.declared.calls.HostResult.TheVariants.{Value as Gives, Exit as Ends, Undefined as Breaks, NeedsInput, Memory as WantOfMemory}
 use Rattle.host_calls.specs.Host.{HostState, host}
 use Rattle.execution.specs.States.{State, Result, last, with_left, with_memory}
+use Rattle.execution.specs.Unrolling.{unrolled}
 use Rattle.execution.specs.Data.{Datum, Single, Argument, Automatic, with_objects, without_objects}
 use Rattle.execution.specs.Jumps.{Signal}
-use Rattle.execution.specs.Calls.{Call, Enter, Function, Meaning, Object, Code, Host, Linked, leaves, number_of, scoped, returns, numbers, begun, activated, matches, entered, host_state, after_host, host_gave, host_outcome, scalar_arguments, scalar_result, host_called, called, entity_at, meant, call_step, calls}
-use Rattle.execution.specs.Likeness.{Later, Like, LikeSignal, Same, Grows, Needs}
+use Rattle.execution.specs.Calls.{Call, Enter, Function, Meaning, Object, Code, Host, Linked, number_of, scoped, returns, numbers, begun, activated, matches, entered, host_state, after_host, host_gave, host_outcome, scalar_arguments, host_called, called, entity_at, meant, call_step, calls}
+use Rattle.execution.specs.Likeness.{Exact, Later, Like, LikeSignal, Same, Grows, Needs}
 use Rattle.execution.specs.Bounds.{cut_at, Twins, twins, Tied, Calm, Guarded, Tame, IsTame, AllTame}
-use Rattle.execution.proofs.Congruence.{needs}
-use Rattle.execution.proofs.FixedPoint.{calm_grows, spend_tied, meaning_is, meaning_calm, meaning_tied}
-use Rattle.execution.proofs.Twins.{like_weaker, signal_like, at_twin, undefined_tied, given_tied}
+use Rattle.execution.proofs.Congruence.{needs, within_itself, gives_itself}
+use Rattle.execution.proofs.FixedPoint.{calm_grows, spend_tied, unrolled_calm, guarded_calm, meaning_is, meaning_calm, meaning_tied}
+use Rattle.execution.proofs.Twins.{like_weaker, signal_like, at_twin, undefined_tied}
 use Rattle.execution.proofs.HostOutput.{host_adds}
-use Rattle.execution.proofs.CallCongruence.{leaves_grows, leaves_like, scoped_like, returns_like}
+use Rattle.execution.proofs.CallCongruence.{leaves_grows, scoped_like, returns_like, activated_like, entered_like}
+use Rattle.execution.proofs.HostCongruence.{host_like}
 
 -- objects, and what a body returns
 
@@ -27,13 +29,10 @@ twins_without n more base act ns s t tw = at_twin n more base s t (λ z. Twins n
 twins_within : (n more : ℕ) (base : List ℕ) (act : ℕ) (xs : List Automatic) (s t : State) → Twins n more base s t → Twins n more base (with_memory s (with_objects act xs s.memory)) (with_memory t (with_objects act xs t.memory))
 twins_within n more base act xs s t tw = at_twin n more base s t (λ z. Twins n more base (with_memory s (with_objects act xs s.memory)) (with_memory z (with_objects act xs z.memory))) tw (tw.0, refl, tw.2)
 
-pub leaves_tied : {A B : Type 0} (R : A → B → Type 0) (n more : ℕ) (base : List ℕ) (act : ℕ) (ns : List ℕ) (r : Result A) (q : Result B) → Like (twins n more base) R r q → Like (twins n more base) R (leaves act ns r) (leaves act ns q)
-leaves_tied R n more base act ns r q l = leaves_like (twins n more base) R act act ns ns r q (twins_without n more base act ns) l
-
 pub scoped_tied : {A B : Type 0} (R : A → B → Type 0) (n more : ℕ) (base : List ℕ) (act : ℕ) (objects : List Automatic) (go : State → Result A) (to : State → Result B) (s t : State) → Twins n more base s t
     → ((u v : State) → Twins n more base u v → Like (twins n more base) R (go u) (to v)) → Like (twins n more base) R (scoped act objects go s) (scoped act objects to t)
 scoped_tied R n more base act objects go to s t tw k =
-    scoped_like (twins n more base) R act act objects objects go to (twins_within n more base act objects) (twins_without n more base act (map number_of objects)) k s t tw
+    scoped_like (twins n more base) (twins n more base) R act act objects objects go to (within_itself (twins n more base)) (twins_within n more base act objects) (twins_without n more base act (map number_of objects)) k s t tw
 
 pub returns_tied : (n more : ℕ) (base : List ℕ) (end : Datum) (r q : Result Signal) → Like (twins n more base) Same r q → Like (twins n more base) Same (returns end r) (returns end q)
 returns_tied n more base end r q l =
@@ -51,9 +50,10 @@ gave_tied n more base name s WantOfMemory h few old new = (with_left s (s.left +
 
 host_tied : (n more : ℕ) (base : List ℕ) (name : HostName) (c : Call) (s t : State) → Twins n more base s t → Like (twins n more base) Same (host_called name c s) (host_called name c t)
 host_tied n more base name c s t tw =
-    given_tied Same n more base s t (scalar_result c.result) _ _ tw (λ wanted. given_tied Same n more base s t (scalar_arguments c.arguments) _ _ tw (λ args.
-    at_twin n more base s t (λ z. Like (twins n more base) Same (host_outcome name s (host c.abi name wanted args (host_state s))) (host_outcome name z (host c.abi name wanted args (host_state z)))) tw
-    (gave_tied n more base name s (host c.abi name wanted args (host_state s)).0 (host c.abi name wanted args (host_state s)).1 tw.0 tw.2 (host_adds c.abi name wanted args (host_state s)))))
+    at_twin n more base s t (λ z. Like (twins n more base) Same (host_called name c s) (host_called name c z)) tw
+    (host_like (twins n more base) Same name c c s (with_left s (s.left + more)) refl (gives_itself Exact (scalar_arguments c.arguments)) (with_left s (s.left + more), (tw.0, refl, tw.2), refl) (λ wanted xs ys e.
+    subst (λ z. Like (twins n more base) Same (host_outcome name s (host c.abi name wanted xs (host_state s))) (host_outcome name (with_left s (s.left + more)) (host c.abi name wanted z (host_state s)))) (sym e)
+    (gave_tied n more base name s (host c.abi name wanted xs (host_state s)).0 (host c.abi name wanted xs (host_state s)).1 tw.0 tw.2 (host_adds c.abi name wanted xs (host_state s)))))
 
 -- a function of a unit
 
@@ -67,17 +67,17 @@ activated_tied : (n more : ℕ) (base : List ℕ) (f : Function) (enter also : E
     → Like (twins n more base) Same (activated enter f arguments s) (activated also f arguments t)
 activated_tied n more base f enter also arguments k s t tw =
     at_twin n more base s t (λ z. Like (twins n more base) Same (activated enter f arguments s) (activated also f arguments z)) tw
-    (leaves_tied Same n more base s.next (numbers 0 arguments) (f.body enter s.next (begun f.abi arguments s)) (f.body also s.next (begun f.abi arguments (with_left s (s.left + more))))
-    (k s.next (begun f.abi arguments s) (begun f.abi arguments (with_left s (s.left + more))) (tw.0, refl, tw.2)))
+    (activated_like (twins n more base) (twins n more base) f f enter also arguments arguments s (with_left s (s.left + more)) (within_itself (twins n more base)) (tw.0, refl, tw.2)
+    (twins_without n more base s.next (numbers 0 arguments)) (k s.next))
 
 entered_tied : (n more : ℕ) (base : List ℕ) (ok : Bool) (f : Function) (enter also : Enter) (arguments : List Argument) → Tame f.body → Needs (cut_at more) (Calm also) → ((m : ℕ) → m < n → Tied m more base enter also) → (s t : State) → Twins n more base s t
     → Like (twins n more base) Same (entered ok enter f arguments s) (entered ok also f arguments t)
-entered_tied n more base false f enter also arguments tame calm k s t tw = undefined_tied Same n more base s t tw
-entered_tied n more base true f enter also arguments tame calm k s t tw =
+entered_tied n more base ok f enter also arguments tame calm k s t tw =
+    entered_like (twins n more base) ok f f enter also arguments arguments s t (t, tw, refl) (λ e.
     spend_tied Same n more base (activated enter f arguments) (activated also f arguments) s t tw
     (needs (cut_at more) (λ c. activated_grows f also arguments (calm_grows (f.body also) (body_calm f.body also tame c))) calm)
     (λ m u v l w. activated_tied m more base f enter also arguments
-    (tame m more base enter also calm (λ j h. let small : j < n = omega arith in k j small)) u v w)
+    (tame m more base enter also calm (λ j h. let small : j < n = omega arith in k j small)) u v w))
 
 called_tied : (n more : ℕ) (base : List ℕ) (m : Option Meaning) (enter also : Enter) (c : Call) → IsTame m → Needs (cut_at more) (Calm also) → ((m : ℕ) → m < n → Tied m more base enter also) → (s t : State) → Twins n more base s t
     → Like (twins n more base) Same (called enter m c s) (called also m c t)
@@ -108,3 +108,6 @@ calls_tied link h = meaning_tied (call_step link) (call_guarded link h)
 
 pub calls_calm : (link : Linked) → AllTame link → Calm (calls link)
 calls_calm link h = meaning_calm (call_step link) (call_guarded link h)
+
+pub calls_grow : (link : Linked) → AllTame link → (n : ℕ) → Grows (unrolled (call_step link) n)
+calls_grow link h n = calm_grows (unrolled (call_step link) n) (unrolled_calm (call_step link) (guarded_calm (call_step link) (call_guarded link h)) n)

@@ -1,10 +1,12 @@
 -- Device: each combinator keeps likeness.
-use Rattle.std.proofs.Common.{◌≡◌, ℕ, zero, suc, Bool, true, false, if◌then◌else◌, Some, None, ℤ, refl, sym, ap, ◌∙◌, subst, arith}
+use Rattle.std.proofs.Common.{◌≡◌, ℕ, zero, suc, Bool, true, false, if◌then◌else◌, Option, Some, None, ℤ, refl, sym, ap, ◌∙◌, subst, arith}
 use Rattle.std.proofs.Math.Nat.{le_trans}
 use Rattle.cil_base.proofs.OutcomeLaws.{IsPrefix-refl, IsPrefix-trans}
-use Rattle.execution.specs.States.{State, Result, Goes, Exits, Running, Undefined, bind, spend, spent, last, with_left}
+use Rattle.byte_mem.specs.Steps.{◌>>=◌}
+use Rattle.execution.specs.States.{State, Result, Goes, Exits, Running, Undefined, bind, given, spend, spent, last, with_left}
+use Rattle.execution.specs.Unrolling.{Step, unrolled, meaning}
 use Rattle.execution.specs.Jumps.{Target, ToCase, ToDefault, Entry, Signal, Normal, Broken, Jumped, Returned, Has, Goer, jumped, after, behind, jumping, spending, across, caught, seq_at, seq_from, chosen, if_from, case_for, broken_off, switch_ends, switched, switch_from, turned, turn_ends, turn, loop_from}
-use Rattle.execution.specs.Likeness.{Ending, Exact, Past, Later, Likeness, ends, Like, Targets, Same, LikeSignal, LikeGoer, Grows, Needs, Carries, Along}
+use Rattle.execution.specs.Likeness.{Ending, Exact, Past, Later, Likeness, ends, Like, Within, Gives, Alike, Targets, Same, LikeSignal, LikeGoer, Grows, Needs, Carries, Along}
 
 pub later_refl : (s : State) → Later s s
 later_refl s = record { written = IsPrefix-refl s.out; spent = omega arith }
@@ -24,6 +26,10 @@ pub needs : {X Y : Type 0} (e : Ending) → (X → Y) → Needs e X → Needs e 
 needs Exact f x = tt
 needs Past f x = f x
 
+pub needed : {X : Type 0} (e : Ending) → X → Needs e X
+needed Exact x = tt
+needed Past x = x
+
 pub carries : {A B C D : Type 0} (L : Likeness) (to : A → State → Result B) (also : C → State → Result D) → (Grows to → Grows also) → Carries L to → Carries L also
 carries L to also f g = record { cut = needs L.cut f g.cut; wild = needs L.wild f g.wild }
 
@@ -41,12 +47,69 @@ ended : {C D : Type 0} (e : Ending) (L : Likeness) (end : State → Result C) (s
 ended Exact L end stop s q to d g h = (h.0, h.1, ap (λ x. bind x to) h.2 ∙ d h.0)
 ended Past L end stop s q to d g h = L.later s (last q) (last (bind q to)) h (bind_grows q to g)
 
+pub ends_within : {B : Type 0} (M L : Likeness) → Within M L → (d e : Ending) → d ≡ e → (end : State → Result B) (s : State) (q : Result B) → ends d M end s q → ends e L end s q
+ends_within {B} M L w d e i end s q h = subst (λ x. ends {B = B} x L end s q) i (by d h)
+  where
+    by : (d : Ending) → ends {B = B} d M end s q → ends {B = B} d L end s q
+    by Exact h = (h.0, w.ended s h.0 h.1, h.2)
+    by Past h = w.past s (last q) h
+
+pub within_itself : (L : Likeness) → Within L L
+within_itself L = record { ended = λ s t h. h; past = λ s t h. h; cut = refl; wild = refl }
+
+-- the first part is alike by M, and what comes behind it by L
+pub bind_into : {A B C D : Type 0} (M L : Likeness) (R : A → C → Type 0) (S : B → D → Type 0) (r : Result A) (q : Result C) (go : A → State → Result B) (to : C → State → Result D)
+    → Within M L → Like M R r q → ((a : A) (b : C) (s t : State) → R a b → M.states s t → Like L S (go a s) (to b t)) → Carries L to → Like L S (bind r go) (bind q to)
+bind_into M L R S (Goes a s) q go to w h k g = subst (λ x. Like L S (go a s) (bind x to)) (sym h.4) (k a h.0 s h.1 h.2 h.3)
+bind_into M L R S (Exits status s) q go to w h k g = (h.0, w.ended s h.0 h.1, ap (λ x. bind x to) h.2)
+bind_into {A} {B} {C} {D} M L R S (Running s) q go to w h k g = ended {C = C} {D = D} L.cut L Running Running s q to (λ t. refl) g.cut (ends_within M L w M.cut L.cut w.cut Running s q h)
+bind_into {A} {B} {C} {D} M L R S (Undefined s) q go to w h k g = ended {C = C} {D = D} L.wild L Undefined Undefined s q to (λ t. refl) g.wild (ends_within M L w M.wild L.wild w.wild Undefined s q h)
+
 pub bind_like : {A B C D : Type 0} (L : Likeness) (R : A → C → Type 0) (S : B → D → Type 0) (r : Result A) (q : Result C) (go : A → State → Result B) (to : C → State → Result D)
     → Like L R r q → ((a : A) (b : C) (s t : State) → R a b → L.states s t → Like L S (go a s) (to b t)) → Carries L to → Like L S (bind r go) (bind q to)
-bind_like L R S (Goes a s) q go to h k g = subst (λ x. Like L S (go a s) (bind x to)) (sym h.4) (k a h.0 s h.1 h.2 h.3)
-bind_like L R S (Exits status s) q go to h k g = (h.0, h.1, ap (λ x. bind x to) h.2)
-bind_like {A} {B} {C} {D} L R S (Running s) q go to h k g = ended {C = C} {D = D} L.cut L Running Running s q to (λ t. refl) g.cut h
-bind_like {A} {B} {C} {D} L R S (Undefined s) q go to h k g = ended {C = C} {D = D} L.wild L Undefined Undefined s q to (λ t. refl) g.wild h
+bind_like L R S r q go to = bind_into L L R S r q go to (within_itself L)
+
+-- alike in more is alike in less
+pub like_wider : {A B : Type 0} (M L : Likeness) (R S : A → B → Type 0) (r : Result A) (q : Result B)
+    → Within M L → ((s t : State) → M.states s t → L.states s t) → ((a : A) (b : B) → R a b → S a b) → Like M R r q → Like L S r q
+like_wider M L R S (Goes a s) q w n f h = (h.0, h.1, f a h.0 h.2, n s h.1 h.3, h.4)
+like_wider M L R S (Exits status s) q w n f h = (h.0, w.ended s h.0 h.1, h.2)
+like_wider M L R S (Running s) q w n f h = ends_within M L w M.cut L.cut w.cut Running s q h
+like_wider M L R S (Undefined s) q w n f h = ends_within M L w M.wild L.wild w.wild Undefined s q h
+
+-- computations
+
+pub gives_itself : {A : Type 0} (e : Ending) (o : Option A) → Gives e Same o o
+gives_itself e (Some a) = (a, refl, refl)
+gives_itself Exact None = refl
+gives_itself Past None = tt
+
+-- what is undefined on both sides may be anything too
+pub gives_so : {A B : Type 0} (e : Ending) (R : A → B → Type 0) (o : Option A) (u : Option B) → Gives Exact R o u → Gives e R o u
+gives_so e R (Some a) u g = g
+gives_so Exact R None u g = g
+gives_so Past R None u g = tt
+
+pub gives_bind : {A B C D : Type 0} (e : Ending) (R : A → C → Type 0) (S : B → D → Type 0) (o : Option A) (u : Option C) (go : A → Option B) (to : C → Option D)
+    → Gives e R o u → ((a : A) (c : C) → R a c → Gives e S (go a) (to c)) → Gives e S (o >>= go) (u >>= to)
+gives_bind e R S (Some a) u go to g k = subst (λ z. Gives e S (go a) (z >>= to)) (sym g.2) (k a g.0 g.1)
+gives_bind Exact R S None u go to g k = ap (λ z. z >>= to) g
+gives_bind Past R S None u go to g k = tt
+
+-- what is done with what they give
+pub given_grows : {A B : Type 0} (s : State) (o : Option A) (to : A → Result B) → ((a : A) → Later s (last (to a))) → Later s (last (given s o to))
+given_grows s (Some a) to g = g a
+given_grows s None to g = later_refl s
+
+pub given_like : {A B C D : Type 0} (L : Likeness) (Q : A → C → Type 0) (R : B → D → Type 0) (s t : State) (o : Option A) (u : Option C) (go : A → Result B) (to : C → Result D)
+    → Gives L.wild Q o u → ((a : A) (c : C) → Q a c → Like L R (go a) (to c)) → ends {B = D} L.wild L Undefined s (Undefined t) → Needs L.wild ((c : C) → Later t (last (to c)))
+    → Like L R (given s o go) (given t u to)
+given_like L Q R s t (Some a) u go to g k w m = subst (λ z. Like L R (go a) (given t z to)) (sym g.2) (k a g.0 g.1)
+given_like {A} {B} {C} {D} L Q R s t None u go to g k w m = by L.wild g w m
+  where
+    by : (e : Ending) → Gives e Q None u → ends {B = D} e L Undefined s (Undefined t) → Needs e ((c : C) → Later t (last (to c))) → ends {B = D} e L Undefined s (given t u to)
+    by Exact g w m = (w.0, w.1, ap (λ z. given t z to) g ∙ w.2)
+    by Past g w m = L.later s t (last (given t u to)) w (given_grows t u to m)
 
 -- jumps
 
@@ -154,11 +217,7 @@ broken_off_grows (Jumped x) s = later_refl s
 broken_off_grows (Returned v) s = later_refl s
 
 pub always : {A B : Type 0} (L : Likeness) (to : A → State → Result B) → Grows to → Carries L to
-always L to g = record { cut = by L.cut; wild = by L.wild }
-  where
-    by : (e : Ending) → Needs e (Grows to)
-    by Exact = tt
-    by Past = g
+always L to g = record { cut = needed L.cut g; wild = needed L.wild g }
 
 pub switch_ends_like : (L : Likeness) (d : Targets) (r q : Result Signal) → Like L (LikeSignal L d) r q → Like L (LikeSignal L d) (switch_ends r) (switch_ends q)
 switch_ends_like L d r q h = bind_like L (LikeSignal L d) (LikeSignal L d) r q broken_off broken_off h step (always L broken_off broken_off_grows)
@@ -258,3 +317,15 @@ spending_along L c d has also go to even lower stop l = record {
   out = l.out;
   grows = carries L to (spending to) (spending_grows to) l.grows;
 }
+
+-- the meanings of steps that are alike are alike, where as many units are left on both sides
+pub meanings_like : {I X Y A B : Type 0} (L : I → Likeness) (Q : I → X → Y → Type 0) (R : I → A → B → Type 0) (step : Step X A) (other : Step Y B)
+    → ((i : I) (s t : State) → (L i).states s t → t.left ≡ s.left) → ((i : I) (s t : State) → (L i).states s t → ends {B = B} (L i).cut (L i) Running s (Running t))
+    → ((n : ℕ) → Grows (unrolled other n)) → ((go : X → State → Result A) (to : Y → State → Result B) → Grows to → Grows (other to) → Alike L Q R go to → Alike L Q R (step go) (other to))
+    → Alike L Q R (meaning step) (meaning other)
+meanings_like {I} {X} {Y} {A} {B} L Q R step other even stop grows k i x y s t q h =
+    subst (λ m. Like (L i) (R i) (meaning step x s) (unrolled other (suc m) y t)) (sym (even i s t h)) (by (suc s.left) i x y s t q h)
+  where
+    by : (n : ℕ) → Alike L Q R (unrolled step n) (unrolled other n)
+    by zero i x y s t q h = stop i s t h
+    by (suc n) i x y s t q h = k (unrolled step n) (unrolled other n) (grows n) (grows (suc n)) (by n) i x y s t q h

@@ -3,8 +3,9 @@ use Rattle.std.proofs.Common.{◌≡◌, ℕ, zero, suc, ◌+◌, ◌<◌, ◌�
 use Rattle.cil_base.proofs.OutcomeLaws.{IsPrefix-refl}
 use Rattle.execution.specs.States.{State, Result, Goes, Exits, Running, Undefined, last, with_left, spent, spend}
 use Rattle.execution.specs.Unrolling.{Step, unrolled, meaning}
-use Rattle.execution.specs.Likeness.{Ending, Exact, Past, Later, ends, Like, Same, Grows, Needs}
+use Rattle.execution.specs.Likeness.{Ending, Exact, Past, Later, Like, Same, Grows, Needs}
 use Rattle.execution.specs.Bounds.{cut_at, PastBound, Twins, twins, Tied, Calm, Guarded, TiedSteps, CalmStep}
+use Rattle.execution.proofs.Congruence.{needed, like_wider}
 
 states_wider : (m n more : ℕ) (base : List ℕ) (s t : State) → m ≤ n → Twins m more base s t → Twins n more base s t
 states_wider m n more base s t h tw =
@@ -14,15 +15,8 @@ states_wider m n more base s t h tw =
 
 -- more units are no less
 pub twins_wider : {A B : Type 0} (R : A → B → Type 0) (m n more : ℕ) (base : List ℕ) (r : Result A) (q : Result B) → m ≤ n → Like (twins m more base) R r q → Like (twins n more base) R r q
-twins_wider R m n more base (Goes a s) q h l =
-    (l.0, l.1, l.2, states_wider m n more base s l.1 h l.3, l.4)
-twins_wider R m n more base (Exits status s) q h l = (l.0, states_wider m n more base s l.0 h l.1, l.2)
-twins_wider R m n more base (Running s) q h l = ends_wider (cut_at more) l
-  where
-    ends_wider : (e : Ending) → ends {B = _} e (twins m more base) Running s q → ends {B = _} e (twins n more base) Running s q
-    ends_wider Exact l = (l.0, states_wider m n more base s l.0 h l.1, l.2)
-    ends_wider Past l = l
-twins_wider R m n more base (Undefined s) q h l = (l.0, states_wider m n more base s l.0 h l.1, l.2)
+twins_wider R m n more base r q h =
+    like_wider (twins m more base) (twins n more base) R R r q (record { ended = λ s t. states_wider m n more base s t h; past = λ s t p. p; cut = refl; wild = refl }) (λ s t. states_wider m n more base s t h) (λ a b i. i)
 
 -- a state is its own twin
 pub itself : (n : ℕ) (s : State) → s.left ≤ n → Twins n 0 s.out s s
@@ -85,10 +79,6 @@ guarded_tied step g top more base n go to l = g n more base go to
 pub unrolled_tied : {X A : Type 0} (step : Step X A) (more : ℕ) (base : List ℕ) → Guarded step → Needs (cut_at more) ((j : ℕ) → Calm (unrolled step j))
     → (i j n : ℕ) → n < i → n + more < j → Tied n more base (unrolled step i) (unrolled step j)
 unrolled_tied step more base g c i j n = pairs_tied step step n more base (guarded_tied step g n more base) c i j n (omega arith)
-
-pub needed : {X : Type 0} (e : Ending) → X → Needs e X
-needed Exact x = tt
-needed Past x = x
 
 -- the meanings of steps that are alike are alike
 pub meanings_tied : {X A : Type 0} (step other : Step X A) (top more : ℕ) (base : List ℕ) → TiedSteps top more base step other → Needs (cut_at more) (CalmStep other) → (n : ℕ) → n ≤ top → Tied n more base (meaning step) (meaning other)

@@ -3,7 +3,9 @@ pub mod CallCongruence
 pub mod FixedPoint
 pub mod Twins
 pub mod HostOutput
+pub mod HostCongruence
 pub mod CallLaws
+pub mod Ordered
 pub mod LinkLaws
 pub mod RunLaws
 pub mod Quiet

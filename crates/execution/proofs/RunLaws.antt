@@ -22,14 +22,14 @@ cuts_itself (StillRunning out) = IsPrefix-refl out
 cuts_itself (WentUndefined out) = refl
 
 -- an outcome has the output of the result
-status_output : (d : Datum) (out : List ℕ) → written (status_of d out) ≡ out
+pub status_output : (d : Datum) (out : List ℕ) → written (status_of d out) ≡ out
 status_output (Single (Int v)) out = refl
 status_output (Single (Ptr p)) out = refl
 status_output (Single Unknown) out = refl
 status_output (Single (Part p k)) out = refl
 status_output (Bytes bytes) out = refl
 
-outcome_output : (r : Result Datum) → written (outcome_of r) ≡ output r
+pub outcome_output : (r : Result Datum) → written (outcome_of r) ≡ output r
 outcome_output (Goes d s) = status_output d s.out
 outcome_output (Exits status s) = refl
 outcome_output (Running s) = refl

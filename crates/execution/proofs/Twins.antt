@@ -1,18 +1,15 @@
 -- Device: likeness of runs that differ in their bounds alone.
 use Rattle.std.proofs.Common.{◌≡◌, ℕ, ◌+◌, ◌<◌, List, Option, Some, None, refl, sym, ap, ◌∙◌, subst}
 use Rattle.byte_mem.specs.Memory.{Memory}
-use Rattle.execution.specs.States.{State, Result, Goes, Exits, Running, Undefined, given, pure, last, with_left, with_memory}
+use Rattle.execution.specs.States.{State, Result, Goes, Undefined, given, pure, last, with_left, with_memory}
 use Rattle.execution.specs.Jumps.{Signal, Normal, Broken, Jumped, Returned, Has, Goer, spending}
-use Rattle.execution.specs.Likeness.{Later, Likeness, Like, Same, LikeSignal, LikeGoer, Grows, Needs, Carries, Along}
+use Rattle.execution.specs.Likeness.{Exact, Later, Likeness, Like, Same, LikeSignal, LikeGoer, Grows, Needs, Carries, Along}
 use Rattle.execution.specs.Bounds.{cut_at, Twins, twins}
-use Rattle.execution.proofs.Congruence.{needs}
+use Rattle.execution.proofs.Congruence.{needs, within_itself, like_wider, gives_itself, given_like}
 use Rattle.execution.proofs.FixedPoint.{spend_tied}
 
 pub like_weaker : {A B : Type 0} (L : Likeness) (R S : A → B → Type 0) (r : Result A) (q : Result B) → ((a : A) (b : B) → R a b → S a b) → Like L R r q → Like L S r q
-like_weaker L R S (Goes a s) q f l = (l.0, l.1, f a l.0 l.2, l.3, l.4)
-like_weaker L R S (Exits status s) q f l = l
-like_weaker L R S (Running s) q f l = l
-like_weaker L R S (Undefined s) q f l = l
+like_weaker L R S r q f = like_wider L L R S r q (within_itself L) (λ s t n. n) f
 
 -- signals that are alike, with the same data and targets, are the same
 pub signal_same : (n more : ℕ) (base : List ℕ) (a b : Signal) → LikeSignal (twins n more base) Same a b → b ≡ a
@@ -45,8 +42,8 @@ undefined_tied R n more base s t tw = (t, tw, refl)
 
 pub given_tied : {A B C : Type 0} (R : B → C → Type 0) (n more : ℕ) (base : List ℕ) (s t : State) (o : Option A) (go : A → Result B) (to : A → Result C) → Twins n more base s t
     → ((a : A) → Like (twins n more base) R (go a) (to a)) → Like (twins n more base) R (given s o go) (given t o to)
-given_tied R n more base s t (Some a) go to tw k = k a
-given_tied R n more base s t None go to tw k = undefined_tied R n more base s t tw
+given_tied R n more base s t o go to tw k =
+    given_like (twins n more base) Same R s t o o go to (gives_itself Exact o) (λ a c e. subst (λ z. Like (twins n more base) R (go a) (to z)) (sym e) (k a)) (t, tw, refl) tt
 
 pub pure_tied : {A : Type 0} (n more : ℕ) (base : List ℕ) (s t : State) (o : Option A) → Twins n more base s t → Like (twins n more base) Same (pure s o) (pure t o)
 pure_tied n more base s t (Some a) tw = goes_tied Same n more base s t a a refl tw

@@ -28,7 +28,7 @@ pub past_later : (more : ℕ) (s t u : State) → PastBound more s t → Later t
 past_later more s t u p l = record { written = IsPrefix-trans s.out t.out u.out p.written l.written; spent = le_trans l.spent p.spent }
 
 abbrev pub twins : ℕ → ℕ → List ℕ → Likeness
-twins n more base = record { states = Twins n more base; values = Same; past = PastBound more; later = past_later more; cut = cut_at more; wild = Exact }
+twins n more base = record { states = Twins n more base; ended = Twins n more base; values = Same; past = PastBound more; later = past_later more; cut = cut_at more; wild = Exact }
 
 -- two functions are alike from states with at most n units
 abbrev pub Tied : {X A : Type 0} → ℕ → ℕ → List ℕ → (X → State → Result A) → (X → State → Result A) → Type 0

@@ -1,9 +1,13 @@
 -- Device: what it means that two runs are alike: the form in which each combinator's congruence is stated, once for the fixed point, for bounds and for translations.
-use Rattle.std.specs.Prelude.{◌≡◌, ◌≤◌, true, false, Option, Some, None}
+use Rattle.std.specs.Prelude.{◌≡◌, ◌≤◌, true, false, List, [], ◌∷◌, Option, Some, None}
 use Rattle.cil_base.specs.Outcome.{IsPrefix}
+use Rattle.byte_mem.specs.declared.values.Byte.{Byte}
+use Rattle.byte_mem.specs.declared.values.Scalar.{Scalar}
+use Rattle.byte_mem.specs.declared.values.Value.{Value}
 use Rattle.execution.specs.States.{State, Result, Goes, Exits, Running, Undefined, last}
-use Rattle.execution.specs.Data.{Datum}
+use Rattle.execution.specs.Data.{Datum, Single, Bytes, Argument}
 use Rattle.execution.specs.Jumps.{Target, Signal, Normal, Broken, Jumped, Returned, Has, Goer}
+use Rattle.execution.specs.Calls.{Call, Enter, Function, Meaning, Object, Code, Host}
 
 -- what a run may come to from a state: its output only grows, and no units come
 pub record Later (s u : State) : Type 0 where
@@ -15,18 +19,19 @@ pub data Ending : Type 0 where
   Exact : Ending
   Past : Ending
 
--- which states are alike, which data are, which states are past another's end, and what the second run does where the first is at its bound, and where it is undefined
+-- which states are alike while both runs go on, and which where both end; which data are; which states are past another's end; and what the second run does where the first is at its bound, and where it is undefined
 pub record Likeness : Type 1 where
   pub states : State → State → Type 0
+  pub ended : State → State → Type 0
   pub values : Datum → Datum → Type 0
   pub past : State → State → Type 0
   pub later : (s t u : State) → past s t → Later t u → past s u
   pub cut : Ending
   pub wild : Ending
 
--- the second run ends so too, in a state that is alike
+-- the second run ends so too, in a state that is alike then
 abbrev pub EndsSo : {B : Type 0} → Likeness → (State → Result B) → State → Result B → Type 0
-EndsSo L end s q = (t : State) × L.states s t × (q ≡ end t)
+EndsSo L end s q = (t : State) × L.ended s t × (q ≡ end t)
 
 abbrev pub ends : {B : Type 0} → Ending → Likeness → (State → Result B) → State → Result B → Type 0
 ends Exact L end s q = EndsSo L end s q
@@ -38,6 +43,23 @@ Like {A} {B} L R (Goes a s) q = (b : B) × (t : State) × R a b × L.states s t 
 Like L R (Exits status s) q = EndsSo L (Exits status) s q
 Like L R (Running s) q = ends L.cut L Running s q
 Like L R (Undefined s) q = ends L.wild L Undefined s q
+
+-- runs that end in a part, alike by M, are alike by L around it
+pub record Within (M L : Likeness) : Type 0 where
+  pub ended : (s t : State) → M.ended s t → L.ended s t
+  pub past : (s t : State) → M.past s t → L.past s t
+  pub cut : M.cut ≡ L.cut
+  pub wild : M.wild ≡ L.wild
+
+-- what is computed on both sides: where the first is undefined, so is the second, or it may be anything
+abbrev pub Gives : {A B : Type 0} → Ending → (A → B → Type 0) → Option A → Option B → Type 0
+Gives {A} {B} e R (Some a) y = (b : B) × R a b × (y ≡ Some b)
+Gives Exact R None y = y ≡ None
+Gives Past R None y = Unit {0}
+
+-- for each likeness of a family: from states that are alike, and what Q relates, two parts give alike results
+abbrev pub Alike : {I X Y A B : Type 0} → (I → Likeness) → (I → X → Y → Type 0) → (I → A → B → Type 0) → (X → State → Result A) → (Y → State → Result B) → Type 0
+Alike {I} {X} {Y} L Q R go to = (i : I) (x : X) (y : Y) (s t : State) → Q i x y → (L i).states s t → Like (L i) (R i) (go x s) (to y t)
 
 -- which targets of the second side stand for one of the first
 abbrev pub Targets : Type 1
@@ -81,3 +103,45 @@ pub record Along (L : Likeness) (c d : Targets) (has also : Has) (go to : Goer) 
   pub same : (x y : Target) → c x y → also y ≡ has x
   pub out : (x y : Target) → c x y → has x ≡ false → d x y
   pub grows : Carries L to
+
+-- arguments of the same kinds, with data that are alike
+abbrev pub LikeArguments : Likeness → List Argument → List Argument → Type 0
+LikeArguments L [] [] = Unit {0}
+LikeArguments L [] (b ∷ ys) = ⊥
+LikeArguments L (a ∷ xs) [] = ⊥
+LikeArguments L (a ∷ xs) (b ∷ ys) = (b.kind ≡ a.kind) × L.values a.datum b.datum × LikeArguments L xs ys
+
+-- what the host is given of them
+abbrev pub LikeScalars : Likeness → List (Scalar × Value) → List (Scalar × Value) → Type 0
+LikeScalars L [] [] = Unit {0}
+LikeScalars L [] (b ∷ ys) = ⊥
+LikeScalars L (a ∷ xs) [] = ⊥
+LikeScalars L (a ∷ xs) (b ∷ ys) = (b.0 ≡ a.0) × L.values (Single a.1) (Single b.1) × LikeScalars L xs ys
+
+-- what is like a value is a value, and what is like bytes is bytes
+pub record KeepsForms (L : Likeness) : Type 0 where
+  pub single : (v : Value) (e : Datum) → L.values (Single v) e → (w : Value) × (e ≡ Single w)
+  pub bytes : (bs : List Byte) (e : Datum) → L.values (Bytes bs) e → (cs : List Byte) × (e ≡ Bytes cs)
+
+-- calls of the same kinds, with values that are alike
+pub record LikeCall (L : Likeness) (c d : Call) : Type 0 where
+  pub abi : d.abi ≡ c.abi
+  pub callee : L.values (Single c.callee) (Single d.callee)
+  pub result : d.result ≡ c.result
+  pub arguments : LikeArguments L c.arguments d.arguments
+
+-- so do what calls do, from calls that are alike
+abbrev pub AlikeCalls : {I : Type 0} → (I → Likeness) → Enter → Enter → Type 0
+AlikeCalls L = Alike L (λ i. LikeCall (L i)) (λ i. (L i).values)
+
+-- functions that take and give the same kinds
+pub record SameKinds (f g : Function) : Type 0 where
+  pub parameters : g.parameters ≡ f.parameters
+  pub result : g.result ≡ f.result
+
+-- names that mean functions which P relates, or the same function of the host, or objects
+abbrev pub LikeMeaning : (Function → Function → Type 0) → Meaning → Meaning → Type 0
+LikeMeaning P (Object read_only bytes) (Object also others) = Unit {0}
+LikeMeaning P (Code f) (Code g) = P f g
+LikeMeaning P (Host name) (Host also) = also ≡ name
+LikeMeaning P _ _ = ⊥
