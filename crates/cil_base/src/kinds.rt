@@ -122,6 +122,16 @@ pub enum Abi {
     Lp64,
 }
 
+/// What holds for all units that are linked into one program (own).
+#[derive(Clone, Copy, Debug, PartialEq, Eq)]
+pub struct Mode {
+    /// Whether an object may have a tentative definition in several of them (C11 6.9.2p2, J.5.11). It does not count
+    /// yet: runs are the same with it and without it.
+    pub common: bool,
+    /// Their data model.
+    pub abi: Abi,
+}
+
 impl Abi {
     /// The kind of `long`, and of `ptrdiff_t` (C11 7.19).
     pub fn long(self) -> IntKind

@@ -24,7 +24,7 @@ pub use bytes::Bytes;
 pub use constants::Constant;
 pub use conversion::wrap;
 pub use faults::{Code, Fault, Feature, Place, Refusal, RuleStop, Stop, What};
-pub use kinds::{Abi, IntKind};
+pub use kinds::{Abi, IntKind, Mode};
 pub use memory::Memory;
 pub use names::{Bases, NamePool};
 pub use numbers::{AggId, EntityId, LabelId, LocalId, NameId, TypeId, UnitNo};
