@@ -14,6 +14,7 @@ use Rattle.cil_meaning.specs.Program.{IsExp, IsProgram, depth}
 use Rattle.cil_meaning.specs.Meaning.{value_of, RunCil}
 use Rattle.cil_meaning.specs.Text.{Text}
 use Rattle.cil_semantics.specs.Runs.{RunCil as WholeRun}
+use Rattle.cil_semantics.specs.Modes.{mode_of}
 use Rattle.cil_text.proofs.OneText.{same_text as same_program}
 use Rattle.cil_tree.specs.Programs.{IsTextOf as WholeText}
 use Rattle.cil_tree.specs.Text as text
@@ -57,8 +58,8 @@ whole-lowered (Constant value) = refl
 whole-lowered (Parentheses inner) = whole-lowered inner
 whole-lowered (Binary op left right) = rw (whole-lowered left, whole-lowered right) refl
 
-whole-run : (e : Expression) → IsExp (small e) → (env : Env) (steps : ℕ) → RunC e env steps ≡ WholeRun (whole_program (small e) ∷ []) env.args.items env.input steps
-whole-run e is env steps = same_run e env steps ∙ sym (runs_alike (small e) is env.args.items env.input env steps)
+whole-run : (e : Expression) → IsExp (small e) → (env : Env) (steps : ℕ) → RunC e env steps ≡ WholeRun (whole_program (small e) ∷ []) (mode_of (whole_program (small e))) env.args.items env.input steps
+whole-run e is env steps = same_run e env steps ∙ sym (runs_alike (small e) is (mode_of (whole_program (small e))) env.args.items env.input env steps)
 
 -- its text
 whole-text : (unit : SourceFile) (e : Expression) → IsUnit unit e → WholeText (text.Text (whole_program (small e))) (whole_program (small e))
@@ -71,5 +72,5 @@ small-Merges unit e is = record {
   made = record { grammatical = small_is_grammatical unit e is; tree = e; unit_of = is; made_is = ap returning (whole-lowered e) };
   text = whole-text unit e is;
   one = λ q also. same_program (text.Text (whole_program (small e))) (whole_program (small e)) q (whole-text unit e is) also;
-  allowed = λ f also env steps. subst (λ g. Allows (RunC g env steps) (WholeRun (whole_program (small e) ∷ []) env.args.items env.input steps)) (same_expression unit e f is also) (inl (whole-run e (small-well_formed unit e is) env steps));
+  allowed = λ f also env steps. subst (λ g. Allows (RunC g env steps) (WholeRun (whole_program (small e) ∷ []) (mode_of (whole_program (small e))) env.args.items env.input steps)) (same_expression unit e f is also) (inl (whole-run e (small-well_formed unit e is) env steps));
 }

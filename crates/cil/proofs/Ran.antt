@@ -7,6 +7,7 @@ use Rattle.cil_tree.specs.LaidOut.{bad_place}
 use Rattle.cil_text.proofs.OneText.{same_text}
 use Rattle.cil_equal.proofs.ProgramsAlike.{run_alike}
 use Rattle.cil_semantics.specs.Runs.{RunCil}
+use Rattle.cil_semantics.specs.Modes.{mode_of}
 use Rattle.cil_reader.specs.Stops.{IsNoText}
 use Rattle.cil.specs.Execute.{IsRunAnswer, IsEnd, RanAs, Ran, RunSays, AnswersAs}
 use Rattle.cil.specs.Messages.{HasFiles}
@@ -97,13 +98,13 @@ runs_asked idle unread stays failed out under (Some name) words steps status lef
 
 -- of an input that is told
 answers_as : (p : Program) (words : List (List ℕ)) (steps : ℕ) (status : Status) (given : List ℕ) (left' taken taken' : Option (List ℕ)) → (IsEnd status × RanAs p words steps status (Some given) left' taken taken') ⊎ (status ≡ Memory)
-    → AnswersAs (RunCil (p ∷ []) words given steps) status taken taken' ⊎ (status ≡ Memory)
+    → AnswersAs (RunCil (p ∷ []) (mode_of p) words given steps) status taken taken' ⊎ (status ≡ Memory)
 answers_as p words steps status given left' taken taken' (inl runs) = inl (answers_given p words steps status given left' taken taken' runs.0 runs.1)
 answers_as p words steps status given left' taken taken' (inr wants) = inr wants
 
 pub answers_by : (one two three : Type 0) (asked given : Option (List ℕ)) (words : List (List ℕ)) (steps : ℕ) (status : Status) (left' taken taken' : Option (List ℕ))
     → IfSome asked (λ bytes. (p : Program) → IsTextOf bytes p → one → two → three → (IsEnd status × RanAs p words steps status given left' taken taken') ⊎ (status ≡ Memory))
-    → IfSome asked (λ bytes. IfSome given (λ input. (p : Program) → IsTextOf bytes p → one → two → three → AnswersAs (RunCil (p ∷ []) words input steps) status taken taken' ⊎ (status ≡ Memory)))
+    → IfSome asked (λ bytes. IfSome given (λ input. (p : Program) → IsTextOf bytes p → one → two → three → AnswersAs (RunCil (p ∷ []) (mode_of p) words input steps) status taken taken' ⊎ (status ≡ Memory)))
 answers_by one two three None given words steps status left' taken taken' runs = tt
 answers_by one two three (Some bytes) None words steps status left' taken taken' runs = tt
 answers_by one two three (Some bytes) (Some input) words steps status left' taken taken' runs = λ p is a b c. answers_as p words steps status input left' taken taken' (runs p is a b c)

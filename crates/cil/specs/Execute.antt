@@ -8,6 +8,7 @@ use Rattle.cil_tree.specs.Tree.{Program}
 use Rattle.cil_tree.specs.Programs.{IsTextOf}
 use Rattle.cil_tree.specs.LaidOut.{bad_place}
 use Rattle.cil_semantics.specs.Runs.{RunCil, FindsEnd}
+use Rattle.cil_semantics.specs.Modes.{mode_of}
 use Rattle.cil_reader.specs.Stops.{IsNoText}
 use Rattle.cil_turns.specs.Ends.{ReadAsNeeded}
 use Rattle.outside.specs.Moves.{WasRead, Wrote}
@@ -39,17 +40,17 @@ pub record AnswersAs (outcome : Outcome) (status : Status) (taken taken' : Optio
 
 -- a read of input failed behind the bytes that it had given: the text is a front of the run's output, and had the input ended there, a call of getchar in the run would have found no input left
 pub record WantsMore (p : Program) (words : List (List ℕ)) (steps : ℕ) (got tail text : List ℕ) : Type 0 where
-  pub front : IsPrefix text (output (RunCil (p ∷ []) words (got ++ tail) steps))
-  pub end : FindsEnd (p ∷ []) words got steps ≡ true
+  pub front : IsPrefix text (output (RunCil (p ∷ []) (mode_of p) words (got ++ tail) steps))
+  pub end : FindsEnd (p ∷ []) (mode_of p) words got steps ≡ true
 
--- what a status says of the run of a program with these words, bounded by so many steps, where input gave `got` and has the tail still to give, and out took the text
+-- what a status says of the run of a program in its mode, with these words, bounded by so many steps, where input gave `got` and has the tail still to give, and out took the text
 abbrev pub Says : Program → List (List ℕ) → ℕ → Status → List ℕ → List ℕ → List ℕ → Type 0
-Says p words steps (Exited status) got tail text = Tells (Exited status) text (RunCil (p ∷ []) words (got ++ tail) steps)
-Says p words steps StillRunning got tail text = Tells StillRunning text (RunCil (p ∷ []) words (got ++ tail) steps)
-Says p words steps WentUndefined got tail text = Tells WentUndefined text (RunCil (p ∷ []) words (got ++ tail) steps)
+Says p words steps (Exited status) got tail text = Tells (Exited status) text (RunCil (p ∷ []) (mode_of p) words (got ++ tail) steps)
+Says p words steps StillRunning got tail text = Tells StillRunning text (RunCil (p ∷ []) (mode_of p) words (got ++ tail) steps)
+Says p words steps WentUndefined got tail text = Tells WentUndefined text (RunCil (p ∷ []) (mode_of p) words (got ++ tail) steps)
 Says p words steps ReadFault got tail text = WantsMore p words steps got tail text
-Says p words steps WriteFault got tail text = IsPrefix text (output (RunCil (p ∷ []) words (got ++ tail) steps))
-Says p words steps Memory got tail text = IsPrefix text (output (RunCil (p ∷ []) words (got ++ tail) steps))
+Says p words steps WriteFault got tail text = IsPrefix text (output (RunCil (p ∷ []) (mode_of p) words (got ++ tail) steps))
+Says p words steps Memory got tail text = IsPrefix text (output (RunCil (p ∷ []) (mode_of p) words (got ++ tail) steps))
 Says p words steps Done got tail text = ⊥
 Says p words steps Usage got tail text = ⊥
 Says p words steps (Refused refusal) got tail text = ⊥
@@ -61,7 +62,7 @@ pub record RanAs (p : Program) (words : List (List ℕ)) (steps : ℕ) (status :
   pub ended : Bool
   pub text : List ℕ
   pub read : WasRead left left' got
-  pub asked : ReadAsNeeded (λ input. FindsEnd (p ∷ []) words input steps ≡ true) false got ended
+  pub asked : ReadAsNeeded (λ input. FindsEnd (p ∷ []) (mode_of p) words input steps ≡ true) false got ended
   pub finds : ended ≡ true → IfSome left' (λ rest. rest ≡ [])
   pub stops : status ≡ ReadFault → ended ≡ false
   pub wrote : Wrote taken taken' text

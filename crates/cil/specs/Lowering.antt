@@ -15,6 +15,7 @@ use Rattle.cil_tree.specs.Tree.{Exp, Const, Bin, Return, Done, Seq, Body, Functi
 use Rattle.cil_tree.specs.Text.{Text}
 use Rattle.cil_tree.specs.Programs.{IsTextOf, SameProgram}
 use Rattle.cil_semantics.specs.Runs.{RunCil}
+use Rattle.cil_semantics.specs.Modes.{mode_of}
 use Rattle.cil.specs.Grammatical.{IsGrammatical}
 
 -- the expression without its parentheses, each operator over its lowered operands
@@ -53,4 +54,4 @@ pub record Merges (unit : SourceFile) (p : Program) : Type 0 where
   pub made : Made unit p
   pub text : IsTextOf (Text p) p
   pub one : (q : Program) → IsTextOf (Text p) q → SameProgram p q
-  pub allowed : (e : Expression) → IsUnit unit e → (env : Env) (steps : ℕ) → Allows (RunC e env steps) (RunCil (p ∷ []) env.args.items env.input steps)
+  pub allowed : (e : Expression) → IsUnit unit e → (env : Env) (steps : ℕ) → Allows (RunC e env steps) (RunCil (p ∷ []) (mode_of p) env.args.items env.input steps)

@@ -6,6 +6,7 @@ ghost use Rattle.cil_tree.specs.Text.{Text};
 ghost use Rattle.cil_tree.specs.Programs.{IsTextOf};
 ghost use Rattle.cil_tree.specs.LaidOut.{bad_place};
 ghost use Rattle.cil_semantics.specs.Runs.{RunCil};
+ghost use Rattle.cil_semantics.specs.Modes.{mode_of};
 ghost use Rattle.cil_reader.specs.Stops.{IsNoText};
 ghost use Rattle.outside.specs.Counts.{Rose};
 ghost use Rattle.outside.specs.Moves.{Began, Wrote};
@@ -72,7 +73,7 @@ pub fn cil<F: Files, I: Source, O: Sink, E: Sink>(
     // run
     ensures ran { IfSome (run_file (map string_bytes words.now)) (λ name. RunSays ((input.new ≡ input.old) × (out.new ≡ out.old)) (Rose (F.faults files.old) (F.faults files.new)) ((F.faults files.new ≡ F.faults files.old) × Rose (I.faults input.old) (I.faults input.new)) (bytes_under (F.told files.old) name) (words_given (map string_bytes words.now)) (steps_asked (map string_bytes words.now)) result (I.left input.old) (I.left input.new) (O.taken out.old) (O.taken out.new)) }
     ensures runs { IfSome (text_asked (F.told files.old) (map string_bytes words.now)) (λ bytes. (p : Program) → IsTextOf bytes p → ¬ (Rose (F.faults files.old) (F.faults files.new)) → ¬ (Rose (I.faults input.old) (I.faults input.new)) → ¬ (Rose (O.faults out.old) (O.faults out.new)) → (IsEnd result × RanAs p (words_given (map string_bytes words.now)) (steps_asked (map string_bytes words.now)) result (I.left input.old) (I.left input.new) (O.taken out.old) (O.taken out.new)) ⊎ (result ≡ Status.Memory)) }
-    ensures answers { IfSome (text_asked (F.told files.old) (map string_bytes words.now)) (λ bytes. IfSome (I.left input.old) (λ given. (p : Program) → IsTextOf bytes p → ¬ (Rose (F.faults files.old) (F.faults files.new)) → ¬ (Rose (I.faults input.old) (I.faults input.new)) → ¬ (Rose (O.faults out.old) (O.faults out.new)) → AnswersAs (RunCil (p ∷ []) (words_given (map string_bytes words.now)) given (steps_asked (map string_bytes words.now))) result (O.taken out.old) (O.taken out.new) ⊎ (result ≡ Status.Memory))) }
+    ensures answers { IfSome (text_asked (F.told files.old) (map string_bytes words.now)) (λ bytes. IfSome (I.left input.old) (λ given. (p : Program) → IsTextOf bytes p → ¬ (Rose (F.faults files.old) (F.faults files.new)) → ¬ (Rose (I.faults input.old) (I.faults input.new)) → ¬ (Rose (O.faults out.old) (O.faults out.new)) → AnswersAs (RunCil (p ∷ []) (mode_of p) (words_given (map string_bytes words.now)) given (steps_asked (map string_bytes words.now))) result (O.taken out.old) (O.taken out.new) ⊎ (result ≡ Status.Memory))) }
     ensures not_cil { IfSome (text_asked (F.told files.old) (map string_bytes words.now)) (λ bytes. IsNoText bytes → ¬ (Rose (F.faults files.old) (F.faults files.new)) → (result ≡ Status.NotCil (bad_place bytes)) ⊎ (result ≡ Status.Memory)) }
 
     ensures read { result ≡ Status.ReadFault → Rose (F.faults files.old) (F.faults files.new) ⊎ (IsSome (run_file (map string_bytes words.now)) × Rose (I.faults input.old) (I.faults input.new)) }

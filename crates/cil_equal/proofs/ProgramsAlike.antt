@@ -110,7 +110,8 @@ run_alike p q same =
     let equal : Equal p q = record { abi = same.abi; aggregates = alike p q same; globals = same.globals } in
     let units : linkables p ≡ linkables q = linkables_alike p q equal in
     record {
-      outcome = λ words input n. ap (λ (ls : List Linkable). run (ls ∷ []) words input n) units;
-      spent = λ words input n. ap (λ (ls : List Linkable). units_spent (ls ∷ []) words input n) units;
-      end = λ words input n. ap (λ (ls : List Linkable). finds_end (ls ∷ []) words input n) units;
+      model = same.abi;
+      outcome = λ mode words input n. ap (λ (ls : List Linkable). run (ls ∷ []) mode words input n) units;
+      spent = λ mode words input n. ap (λ (ls : List Linkable). units_spent (ls ∷ []) mode words input n) units;
+      end = λ mode words input n. ap (λ (ls : List Linkable). finds_end (ls ∷ []) mode words input n) units;
     }

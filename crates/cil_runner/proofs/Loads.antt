@@ -29,7 +29,8 @@ use Rattle.cil_streams.specs.Held.{StreamsState, fresh, host_part}
 use Rattle.cil_link.specs.declared.entities.Definer.{Definer}
 use Rattle.cil_link.specs.Entities.{linked_in}
 use Rattle.cil_start.specs.Ready.{AreInStep}
-use Rattle.cil_start.specs.Starts.{HaveOneModel, Starts}
+use Rattle.cil_semantics.specs.Modes.{HaveOneModel}
+use Rattle.cil_start.specs.Starts.{Starts}
 use Rattle.cil_link.specs.declared.mains.Main.{Main}
 use Rattle.cil_link.specs.Mains.{BeginsWith}
 use Rattle.cil_table.specs.Courses.{courses_in}

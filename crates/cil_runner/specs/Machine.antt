@@ -1,5 +1,6 @@
 -- Definition: which linked programs a machine runs, with which words, and what the answer of its run says of their meaning.
 use Rattle.std.specs.Prelude.{◌≡◌, ℕ, Bool, true, false, List, [], ◌++◌, length, Option, IfSome}
+use Rattle.cil_base.specs.declared.kinds.Mode.{Mode}
 use Rattle.cil_base.specs.declared.runs.Outcome.TheVariants.{Exit, Running, Undefined}
 use Rattle.outside.specs.Moves.{WasRead}
 use Rattle.cil_tree.specs.Tree.{Program}
@@ -26,18 +27,18 @@ pub record Loads (m : Machine) (programs : List Program) (words : List (List ℕ
   pub main : BeginsWith programs m.main
   pub count : m.words ≡ length words
 
--- what an answer says of the run of the programs with those words, that input and that bound; `text` is what was sent to the sink, `tail` what of the input the source has not given
-abbrev pub Tells : RunEnd → List Program → List (List ℕ) → List ℕ → ℕ → ℕ → List ℕ → List ℕ → Type 0
-Tells (Exited status) programs words input steps used text tail = EndsAs programs words input steps used (Exit status text)
-Tells StillRunning programs words input steps used text tail = GoesOn programs words input steps used (Running text)
-Tells WentUndefined programs words input steps used text tail = EndsAs programs words input steps used (Undefined text)
+-- what an answer says of the run of the programs in a mode, with those words, that input and that bound; `text` is what was sent to the sink, `tail` what of the input the source has not given
+abbrev pub Tells : RunEnd → List Program → Mode → List (List ℕ) → List ℕ → ℕ → ℕ → List ℕ → List ℕ → Type 0
+Tells (Exited status) programs mode words input steps used text tail = EndsAs programs mode words input steps used (Exit status text)
+Tells StillRunning programs mode words input steps used text tail = GoesOn programs mode words input steps used (Running text)
+Tells WentUndefined programs mode words input steps used text tail = EndsAs programs mode words input steps used (Undefined text)
 -- had the source nothing more to give, a call of getchar would have found the end
-Tells ReadFault programs words input steps used text tail = CutOff programs words input steps used text × (tail ≡ [] → FindsEnd programs words input steps ≡ true)
-Tells WriteFault programs words input steps used text tail = CutOff programs words input steps used text
-Tells Memory programs words input steps used text tail = CutOff programs words input steps used text
+Tells ReadFault programs mode words input steps used text tail = CutOff programs mode words input steps used text × (tail ≡ [] → FindsEnd programs mode words input steps ≡ true)
+Tells WriteFault programs mode words input steps used text tail = CutOff programs mode words input steps used text
+Tells Memory programs mode words input steps used text tail = CutOff programs mode words input steps used text
 
 -- a run over a source, of which `left` is left, and a sink, which has taken `taken`; the accented ones are behind the run
-pub record RunsAs (end : RunEnd) (programs : List Program) (words : List (List ℕ)) (steps used : ℕ) (left left' taken taken' : Option (List ℕ)) : Type 0 where
+pub record RunsAs (end : RunEnd) (programs : List Program) (mode : Mode) (words : List (List ℕ)) (steps used : ℕ) (left left' taken taken' : Option (List ℕ)) : Type 0 where
   -- the bytes that the source gave, those that went to the sink, and whether the source has given its end
   pub got : List ℕ
   pub sent : List ℕ
@@ -45,10 +46,10 @@ pub record RunsAs (end : RunEnd) (programs : List Program) (words : List (List �
   pub read : WasRead left left' got
   pub sends : Sends end taken taken' sent
   -- each read was needed: had the input ended before what it gave, or where it gave the end, a getchar of the run would have found no input left
-  pub asked : ReadAsNeeded (λ input. FindsEnd programs words input steps ≡ true) false got ended
+  pub asked : ReadAsNeeded (λ input. FindsEnd programs mode words input steps ≡ true) false got ended
   -- no read fails of a source that has given its end
   pub stops : end ≡ ReadFault → ended ≡ false
   -- it gives its end only where nothing is left
   pub finds : ended ≡ true → IfSome left' (λ bytes. bytes ≡ [])
   -- whatever the source has still to give, nothing where it has given its end
-  pub means : (tail : List ℕ) → (ended ≡ true → tail ≡ []) → Tells end programs words (got ++ tail) steps used sent tail
+  pub means : (tail : List ℕ) → (ended ≡ true → tail ≡ []) → Tells end programs mode words (got ++ tail) steps used sent tail

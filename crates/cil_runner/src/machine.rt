@@ -1,11 +1,12 @@
 ghost use Rattle.std.specs.Prelude.{◌≡◌, ◌≤◌, ◌∷◌, ℕ, List, [], Some, All, IfOk, map};
 ghost use Rattle.std.specs.String.{string_bytes};
+ghost use Rattle.cil_base.specs.declared.kinds.Mode.{Mode};
 ghost use Rattle.outside.specs.Counts.{KeepsLimit};
 ghost use Rattle.cil_tree.specs.Tree.{Program};
 ghost use Rattle.cil_tree.specs.View.{program_of};
 ghost use Rattle.cil_tree.specs.Programs.{IsProgram};
 ghost use Rattle.cil_semantics.specs.Units.{IsUnit};
-ghost use Rattle.cil_start.specs.Starts.{HaveOneModel};
+ghost use Rattle.cil_semantics.specs.Modes.{HaveModel, HaveOneModel};
 ghost use Rattle.cil_turns.specs.Ends.{CountsReads, CountsWrites};
 ghost use Rattle.cil_runner.specs.Machine.{Loads, RunsAs};
 ghost use Rattle.cil_runner.specs.Beginning.{IsFresh};
@@ -107,8 +108,8 @@ impl Machine {
     /// output, whatever the source has still to give. No more bytes are asked for at once than 4,096.
     pub fn run<S: Source, O: Sink>(&mut self, steps: u64, input: &mut S, out: &mut O) -> RunEnd
         requires { IsFresh self.old }
-        ensures runs { (programs : List Program) (words : List (List ℕ)) → Loads self.old programs words
-            → RunsAs result programs words steps self.new.used (S.left input.old) (S.left input.new) (O.taken out.old) (O.taken out.new) }
+        ensures runs { (programs : List Program) (mode : Mode) (words : List (List ℕ)) → Loads self.old programs words → HaveModel mode.abi programs
+            → RunsAs result programs mode words steps self.new.used (S.left input.old) (S.left input.new) (O.taken out.old) (O.taken out.new) }
         ensures within { self.new.used ≤ steps }
         ensures reads { CountsReads result (S.faults input.old) (S.faults input.new) }
         ensures writes { CountsWrites result (O.faults out.old) (O.faults out.new) }
@@ -131,8 +132,8 @@ impl Machine {
     ) -> RunEnd
         requires fresh { IsFresh self.old }
         requires main { self.old.main ≡ Some main }
-        ensures runs { (programs : List Program) (words : List (List ℕ)) → Loads self.old programs words
-            → RunsAs result programs words steps self.new.used (S.left input.old) (S.left input.new) (O.taken out.old) (O.taken out.new) }
+        ensures runs { (programs : List Program) (mode : Mode) (words : List (List ℕ)) → Loads self.old programs words → HaveModel mode.abi programs
+            → RunsAs result programs mode words steps self.new.used (S.left input.old) (S.left input.new) (O.taken out.old) (O.taken out.new) }
         ensures within { self.new.used ≤ steps }
         ensures reads { CountsReads result (S.faults input.old) (S.faults input.new) }
         ensures writes { CountsWrites result (O.faults out.old) (O.faults out.new) }

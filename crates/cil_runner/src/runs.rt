@@ -1,7 +1,8 @@
 ghost use Rattle.std.specs.Prelude.{◌≡◌, Some, IfOk, All, map};
+ghost use Rattle.cil_base.specs.declared.kinds.Mode.{Mode};
 ghost use Rattle.cil_tree.specs.View.{program_of};
 ghost use Rattle.cil_semantics.specs.Units.{IsUnit};
-ghost use Rattle.cil_start.specs.Starts.{HaveOneModel};
+ghost use Rattle.cil_semantics.specs.Modes.{HaveModel, HaveOneModel};
 ghost use Rattle.cil_semantics.specs.Runs.{RunCil};
 ghost use Rattle.cil_runner.specs.Beginning.{outcome_by};
 
@@ -38,7 +39,7 @@ pub fn run_cil(
 ) -> Result<Outcome, Memory>
     requires units { All (λ u. IsUnit (program_of names.now u)) units.now }
     requires model { HaveOneModel (map (program_of names.now) units.now) }
-    ensures { IfOk result (λ o. o ≡ RunCil (map (program_of names.now) units.now) env.now.args.items env.now.input n) }
+    ensures { (mode : Mode) → HaveModel mode.abi (map (program_of names.now) units.now) → IfOk result (λ o. o ≡ RunCil (map (program_of names.now) units.now) mode env.now.args.items env.now.input n) }
 {
     let mut machine = Machine::link(alloc, units, names, env.args.as_slice())?;
     let bytes = env.input.as_slice().to_vec(alloc)?;

@@ -2,6 +2,8 @@
 use Rattle.std.proofs.Common.{◌≡◌, ℕ, Bool, true, false, List, [], ◌∷◌, ◌++◌, Some, None, refl}
 use Rattle.std.specs.Prelude.{ℤ, pos, codes, map, replicate}
 use Rattle.cil_base.specs.declared.constants.Constant.TheVariants as constant
+use Rattle.cil_base.specs.declared.kinds.Abi.TheVariants.{Lp64}
+use Rattle.cil_base.specs.declared.kinds.Mode.{Mode}
 use Rattle.cil_base.specs.declared.kinds.IntKind.TheVariants as kind
 use Rattle.cil_base.specs.declared.operators.BinOp.TheVariants as op
 use Rattle.cil_base.specs.declared.runs.Outcome.{Outcome}
@@ -12,9 +14,13 @@ use Rattle.cil_tree.specs.Typing.{unqualified, pointer_to}
 use Rattle.cil_semantics.specs.Runs.{RunCil, UnitsSpent, FindsEnd}
 use Rattle.cil_semantics.proofs.Samples.{int, program, fits, local, function, int_from, main_of, declared, putchar, number, at, var, pointed_by, global, to, sum, set, call, call_to, return, stmts_of, outcomes}
 
+-- the modes, as tentative definitions are common or not
+abbrev lp64 : Bool → Mode
+lp64 common = record { common = common; abi = Lp64 }
+
 -- the outcomes of linked programs at some bounds
 abbrev linked_at : List Program → List ℕ → List Outcome
-linked_at programs bounds = map (RunCil programs (codes "p" ∷ []) []) bounds
+linked_at programs bounds = map (RunCil programs (lp64 false) (codes "p" ∷ []) []) bounds
 
 abbrev object : Bool → List ℕ → ℤ → GlobalDecl
 object internal name v = record { name = name; type = Some int; internal = internal; definition = Image (record { path = []; value = constant.Int kind.Int v } ∷ []) }
@@ -148,14 +154,18 @@ missing_rows = refl
 abbrev reading : Program
 reading = program (declared (codes "getchar") (int_from NoTypes) ∷ main_of (local (codes "c") int ∷ []) [] (stmts_of (call_to 0 0 [] ∷ return (var 0) ∷ [])) ∷ [])
 
-reading_rows : map (RunCil (reading ∷ []) (codes "p" ∷ []) (codes "h")) (1 ∷ []) ++ map (RunCil (reading ∷ []) (codes "p" ∷ []) []) (1 ∷ []) ≡ Exit 104 [] ∷ Exit 255 [] ∷ []
+reading_rows : map (RunCil (reading ∷ []) (lp64 false) (codes "p" ∷ []) (codes "h")) (1 ∷ []) ++ map (RunCil (reading ∷ []) (lp64 false) (codes "p" ∷ []) []) (1 ∷ []) ≡ Exit 104 [] ∷ Exit 255 [] ∷ []
 reading_rows = refl
 
-end_of_input_rows : FindsEnd (reading ∷ []) (codes "p" ∷ []) (codes "h") 1 ∷ FindsEnd (reading ∷ []) (codes "p" ∷ []) [] 1 ∷ FindsEnd (reading ∷ []) (codes "p" ∷ []) [] 0 ∷ [] ≡ false ∷ true ∷ false ∷ []
+end_of_input_rows : FindsEnd (reading ∷ []) (lp64 false) (codes "p" ∷ []) (codes "h") 1 ∷ FindsEnd (reading ∷ []) (lp64 false) (codes "p" ∷ []) [] 1 ∷ FindsEnd (reading ∷ []) (lp64 false) (codes "p" ∷ []) [] 0 ∷ [] ≡ false ∷ true ∷ false ∷ []
 end_of_input_rows = refl
 
-spent_rows : map (UnitsSpent (first_unit ∷ second_unit ∷ third_unit ∷ []) (codes "p" ∷ []) []) (0 ∷ 2 ∷ 3 ∷ 10000000 ∷ []) ++ map (UnitsSpent [] (codes "p" ∷ []) []) (7 ∷ []) ≡ 0 ∷ 2 ∷ 3 ∷ 3 ∷ 0 ∷ []
+spent_rows : map (UnitsSpent (first_unit ∷ second_unit ∷ third_unit ∷ []) (lp64 false) (codes "p" ∷ []) []) (0 ∷ 2 ∷ 3 ∷ 10000000 ∷ []) ++ map (UnitsSpent [] (lp64 false) (codes "p" ∷ []) []) (7 ∷ []) ≡ 0 ∷ 2 ∷ 3 ∷ 3 ∷ 0 ∷ []
 spent_rows = refl
+
+-- both values of `common` mean the same
+common_does_not_count : (programs : List Program) (words : List (List ℕ)) (input : List ℕ) (n : ℕ) → RunCil programs (lp64 true) words input n ≡ RunCil programs (lp64 false) words input n
+common_does_not_count programs words input n = refl
 
 all_are_programs : map fits (first_unit ∷ second_unit ∷ third_unit ∷ no_word ∷ unprototyped ∷ again ∷ nothing_given (call 0 []) (return (number 3)) ∷ putting ∷ program (own_putchar ∷ []) ∷ program (hidden own_putchar ∷ []) ∷ loose (number 1) ∷ unsigned_parameter ∷ pointing (to (pointer_to int_void) (number 0)) ∷ dangling is_null ∷ array_unit ∷ dangling second_element ∷ reading ∷ []) ≡ replicate 17 true
 all_are_programs = refl

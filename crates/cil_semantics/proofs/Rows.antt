@@ -10,6 +10,7 @@ use Rattle.type_graph.specs.Shapes.{Shape, VoidType, IntType, ArrayType, FuncTyp
 use Rattle.cil_tree.specs.Tree.{Exp, Const, Value, Un, Bin, AddrOf, Global, Var, Here, Index, Lval, Place, Set, Zero, Stmt, Do, If, Switch, Loop, Block, Label, Case, Goto, Done, Item, Image, Program}
 use Rattle.cil_tree.specs.Typing.{unqualified, pointer_to}
 use Rattle.cil_semantics.specs.Runs.{RunCil}
+use Rattle.cil_semantics.specs.Modes.{mode_of}
 use Rattle.cil_semantics.proofs.Samples.{int, program, fits, local, function, int_from, main_of, declared, putchar, number, at, var, pointed_by, to, sum, set, call, call_to, return, stmts_of, unless, element, outcomes}
 
 -- int main(void) { return 2 + 3; }
@@ -196,7 +197,7 @@ copying = program (
     ∷ []))
     ∷ [])
 
-copying_rows : map (RunCil (copying ∷ []) (codes "p" ∷ []) (codes "hi\n")) (1 ∷ 2 ∷ 3 ∷ 4 ∷ 5 ∷ [])
+copying_rows : map (RunCil (copying ∷ []) (mode_of copying) (codes "p" ∷ []) (codes "hi\n")) (1 ∷ 2 ∷ 3 ∷ 4 ∷ 5 ∷ [])
     ≡ Running [] ∷ Running (codes "h") ∷ Running (codes "hi") ∷ Running (codes "hi\n") ∷ Exit 0 (codes "hi\n") ∷ []
 copying_rows = refl
 
@@ -232,7 +233,7 @@ words_program = program (
     ∷ []))
     ∷ [])
 
-words_rows : map (RunCil (words_program ∷ []) (codes "p" ∷ codes "c" ∷ []) []) (0 ∷ 1 ∷ []) ++ map (RunCil (words_program ∷ []) (codes "p" ∷ []) []) (1 ∷ [])
+words_rows : map (RunCil (words_program ∷ []) (mode_of words_program) (codes "p" ∷ codes "c" ∷ []) []) (0 ∷ 1 ∷ []) ++ map (RunCil (words_program ∷ []) (mode_of words_program) (codes "p" ∷ []) []) (1 ∷ [])
     ≡ Running [] ∷ Exit 34 [] ∷ Undefined [] ∷ []
 words_rows = refl
 

@@ -11,6 +11,7 @@ use Rattle.type_graph.specs.Arena.{empty_graph}
 use Rattle.cil_tree.specs.Tree.{Exp, Const, Value, Bin, Cast, Global, Var, At, Here, Lval, Place, Direct, Set, Call, Stmt, Do, If, Break, Return, Stmts, Done, Seq, ToIndex, Item, Local, Declared, Function, GlobalDecl, Program}
 use Rattle.cil_tree.specs.Globals.{global_fits}
 use Rattle.cil_semantics.specs.Runs.{RunCil}
+use Rattle.cil_semantics.specs.Modes.{mode_of}
 
 abbrev pub int : Shape
 int = IntType kind.Int
@@ -86,4 +87,4 @@ element i v = record { path = ToIndex i ∷ []; value = constant.Int kind.Int v 
 
 -- the outcomes of a program alone, without input, at some bounds
 abbrev pub outcomes : Program → List ℕ → List Outcome
-outcomes p bounds = map (RunCil (p ∷ []) (codes "p" ∷ []) []) bounds
+outcomes p bounds = map (RunCil (p ∷ []) (mode_of p) (codes "p" ∷ []) []) bounds

@@ -3,3 +3,4 @@ pub mod Statements
 pub mod Runs
 pub mod Laws
 pub mod Units
+pub mod Modes

@@ -3,6 +3,7 @@ use Rattle.std.specs.Prelude.{ℕ, suc, Bool, true, false, ◌&&◌, not, codes,
 use Rattle.std.specs.Str.{bytes_eq}
 use Rattle.cil_base.specs.declared.constants.Constant.{Constant}
 use Rattle.cil_base.specs.declared.constants.Constant.TheVariants.{Int as Number, Address, Function as Code'}
+use Rattle.cil_base.specs.declared.kinds.Mode.{Mode}
 use Rattle.cil_base.specs.declared.kinds.IntKind.TheVariants.{Int as int, Char as char}
 use Rattle.cil_base.specs.declared.runs.Outcome.{Outcome}
 use Rattle.type_graph.specs.Shapes.{Shape, Shapes, IntType, PtrType, FuncType, NoTypes, MoreTypes}
@@ -122,14 +123,14 @@ linkable p x = record { internal = x.internal; name = x.name; function = has_fun
 abbrev pub linkables : Program → List Linkable
 linkables p = map (linkable p) p.globals
 
--- the outcome of linked programs, with those words and that input, within so many units
-abbrev pub RunCil : List Program → List (List ℕ) → List ℕ → ℕ → Outcome
-RunCil programs words input n = run (map linkables programs) words input n
+-- the outcome of programs that are linked and run in a mode, with those words and that input, within so many units
+abbrev pub RunCil : List Program → Mode → List (List ℕ) → List ℕ → ℕ → Outcome
+RunCil programs mode words input n = run (map linkables programs) mode words input n
 
 -- the units that such a run has spent
-abbrev pub UnitsSpent : List Program → List (List ℕ) → List ℕ → ℕ → ℕ
-UnitsSpent programs words input n = units_spent (map linkables programs) words input n
+abbrev pub UnitsSpent : List Program → Mode → List (List ℕ) → List ℕ → ℕ → ℕ
+UnitsSpent programs mode words input n = units_spent (map linkables programs) mode words input n
 
 -- whether a call of getchar in such a run has found no input left
-abbrev pub FindsEnd : List Program → List (List ℕ) → List ℕ → ℕ → Bool
-FindsEnd programs words input n = finds_end (map linkables programs) words input n
+abbrev pub FindsEnd : List Program → Mode → List (List ℕ) → List ℕ → ℕ → Bool
+FindsEnd programs mode words input n = finds_end (map linkables programs) mode words input n

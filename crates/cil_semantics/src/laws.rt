@@ -1,4 +1,5 @@
 ghost use Rattle.std.specs.Prelude.{ℕ, List, map};
+ghost use Rattle.cil_base.specs.declared.kinds.Mode.{Mode};
 ghost use Rattle.execution.specs.Calls.{Enter};
 ghost use Rattle.execution.specs.Laws.{CallsAreTheirStep, IsCutByBounds, SpendsLeast};
 ghost use Rattle.execution.specs.Linking.{linked};
@@ -27,11 +28,11 @@ pub fn calls_are_their_step()
 /// A smaller bound only cuts a run of programs: with units more, a run that has ended is the same, and one that is
 /// still running goes on from its output (own).
 pub fn bounds_only_cut()
-    ensures { (programs : List Program) (words : List (List ℕ)) (input : List ℕ) → IsCutByBounds (RunCil programs words input) }
+    ensures { (programs : List Program) (mode : Mode) (words : List (List ℕ)) (input : List ℕ) → IsCutByBounds (RunCil programs mode words input) }
 {}
 
 /// The units that an ended run of programs has spent are its least bound: there it ends so too, and at each smaller
 /// bound it is still running (own).
 pub fn ended_runs_spend_their_least_bound()
-    ensures { (programs : List Program) (words : List (List ℕ)) (input : List ℕ) → SpendsLeast (RunCil programs words input) (UnitsSpent programs words input) }
+    ensures { (programs : List Program) (mode : Mode) (words : List (List ℕ)) (input : List ℕ) → SpendsLeast (RunCil programs mode words input) (UnitsSpent programs mode words input) }
 {}

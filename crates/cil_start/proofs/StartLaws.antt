@@ -12,7 +12,8 @@ use Rattle.cil_tree.specs.View.{program_of}
 use Rattle.cil_link.specs.declared.entities.Definer.{Definer}
 use Rattle.cil_link.specs.Entities.{InRun, in_run, linked_in, meant, IsTable}
 use Rattle.cil_start.specs.Loads.{definer_held}
-use Rattle.cil_start.specs.Starts.{HaveModel, HaveOneModel, Starts}
+use Rattle.cil_semantics.specs.Modes.{HaveModel, HaveOneModel}
+use Rattle.cil_start.specs.Starts.{Starts}
 
 held_each : (units : List InRun) (ds : List Definer) → map entity_held (map (meant units) ds) ≡ map (definer_held units) ds
 held_each units [] = refl

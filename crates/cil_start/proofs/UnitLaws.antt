@@ -23,7 +23,7 @@ use Rattle.cil_start.specs.declared.loaded.Loaded.{Loaded}
 use Rattle.cil_start.specs.declared.loaded.LoadedUnits.{LoadedUnits}
 use Rattle.cil_start.specs.Loads.{IsReady, loaded_in}
 use Rattle.cil_start.specs.Ready.{AreReady, AreInStep}
-use Rattle.cil_start.specs.Starts.{HaveModel}
+use Rattle.cil_semantics.specs.Modes.{HaveModel}
 
 as_many : (ys : List Layouts) (us : List CilUnit) → AreInStep ys us → length ys ≡ length us
 as_many [] [] h = refl

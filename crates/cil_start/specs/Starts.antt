@@ -1,20 +1,11 @@
 -- Definition: what is known of the store in which the run of linked programs starts (C11 5.1.2p1, 5.1.2.2.1p2).
-use Rattle.std.specs.Prelude.{◌≡◌, ℕ, List, All}
-use Rattle.cil_base.specs.declared.kinds.Abi.{Abi}
+use Rattle.std.specs.Prelude.{◌≡◌, ℕ, List}
 use Rattle.byte_mem.specs.declared.stores.Store.{Store}
 use Rattle.byte_mem.specs.Store.{memory}
 use Rattle.execution.specs.Runs.{start_state}
 use Rattle.cil_tree.specs.Tree.{Program}
+use Rattle.cil_semantics.specs.Modes.{HaveModel}
 use Rattle.cil_link.specs.Entities.{linked_in}
-
--- each program has that data model
-abbrev pub HaveModel : Abi → List Program → Type 0
-HaveModel abi programs = All (λ p. p.graph.abi ≡ abi) programs
-
--- the programs of a run have one data model (own)
-pub record HaveOneModel (programs : List Program) : Type 0 where
-  pub model : Abi
-  pub each : HaveModel model programs
 
 -- the store has the memory in which the run of the programs starts with those words, and their data model
 pub record Starts (s : Store) (programs : List Program) (words : List (List ℕ)) : Type 0 where

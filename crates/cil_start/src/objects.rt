@@ -13,7 +13,7 @@ ghost use Rattle.cil_start.specs.Loads.{program_in, IsReady, image_held, global_
 ghost use Rattle.cil_link.specs.Entities.{IsOne, IsThere};
 ghost use Rattle.cil_link.specs.Units.{programs_in, units_in};
 ghost use Rattle.cil_start.specs.Ready.{AreReady};
-ghost use Rattle.cil_start.specs.Starts.{HaveModel};
+ghost use Rattle.cil_semantics.specs.Modes.{HaveModel};
 
 use crate::images::write_items;
 use crate::loaded::{Loaded, LoadedUnits};

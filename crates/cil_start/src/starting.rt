@@ -2,7 +2,8 @@ ghost use Rattle.std.specs.Prelude.{ℕ, IfOk, List, map};
 ghost use Rattle.cil_tree.specs.View.{program_of};
 ghost use Rattle.cil_link.specs.Units.{programs_in};
 ghost use Rattle.cil_start.specs.Ready.{AreReady};
-ghost use Rattle.cil_start.specs.Starts.{HaveModel, HaveOneModel, Starts};
+ghost use Rattle.cil_semantics.specs.Modes.{HaveModel, HaveOneModel};
+ghost use Rattle.cil_start.specs.Starts.{Starts};
 
 use crate::loaded::LoadedUnits;
 use crate::objects::make_entities;

@@ -22,7 +22,7 @@ use Rattle.cil_link.specs.declared.entities.Definer.{Definer}
 use Rattle.cil_link.specs.declared.entities.Definer.TheVariants.{Global}
 use Rattle.cil_link.specs.Entities as linking
 use Rattle.cil_link.specs.Entities.{InRun, in_run, linked_in, global_meant, meant}
-use Rattle.cil_start.specs.Starts.{HaveModel, HaveOneModel}
+use Rattle.cil_semantics.specs.Modes.{HaveModel, HaveOneModel}
 use Rattle.cil_start.proofs.UnitLaws.{model_at}
 use Rattle.cil_table.specs.Courses.{global_course, unit_course, entity_course, courses_in}
 use Rattle.cil_table.specs.Entries.{IsGlobalEntry, IsEntry, AreEntries, IsLoadedTable}

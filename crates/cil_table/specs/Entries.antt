@@ -9,7 +9,7 @@ use Rattle.cil_frames.specs.declared.frames.Entity.{Entity}
 use Rattle.cil_frames.specs.Frames.{IsEntity, IsMachine}
 use Rattle.cil_link.specs.declared.entities.Definer.{Definer}
 use Rattle.cil_link.specs.Entities.{InRun, in_run, linked_in, meant}
-use Rattle.cil_start.specs.Starts.{HaveModel}
+use Rattle.cil_semantics.specs.Modes.{HaveModel}
 use Rattle.cil_table.specs.Courses.{global_course, entity_course, courses_in}
 
 -- the global is one of the program

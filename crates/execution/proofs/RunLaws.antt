@@ -1,5 +1,7 @@
 -- Device: bounds only cut runs, and what an ended run has spent is the least bound.
 use Rattle.std.proofs.Common.{◌≡◌, ℕ, zero, suc, ◌+◌, ◌-◌, ◌<◌, ◌≤◌, List, [], Option, Some, None, option_map, refl, sym, ap, ◌∙◌, subst, arith}
+use Rattle.cil_base.specs.declared.kinds.Abi.{Abi}
+use Rattle.cil_base.specs.declared.kinds.Mode.{Mode}
 use Rattle.cil_base.specs.declared.runs.Outcome.{Outcome}
 use Rattle.cil_base.specs.declared.runs.Outcome.TheVariants.{Exit, Running as StillRunning, Undefined as WentUndefined}
 use Rattle.cil_base.specs.Outcome.{output as written, IsPrefix}
@@ -46,15 +48,15 @@ outcome_cuts n more base (Exits status s) q l = ap outcome_of l.2 ∙ ap (λ t. 
 outcome_cuts n more base (Running s) q l = running_cuts n more base s q l
 outcome_cuts n more base (Undefined s) q l = ap outcome_of l.2 ∙ ap (λ t. WentUndefined t.out) l.1.1
 
-results_cut : (link : Linked) → AllTame link → (entity : ℕ) (words : List (List ℕ)) (input : List ℕ) (n more : ℕ) (o : Option (Function × List Argument))
-    → Cuts (outcome_in (option_map (result_with link entity words input n) o)) (outcome_in (option_map (result_with link entity words input (n + more)) o))
-results_cut link h entity words input n more None = refl
-results_cut link h entity words input n more (Some (f, arguments)) =
-    outcome_cuts n more [] (calls link (main_call f entity arguments) (start_state f.abi link words input n)) (calls link (main_call f entity arguments) (start_state f.abi link words input (n + more)))
-    (calls_tied link h n more [] (main_call f entity arguments) (start_state f.abi link words input n) (start_state f.abi link words input (n + more)) (omega arith, refl, ([], refl)))
+results_cut : (abi : Abi) (link : Linked) → AllTame link → (entity : ℕ) (words : List (List ℕ)) (input : List ℕ) (n more : ℕ) (o : Option (Function × List Argument))
+    → Cuts (outcome_in (option_map (result_with abi link entity words input n) o)) (outcome_in (option_map (result_with abi link entity words input (n + more)) o))
+results_cut abi link h entity words input n more None = refl
+results_cut abi link h entity words input n more (Some (f, arguments)) =
+    outcome_cuts n more [] (calls link (main_call abi entity arguments) (start_state abi link words input n)) (calls link (main_call abi entity arguments) (start_state abi link words input (n + more)))
+    (calls_tied link h n more [] (main_call abi entity arguments) (start_state abi link words input n) (start_state abi link words input (n + more)) (omega arith, refl, ([], refl)))
 
-pub run_cuts : (link : Linked) → AllTame link → (entity : ℕ) (words : List (List ℕ)) (input : List ℕ) → IsCutByBounds (run_linked link entity words input)
-run_cuts link h entity words input n more = results_cut link h entity words input n more (main_in link entity words)
+pub run_cuts : (abi : Abi) (link : Linked) → AllTame link → (entity : ℕ) (words : List (List ℕ)) (input : List ℕ) → IsCutByBounds (run_linked abi link entity words input)
+run_cuts abi link h entity words input n more = results_cut abi link h entity words input n more (main_in link entity words)
 
 -- an ended run is the same at greater bounds
 ended_cuts : (x y : Outcome) → HasEnded x → Cuts x y → y ≡ x
@@ -151,13 +153,13 @@ module _ (r : ℕ → Result Datum) (like : (n more : ℕ) → Like (twins n mor
         least = λ j l. before k j l z (told (outcome_of (r j)));
       }
 
-spent_in : (link : Linked) → AllTame link → (entity : ℕ) (words : List (List ℕ)) (input : List ℕ) (o : Option (Function × List Argument)) (n : ℕ)
-    → HasEnded (outcome_in (option_map (result_with link entity words input n) o))
-    → IsLeastBound (λ i. outcome_in (option_map (result_with link entity words input i) o)) n (spent_until n (option_map last (option_map (result_with link entity words input n) o)))
-spent_in link h entity words input None n e = record { within = omega arith; same = refl; least = λ j l. absurd (omega arith) }
-spent_in link h entity words input (Some (f, arguments)) n e =
-    spent_least (λ i. calls link (main_call f entity arguments) (start_state f.abi link words input i))
-    (λ i more. calls_tied link h i more [] (main_call f entity arguments) (start_state f.abi link words input i) (start_state f.abi link words input (i + more)) (omega arith, refl, ([], refl))) n e
+spent_in : (abi : Abi) (link : Linked) → AllTame link → (entity : ℕ) (words : List (List ℕ)) (input : List ℕ) (o : Option (Function × List Argument)) (n : ℕ)
+    → HasEnded (outcome_in (option_map (result_with abi link entity words input n) o))
+    → IsLeastBound (λ i. outcome_in (option_map (result_with abi link entity words input i) o)) n (spent_until n (option_map last (option_map (result_with abi link entity words input n) o)))
+spent_in abi link h entity words input None n e = record { within = omega arith; same = refl; least = λ j l. absurd (omega arith) }
+spent_in abi link h entity words input (Some (f, arguments)) n e =
+    spent_least (λ i. calls link (main_call abi entity arguments) (start_state abi link words input i))
+    (λ i more. calls_tied link h i more [] (main_call abi entity arguments) (start_state abi link words input i) (start_state abi link words input (i + more)) (omega arith, refl, ([], refl))) n e
 
-pub spends_least : (units : List (List Linkable)) → TameUnits units → (words : List (List ℕ)) (input : List ℕ) → SpendsLeast (run units words input) (units_spent units words input)
-spends_least units h words input n e = spent_in (linked units) (linked_tame units h) (main_entity units) words input (main_in (linked units) (main_entity units) words) n e
+pub spends_least : (units : List (List Linkable)) → TameUnits units → (mode : Mode) (words : List (List ℕ)) (input : List ℕ) → SpendsLeast (run units mode words input) (units_spent units mode words input)
+spends_least units h mode words input n e = spent_in mode.abi (linked units) (linked_tame units h) (main_entity units) words input (main_in (linked units) (main_entity units) words) n e

@@ -1,6 +1,7 @@
 -- Definition: how a run starts and ends (C11 5.1.2.2.1, 5.1.2.2.3; own: statuses are modulo 256, and the bound).
 use Rattle.std.specs.Prelude.{ℕ, suc, ◌-◌, Bool, false, List, [], ◌∷◌, ◌++◌, length, map, Option, Some, None, option_map, slice_get, pos}
 use Rattle.cil_base.specs.declared.kinds.Abi.{Abi}
+use Rattle.cil_base.specs.declared.kinds.Mode.{Mode}
 use Rattle.cil_base.specs.declared.kinds.IntKind.TheVariants.{Int as int}
 use Rattle.cil_base.specs.declared.runs.Outcome.{Outcome}
 use Rattle.cil_base.specs.declared.runs.Outcome.TheVariants.{Exit, Running as StillRunning, Undefined as WentUndefined}
@@ -75,8 +76,9 @@ main_arguments NotMain words = None
 main_arguments WithoutWords words = Some []
 main_arguments WithWords words = Some (int_argument (length words) ∷ words_argument ∷ [])
 
-abbrev pub main_call : Function → ℕ → List Argument → Call
-main_call f entity arguments = record { abi = f.abi; callee = pointer_to_name (Entity (record { 0 = entity })); result = int_kind; arguments = arguments }
+-- the call of main, from outside the program
+abbrev pub main_call : Abi → ℕ → List Argument → Call
+main_call abi entity arguments = record { abi = abi; callee = pointer_to_name (Entity (record { 0 = entity })); result = int_kind; arguments = arguments }
 
 -- C11 5.1.2.2.3p1: the value that main returns is the status; without a number the run is undefined (own)
 abbrev pub status_of : Datum → List ℕ → Outcome
@@ -100,37 +102,37 @@ code_in _ = None
 abbrev pub main_in : Linked → ℕ → List (List ℕ) → Option (Function × List Argument)
 main_in link entity words = slice_get link entity >>= code_in >>= λ f. main_arguments f.start words >>= λ arguments. Some (f, arguments)
 
--- what a linked program does with those words, that input and at most n units; none without a main
-abbrev pub result_with : Linked → ℕ → List (List ℕ) → List ℕ → ℕ → Function × List Argument → Result Datum
-result_with link entity words input n (f, arguments) = calls link (main_call f entity arguments) (start_state f.abi link words input n)
+-- what a linked program does under that data model with those words, that input and at most n units; none without a main
+abbrev pub result_with : Abi → Linked → ℕ → List (List ℕ) → List ℕ → ℕ → Function × List Argument → Result Datum
+result_with abi link entity words input n (f, arguments) = calls link (main_call abi entity arguments) (start_state abi link words input n)
 
-abbrev pub result_linked : Linked → ℕ → List (List ℕ) → List ℕ → ℕ → Option (Result Datum)
-result_linked link entity words input n = option_map (result_with link entity words input n) (main_in link entity words)
+abbrev pub result_linked : Abi → Linked → ℕ → List (List ℕ) → List ℕ → ℕ → Option (Result Datum)
+result_linked abi link entity words input n = option_map (result_with abi link entity words input n) (main_in link entity words)
 
 -- without a main a run is undefined, with no output (own)
 abbrev pub outcome_in : Option (Result Datum) → Outcome
 outcome_in None = WentUndefined []
 outcome_in (Some r) = outcome_of r
 
-abbrev pub run_linked : Linked → ℕ → List (List ℕ) → List ℕ → ℕ → Outcome
-run_linked link entity words input n = outcome_in (result_linked link entity words input n)
+abbrev pub run_linked : Abi → Linked → ℕ → List (List ℕ) → List ℕ → ℕ → Outcome
+run_linked abi link entity words input n = outcome_in (result_linked abi link entity words input n)
 
--- units of any languages, linked and run
-abbrev pub run : List (List Linkable) → List (List ℕ) → List ℕ → ℕ → Outcome
-run units words input n = run_linked (linked units) (main_entity units) words input n
+-- units of any languages, linked and run in a mode: the run begins in a memory of the mode's data model, and whether tentative definitions are common does not count yet (own)
+abbrev pub run : List (List Linkable) → Mode → List (List ℕ) → List ℕ → ℕ → Outcome
+run units mode words input n = run_linked mode.abi (linked units) (main_entity units) words input n
 
 -- the state in which that run ends; none without a main
-abbrev pub end_of : List (List Linkable) → List (List ℕ) → List ℕ → ℕ → Option State
-end_of units words input n = option_map last (result_linked (linked units) (main_entity units) words input n)
+abbrev pub end_of : List (List Linkable) → Mode → List (List ℕ) → List ℕ → ℕ → Option State
+end_of units mode words input n = option_map last (result_linked mode.abi (linked units) (main_entity units) words input n)
 
 -- the units that the run has spent
 abbrev pub spent_until : ℕ → Option State → ℕ
 spent_until n None = 0
 spent_until n (Some s) = n - s.left
 
-abbrev pub units_spent : List (List Linkable) → List (List ℕ) → List ℕ → ℕ → ℕ
-units_spent units words input n = spent_until n (end_of units words input n)
+abbrev pub units_spent : List (List Linkable) → Mode → List (List ℕ) → List ℕ → ℕ → ℕ
+units_spent units mode words input n = spent_until n (end_of units mode words input n)
 
 -- whether a call of getchar in the run has found no input left
-abbrev pub finds_end : List (List Linkable) → List (List ℕ) → List ℕ → ℕ → Bool
-finds_end units words input n = elim (end_of units words input n) [ None ↦ false | Some s ↦ s.at_end ]
+abbrev pub finds_end : List (List Linkable) → Mode → List (List ℕ) → List ℕ → ℕ → Bool
+finds_end units mode words input n = elim (end_of units mode words input n) [ None ↦ false | Some s ↦ s.at_end ]

@@ -1,4 +1,5 @@
 ghost use Rattle.std.specs.Prelude.{ℕ, List};
+ghost use Rattle.cil_base.specs.declared.kinds.Mode.{Mode};
 ghost use Rattle.execution.specs.Calls.{Linked};
 ghost use Rattle.execution.specs.Linking.{Linkable};
 ghost use Rattle.execution.specs.Runs.{run, units_spent};
@@ -14,11 +15,11 @@ pub fn calls_are_their_step()
 /// A smaller bound only cuts a run: with units more, a run that has ended is the same, and one that is still
 /// running goes on from its output (own).
 pub fn bounds_only_cut()
-    ensures { (units : List (List Linkable)) → TameUnits units → (words : List (List ℕ)) (input : List ℕ) → IsCutByBounds (run units words input) }
+    ensures { (units : List (List Linkable)) → TameUnits units → (mode : Mode) (words : List (List ℕ)) (input : List ℕ) → IsCutByBounds (run units mode words input) }
 {}
 
 /// The units that an ended run has spent are its least bound: there it ends so too, and at each smaller bound it
 /// is still running (own).
 pub fn ended_runs_spend_their_least_bound()
-    ensures { (units : List (List Linkable)) → TameUnits units → (words : List (List ℕ)) (input : List ℕ) → SpendsLeast (run units words input) (units_spent units words input) }
+    ensures { (units : List (List Linkable)) → TameUnits units → (mode : Mode) (words : List (List ℕ)) (input : List ℕ) → SpendsLeast (run units mode words input) (units_spent units mode words input) }
 {}
