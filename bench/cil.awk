@@ -22,7 +22,8 @@ function until(test) {
     line("} else {")
     line("}")
 }
-function arithmetic() {
+# Turns of a linear congruential generator, up to the end of the loop's body.
+function turn() {
     line("int main ( void ) ;")
     line("int main ( void ) {")
     line("unsigned long i ;")
@@ -32,21 +33,19 @@ function arithmetic() {
     line("while ( 1 ) {")
     until("( i < " n "UL )")
     line("h = ( ( h * 1103515245U ) + 12345U ) ;")
+}
+function turned() {
     line("i = ( i + 1UL ) ;")
     line("}")
     line("return ( ( int ) ( ( h / 65536U ) % 128U ) ) ;")
     line("}")
 }
+function arithmetic() {
+    turn()
+    turned()
+}
 function wide(    k) {
-    line("int main ( void ) ;")
-    line("int main ( void ) {")
-    line("unsigned long i ;")
-    line("unsigned int h ;")
-    line("i = 0UL ;")
-    line("h = 1U ;")
-    line("while ( 1 ) {")
-    until("( i < " n "UL )")
-    line("h = ( ( h * 1103515245U ) + 12345U ) ;")
+    turn()
     line("switch ( ( ( int ) ( ( h / 65536U ) % " m "U ) ) ) {")
     for (k = m - 1; k >= 0; k--) {
         line("case " k " : ;")
@@ -55,10 +54,7 @@ function wide(    k) {
     }
     line("}")
     line("on : ;")
-    line("i = ( i + 1UL ) ;")
-    line("}")
-    line("return ( ( int ) ( ( h / 65536U ) % 128U ) ) ;")
-    line("}")
+    turned()
 }
 function sieve() {
     line("static unsigned char composite [ " n " ] ;")

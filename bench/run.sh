@@ -39,9 +39,9 @@ tcc_seconds() {
     fi
 }
 
-# Writes a text, builds gcc's program of it, and keeps what that does.
+# Writes a text of a kind, so large and with so many cases, builds gcc's program of it, and keeps what that does.
 prepare() {
-    awk -v kind="$1" -v n="$2" -f "$here/cil.awk" >"$folder/text.c"
+    awk -v kind="$1" -v n="$2" -v m="${3:-0}" -f "$here/cil.awk" >"$folder/text.c"
     gcc -std=c11 -w -O0 -o "$folder/gcc" "$folder/text.c" || exit 1
     rm -f "$folder/asan"
     clang -std=c11 -w -O0 -fsanitize=address,undefined -o "$folder/asan" "$folder/text.c" 2>/dev/null
@@ -102,11 +102,7 @@ cost() {
 
 # A turn through a switch of few cases and of many, each of which jumps to the end of the loop's body.
 for m in 16 16384; do
-    awk -v kind=wide -v n=2000000 -v m="$m" -f "$here/cil.awk" >"$folder/text.c"
-    gcc -std=c11 -w -O0 -o "$folder/gcc" "$folder/text.c" || exit 1
-    try "$folder/gcc"
-    mv "$folder/out" "$folder/want-out"
-    mv "$folder/status" "$folder/want-status"
+    prepare wide 2000000 "$m"
     seconds "$cil" run --steps 1000000000000 "$folder/text.c" >"$folder/wide-$m"
     compare wide "$m"
 done
