@@ -1,4 +1,4 @@
-# CIL texts to measure by. Usage: awk -v kind=KIND -v n=N -f bench/cil.awk
+# CIL texts to measure by. Usage: awk -v kind=KIND -v n=N [-v m=M] -f bench/cil.awk
 # Each text is a program that gcc takes too, and ends with a status that its run decides:
 #   arithmetic  n turns of a linear congruential generator
 #   sieve       the primes below n
@@ -22,8 +22,8 @@ function until(test) {
     line("} else {")
     line("}")
 }
-# Turns of a linear congruential generator, up to the end of the loop's body.
-function turn() {
+# main up to the middle of a turn of a linear congruential generator, and what follows.
+function begin_turns() {
     line("int main ( void ) ;")
     line("int main ( void ) {")
     line("unsigned long i ;")
@@ -34,18 +34,18 @@ function turn() {
     until("( i < " n "UL )")
     line("h = ( ( h * 1103515245U ) + 12345U ) ;")
 }
-function turned() {
+function end_turns() {
     line("i = ( i + 1UL ) ;")
     line("}")
     line("return ( ( int ) ( ( h / 65536U ) % 128U ) ) ;")
     line("}")
 }
 function arithmetic() {
-    turn()
-    turned()
+    begin_turns()
+    end_turns()
 }
 function wide(    k) {
-    turn()
+    begin_turns()
     line("switch ( ( ( int ) ( ( h / 65536U ) % " m "U ) ) ) {")
     for (k = m - 1; k >= 0; k--) {
         line("case " k " : ;")
@@ -54,7 +54,7 @@ function wide(    k) {
     }
     line("}")
     line("on : ;")
-    turned()
+    end_turns()
 }
 function sieve() {
     line("static unsigned char composite [ " n " ] ;")

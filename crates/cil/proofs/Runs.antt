@@ -1,12 +1,12 @@
 -- What the answer of a machine's run says of a program, and what is said of a program is said of each equal one.
 use Rattle.std.proofs.Common.{◌≡◌, ℕ, true, false, List, [], ◌∷◌, ◌++◌, Option, Some, None, refl, sym, ap, subst, ◌∙◌, append-nil, append_assoc}
-use Rattle.std.proofs.lemmas.List.Elements.{All-nil, All-cons}
 use Rattle.cil_base.specs.declared.kinds.Abi.{Abi}
 use Rattle.cil_base.specs.declared.runs.Outcome.{Outcome}
 use Rattle.cil_base.specs.Outcome.{output, IsPrefix}
 use Rattle.cil_tree.specs.Tree.{Program}
 use Rattle.cil_semantics.specs.Runs.{RunCil, FindsEnd}
 use Rattle.cil_semantics.specs.Modes.{HaveModel, mode_of}
+use Rattle.cil_semantics.proofs.Modes.{one_has}
 use Rattle.cil_equal.specs.Runs.{RunAlike}
 use Rattle.outside.specs.Moves.{WasRead, Wrote}
 use Rattle.cil_turns.specs.declared.ends.RunEnd.{RunEnd}
@@ -63,9 +63,7 @@ read_fault end.Memory is = let clash : Memory ≡ ReadFault = is in cc
 
 -- a program has the data model of its own mode
 pub in_own_mode : (p : Program) → HaveModel (mode_of p).abi (p ∷ [])
-in_own_mode p =
-    let alike = λ (q : Program). q.graph.abi ≡ p.graph.abi in
-    All-cons alike p [] refl (All-nil alike)
+in_own_mode p = one_has p.graph.abi p refl
 
 -- a run of the machine, of which out took the text
 ran : (e : RunEnd) (p : Program) (words : List (List ℕ)) (steps used : ℕ) (left left' taken taken' : Option (List ℕ)) (r : RunsAs e (p ∷ []) (mode_of p) words steps used left left' taken taken') (text : List ℕ) → Wrote taken taken' text

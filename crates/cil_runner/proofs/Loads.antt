@@ -1,10 +1,11 @@
 -- Device: a loaded machine is fresh.
 use Rattle.std.proofs.Common.{◌≡◌, ℕ, zero, suc, ◌+◌, ◌<◌, ◌≤◌, List, [], ◌∷◌, ◌++◌, All, Option, Some, None, option_map, length, map, take, get_or, slice_get, refl, sym, ap, ◌∙◌, subst, arith}
-use Rattle.std.proofs.lemmas.List.Elements.{All-nil, All-cons, All-same, All-map, All-weaker}
+use Rattle.std.proofs.lemmas.List.Elements.{All-map, All-weaker}
 use Rattle.type_graph.specs.Arena.{Graph}
 use Rattle.layout_lp64.specs.declared.layouts.Layouts.{Layouts}
 use Rattle.layout_lp64.specs.Tables.{InStep, IsLeastTooBig}
 use Rattle.cil_base.specs.declared.kinds.Abi.{Abi}
+use Rattle.cil_base.specs.declared.kinds.Mode.{Mode}
 use Rattle.byte_mem.specs.declared.pointers.ObjName.TheVariants.{Heap}
 use Rattle.byte_mem.specs.declared.stores.Store.{Store}
 use Rattle.byte_mem.specs.Object.{Held}
@@ -12,7 +13,7 @@ use Rattle.byte_mem.specs.Memory.{Memory, live_size}
 use Rattle.byte_mem.specs.Store.{memory}
 use Rattle.host_calls.specs.Counted.{IsCounted}
 use Rattle.execution.specs.Calls as meaning
-use Rattle.execution.specs.Calls.{Enter, Meaning, Object, Code, Host, Linked}
+use Rattle.execution.specs.Calls.{Enter, Code, Linked}
 use Rattle.cil_tree.specs.declared.globals.CilUnit.{CilUnit}
 use Rattle.cil_tree.specs.Tree.{Program}
 use Rattle.cil_tree.specs.View.{program_of}
@@ -21,6 +22,8 @@ use Rattle.cil_tree.specs.WellFormedTypes.{TypesAreSmall}
 use Rattle.cil_semantics.specs.Laws.{calls_in}
 use Rattle.cil_semantics.specs.Units.{IsUnit}
 use Rattle.cil_semantics.proofs.ProgramUnits.{program_is_unit}
+use Rattle.cil_semantics.specs.Modes.{HaveModel, HaveOneModel}
+use Rattle.cil_semantics.proofs.Modes.{one_has}
 use Rattle.cil_frames.specs.declared.frames.Function.{Function}
 use Rattle.cil_frames.specs.declared.frames.Entity.{Entity}
 use Rattle.cil_frames.specs.declared.frames.Entity.TheVariants.{Data as OfData, Program as OfProgram, Host as OfHost}
@@ -29,7 +32,6 @@ use Rattle.cil_streams.specs.Held.{StreamsState, fresh, host_part}
 use Rattle.cil_link.specs.declared.entities.Definer.{Definer}
 use Rattle.cil_link.specs.Entities.{linked_in}
 use Rattle.cil_start.specs.Ready.{AreInStep}
-use Rattle.cil_semantics.specs.Modes.{HaveOneModel}
 use Rattle.cil_start.specs.Starts.{Starts}
 use Rattle.cil_link.specs.declared.mains.Main.{Main}
 use Rattle.cil_link.specs.Mains.{BeginsWith}
@@ -55,7 +57,7 @@ entry_loaded abi enter at link (Some OfData) table j f h = absurd h
 entry_loaded abi enter at link (Some (OfProgram g)) table j f h = record { code = g; there = refl; is = h }
 entry_loaded abi enter at link (Some (OfHost name)) table j f h = absurd h
 
-pub function_loaded : (abi : Abi) (enter : Enter) (at : Courses) (link : Linked) (table : List (Option Entity)) (i n : ℕ) (f : meaning.Function) → IsTable abi enter at i link table → slice_get link n ≡ Some (Some (Code f)) → IsLoadedAs abi enter at table n (i + n) f
+function_loaded : (abi : Abi) (enter : Enter) (at : Courses) (link : Linked) (table : List (Option Entity)) (i n : ℕ) (f : meaning.Function) → IsTable abi enter at i link table → slice_get link n ≡ Some (Some (Code f)) → IsLoadedAs abi enter at table n (i + n) f
 function_loaded abi enter at [] table i n f t there = absurd (cc)
 function_loaded abi enter at (m ∷ link) [] i n f t there = absurd t
 function_loaded abi enter at (m ∷ link) (e ∷ table) i zero f t there =
@@ -83,11 +85,12 @@ counted_at_start s programs words held h e =
     subst (λ held. IsCounted (host_part (memory s) held)) (sym e) (record { live = refl; fresh = λ i above. no_heap (memory s) _ i (h.memory [] 0) refl })
 
 -- a machine whose parts are loaded stands before the first step
-pub machine_loads : (m : Machine) (programs : List Program) (words : List (List ℕ)) (definers : List Definer) (s : Store) (held : StreamsState) → IsLoadedTable programs definers m.table.items → Starts s programs words → m.run.mem ≡ s → held ≡ fresh → m.run.streams ≡ held
-    → BeginsWith programs m.main → m.words ≡ length words → Loads m programs words
-machine_loads m programs words definers s held table start mem new streams main count =
+pub machine_loads : (m : Machine) (programs : List Program) (mode : Mode) (words : List (List ℕ)) (definers : List Definer) (s : Store) (held : StreamsState) → HaveModel mode.abi programs → IsLoadedTable programs definers m.table.items → Starts s programs words → m.run.mem ≡ s → held ≡ fresh → m.run.streams ≡ held
+    → BeginsWith programs m.main → m.words ≡ length words → Loads m programs mode words
+machine_loads m programs mode words definers s held model table start mem new streams main count =
     let here : Starts m.run.mem programs words = subst (λ s. Starts s programs words) (sym mem) start in
     record {
+      model = model;
       at = courses_in programs definers;
       table = table m.run.mem.abi here.model;
       store = here;
@@ -96,8 +99,8 @@ machine_loads m programs words definers s held table start mem new streams main 
       count = count;
     }
 
-pub machine_is_fresh : (m : Machine) (programs : List Program) (words : List (List ℕ)) → Loads m programs words → AllLead m.table.items → IsNew m.run → m.used ≡ 0 → IsFresh m
-machine_is_fresh m programs words loads leads new used = record {
+pub machine_is_fresh : (m : Machine) (programs : List Program) (mode : Mode) (words : List (List ℕ)) → Loads m programs mode words → AllLead m.table.items → IsNew m.run → m.used ≡ 0 → IsFresh m
+machine_is_fresh m programs mode words loads leads new used = record {
   leads = leads;
   main = main_there programs m.run.mem.abi loads.at m.table.items m.main loads.table loads.main;
   run = new;
@@ -145,5 +148,4 @@ are_alike names us abi all = record { model = abi; each = All-map (λ (p : Progr
 
 pub one_alone : (names : List (List ℕ)) (u : CilUnit) (us : List CilUnit) → us ≡ u ∷ [] → HaveOneModel (map (program_of names) us)
 one_alone names u us e =
-    let alike = λ (v : CilUnit). v.graph.abi ≡ u.graph.abi in
-    are_alike names us u.graph.abi (All-same alike us (u ∷ []) e (All-cons alike u [] refl (All-nil alike)))
+    subst (λ (us : List CilUnit). HaveOneModel (map (program_of names) us)) (sym e) (record { model = u.graph.abi; each = one_has u.graph.abi (program_of names u) refl })

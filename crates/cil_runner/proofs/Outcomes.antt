@@ -3,32 +3,17 @@ use Rattle.std.proofs.Common.{◌≡◌, ℕ, ◌-◌, List, map, [], Option, So
 use Rattle.cil_base.specs.declared.kinds.Mode.{Mode}
 use Rattle.cil_base.specs.declared.runs.Outcome.{Outcome}
 use Rattle.cil_base.specs.Outcome.{output as written, IsPrefix}
-use Rattle.byte_mem.specs.declared.values.Value.TheVariants.{Int, Ptr, Unknown, Part}
-use Rattle.execution.specs.States.{Result, Goes, Exits, Running, Undefined, last, output}
-use Rattle.execution.specs.Data.{Datum, Single, Bytes}
-use Rattle.execution.specs.Runs.{status_of, outcome_of, outcome_in, result_linked, spent_until}
+use Rattle.execution.specs.States.{Result, last, output}
+use Rattle.execution.specs.Data.{Datum}
+use Rattle.execution.specs.Runs.{outcome_of, outcome_in, result_linked, spent_until}
 use Rattle.execution.specs.Linking.{linked, main_entity}
 use Rattle.execution.specs.Laws.{HasEnded, IsLeastBound}
-use Rattle.execution.proofs.RunLaws.{spends_least}
+use Rattle.execution.proofs.RunLaws.{outcome_output, spends_least}
 use Rattle.cil_tree.specs.Tree.{Program}
 use Rattle.cil_semantics.specs.Runs.{linkables, RunCil, UnitsSpent, FindsEnd}
 use Rattle.cil_semantics.proofs.ProgramLaws.{programs_tame}
 use Rattle.cil_turns.specs.Ends.{CutOff as IsCutOff}
 use Rattle.cil_runner.specs.Outcomes.{EndsAs, GoesOn, HasWritten, CutOff}
-
--- an outcome has the output of its result
-status_output : (d : Datum) (out : List ℕ) → written (status_of d out) ≡ out
-status_output (Single (Int v)) out = refl
-status_output (Single (Ptr p)) out = refl
-status_output (Single Unknown) out = refl
-status_output (Single (Part p k)) out = refl
-status_output (Bytes bytes) out = refl
-
-outcome_output : (r : Result Datum) → written (outcome_of r) ≡ output r
-outcome_output (Goes d s) = status_output d s.out
-outcome_output (Exits status s) = refl
-outcome_output (Running s) = refl
-outcome_output (Undefined s) = refl
 
 -- the result of the run of linked programs
 abbrev pub result_of : List Program → Mode → List (List ℕ) → List ℕ → ℕ → Option (Result Datum)

@@ -20,8 +20,8 @@ use Rattle.execution.specs.Linking.{main_entity}
 use Rattle.execution.specs.Runs.{pointer_to_name, start_state, int_kind, main_arguments, main_call, code_in, main_in, result_with}
 use Rattle.cil_tree.specs.Tree.{Program}
 use Rattle.cil_semantics.specs.Runs.{linkables, FindsEnd}
-use Rattle.cil_semantics.specs.Modes.{HaveModel}
 use Rattle.cil_semantics.specs.Laws.{calls_in}
+use Rattle.cil_semantics.specs.Modes.{HaveModel}
 use Rattle.cil_code.specs.declared.calls.Kind.TheVariants.{Single}
 use Rattle.cil_code.specs.Calling.{kind_from}
 use Rattle.cil_frames.specs.declared.frames.Entity.{Entity as Entry}
@@ -120,11 +120,11 @@ call_is abi programs m words input steps count first callee kind xs n =
 
 -- the run of main is that of the programs
 pub runs_main : (machine : Machine) (programs : List Program) (mode : Mode) (words : List (List ℕ)) (table : List (Option Entry)) (m : Main) (first : FirstCall) (end : RunEnd) (steps left : ℕ) (bytes bytes' taken taken' : Option (List ℕ))
-    → Loads machine programs words → HaveModel mode.abi programs → table ≡ machine.table.items → machine.main ≡ Some m → first.callee ≡ m.entity → first.result ≡ Some (Single (OfKind int)) → arguments_of first.arguments.items ≡ arguments_for m.words machine.words
+    → Loads machine programs mode words → table ≡ machine.table.items → machine.main ≡ Some m → first.callee ≡ m.entity → first.result ≡ Some (Single (OfKind int)) → arguments_of first.arguments.items ≡ arguments_for m.words machine.words
     → ((link : Linked) (enter : meaning.Enter) (at : Courses) → IsMachine machine.run.mem.abi link enter at table
     → RunsTo end (enter (call_of_first machine.run.mem.abi first)) (memory machine.run.mem) machine.run.streams steps left 0 bytes bytes' taken taken')
     → RunsAs end programs mode words steps (steps - left) bytes bytes' taken taken'
-runs_main machine programs mode words table m first end steps left bytes bytes' taken taken' loads model same is_main callee kind xs runs =
+runs_main machine programs mode words table m first end steps left bytes bytes' taken taken' loads same is_main callee kind xs runs =
     let main : IsMain programs m = subst (BeginsWith programs) is_main loads.main in
     let loaded : IsMachine machine.run.mem.abi (linked_in programs) (calls_in programs) loads.at table =
     subst (IsMachine machine.run.mem.abi (linked_in programs) (calls_in programs) loads.at) (sym same) loads.table in
@@ -133,7 +133,7 @@ runs_main machine programs mode words table m first end steps left bytes bytes' 
     let start : (input : List ℕ) → Matches (start_state machine.run.mem.abi (linked_in programs) words input steps) (memory machine.run.mem) machine.run.streams [] input =
     λ input. start_matches machine.run.mem machine.run.streams programs words input steps loads.store loads.streams in
     let result : (input : List ℕ) → result_of programs mode words input steps ≡ Some (enter (start_state machine.run.mem.abi (linked_in programs) words input steps)) =
-    λ input. result_is machine.run.mem.abi programs mode m words input steps main (one_model mode.abi machine.run.mem.abi programs m main model loads.store.model) ∙ ap Some (sym (call_is machine.run.mem.abi programs m words input steps machine.words first callee kind xs loads.count)) in
+    λ input. result_is machine.run.mem.abi programs mode m words input steps main (one_model mode.abi machine.run.mem.abi programs m main loads.model loads.store.model) ∙ ap Some (sym (call_is machine.run.mem.abi programs m words input steps machine.words first callee kind xs loads.count)) in
     record {
       got = r.got;
       sent = r.sent;
@@ -173,7 +173,7 @@ lacks_memory programs mode words steps used bytes taken zero = record {
 }
 
 -- without a main the run is undefined
-pub lacks_main : (machine : Machine) (programs : List Program) (mode : Mode) (words : List (List ℕ)) (steps used : ℕ) (bytes taken : Option (List ℕ)) → Loads machine programs words → machine.main ≡ None → used ≡ 0 → RunsAs WentUndefined programs mode words steps used bytes bytes taken taken
+pub lacks_main : (machine : Machine) (programs : List Program) (mode : Mode) (words : List (List ℕ)) (steps used : ℕ) (bytes taken : Option (List ℕ)) → Loads machine programs mode words → machine.main ≡ None → used ≡ 0 → RunsAs WentUndefined programs mode words steps used bytes bytes taken taken
 lacks_main machine programs mode words steps used bytes taken loads none zero = record {
   got = [];
   sent = [];

@@ -52,7 +52,7 @@ impl Machine {
         args: &[String],
     ) -> Result<Machine, Memory>
         requires { IsProgram (program_of names.now u.now) }
-        ensures loads { IfOk result (λ m. Loads m (program_of names.now u.now ∷ []) (map string_bytes args.now)) }
+        ensures loads { (mode : Mode) → HaveModel mode.abi (program_of names.now u.now ∷ []) → IfOk result (λ m. Loads m (program_of names.now u.now ∷ []) mode (map string_bytes args.now)) }
         ensures fresh { IfOk result IsFresh }
     {
         let words = words_of(alloc, args)?;
@@ -73,7 +73,7 @@ impl Machine {
     ) -> Result<Machine, Memory>
         requires units { All (λ u. IsUnit (program_of names.now u)) units.now }
         requires model { HaveOneModel (map (program_of names.now) units.now) }
-        ensures loads { IfOk result (λ m. Loads m (map (program_of names.now) units.now) words.now) }
+        ensures loads { (mode : Mode) → HaveModel mode.abi (map (program_of names.now) units.now) → IfOk result (λ m. Loads m (map (program_of names.now) units.now) mode words.now) }
         ensures fresh { IfOk result IsFresh }
     {
         let layouts = all_layouts(alloc, units)?;
@@ -104,11 +104,13 @@ impl Machine {
     /// so does each turn of a loop and each jump back (own). It reads `input` where they ask for a byte and none
     /// is at hand, and `out` gets all output, unless a write fails.
     ///
+    /// In each mode of their data model the run is the same (own).
+    ///
     /// Undefined also where they have no main (own). After a fault and after Memory the sink got a front of the
     /// output, whatever the source has still to give. No more bytes are asked for at once than 4,096.
     pub fn run<S: Source, O: Sink>(&mut self, steps: u64, input: &mut S, out: &mut O) -> RunEnd
         requires { IsFresh self.old }
-        ensures runs { (programs : List Program) (mode : Mode) (words : List (List ℕ)) → Loads self.old programs words → HaveModel mode.abi programs
+        ensures runs { (programs : List Program) (mode : Mode) (words : List (List ℕ)) → Loads self.old programs mode words
             → RunsAs result programs mode words steps self.new.used (S.left input.old) (S.left input.new) (O.taken out.old) (O.taken out.new) }
         ensures within { self.new.used ≤ steps }
         ensures reads { CountsReads result (S.faults input.old) (S.faults input.new) }
@@ -132,7 +134,7 @@ impl Machine {
     ) -> RunEnd
         requires fresh { IsFresh self.old }
         requires main { self.old.main ≡ Some main }
-        ensures runs { (programs : List Program) (mode : Mode) (words : List (List ℕ)) → Loads self.old programs words → HaveModel mode.abi programs
+        ensures runs { (programs : List Program) (mode : Mode) (words : List (List ℕ)) → Loads self.old programs mode words
             → RunsAs result programs mode words steps self.new.used (S.left input.old) (S.left input.new) (O.taken out.old) (O.taken out.new) }
         ensures within { self.new.used ≤ steps }
         ensures reads { CountsReads result (S.faults input.old) (S.faults input.new) }

@@ -7,4 +7,5 @@ pub mod Tameness
 pub mod ProgramLaws
 pub mod Quiet
 pub mod ProgramUnits
+pub mod Modes
 mod UnitRows

@@ -10,8 +10,8 @@ use Rattle.type_graph.specs.Shapes.{Shape, VoidType, IntType, ArrayType, FuncTyp
 use Rattle.cil_tree.specs.Tree.{Exp, Const, Value, Un, Bin, AddrOf, Global, Var, Here, Index, Lval, Place, Set, Zero, Stmt, Do, If, Switch, Loop, Block, Label, Case, Goto, Done, Item, Image, Program}
 use Rattle.cil_tree.specs.Typing.{unqualified, pointer_to}
 use Rattle.cil_semantics.specs.Runs.{RunCil}
-use Rattle.cil_semantics.specs.Modes.{mode_of}
 use Rattle.cil_semantics.proofs.Samples.{int, program, fits, local, function, int_from, main_of, declared, putchar, number, at, var, pointed_by, to, sum, set, call, call_to, return, stmts_of, unless, element, outcomes}
+use Rattle.cil_semantics.specs.Modes.{mode_of}
 
 -- int main(void) { return 2 + 3; }
 abbrev sum_program : Program

@@ -13,6 +13,6 @@ pub record HaveOneModel (programs : List Program) : Type 0 where
   pub model : Abi
   pub each : HaveModel model programs
 
--- the mode of a program that is run alone: its own data model, and no definitions of several units
+-- the mode of a program that is run alone: its own data model, and no common definitions
 abbrev pub mode_of : Program → Mode
 mode_of p = record { common = false; abi = p.graph.abi }

@@ -9,10 +9,10 @@ use Rattle.execution.specs.Runs.{entity_held, memory_of, words_held}
 use Rattle.cil_tree.specs.declared.globals.CilUnit.{CilUnit}
 use Rattle.cil_tree.specs.Tree.{Program}
 use Rattle.cil_tree.specs.View.{program_of}
+use Rattle.cil_semantics.specs.Modes.{HaveModel, HaveOneModel}
 use Rattle.cil_link.specs.declared.entities.Definer.{Definer}
 use Rattle.cil_link.specs.Entities.{InRun, in_run, linked_in, meant, IsTable}
 use Rattle.cil_start.specs.Loads.{definer_held}
-use Rattle.cil_semantics.specs.Modes.{HaveModel, HaveOneModel}
 use Rattle.cil_start.specs.Starts.{Starts}
 
 held_each : (units : List InRun) (ds : List Definer) → map entity_held (map (meant units) ds) ≡ map (definer_held units) ds

@@ -16,6 +16,7 @@ use Rattle.cil_link.specs.declared.units.Units.{Units}
 use Rattle.execution.specs.Linking.{Symbol, rank_behind}
 use Rattle.cil_tree.specs.Tree.{Program}
 use Rattle.cil_semantics.specs.Runs.{linkables}
+use Rattle.cil_semantics.specs.Modes.{HaveModel}
 use Rattle.cil_link.specs.Entities.{InRun, IsThere, in_run_from, in_run}
 use Rattle.cil_link.specs.Units.{units_in}
 use Rattle.cil_link.proofs.UnitLaws.{unit_is}
@@ -23,7 +24,6 @@ use Rattle.cil_start.specs.declared.loaded.Loaded.{Loaded}
 use Rattle.cil_start.specs.declared.loaded.LoadedUnits.{LoadedUnits}
 use Rattle.cil_start.specs.Loads.{IsReady, loaded_in}
 use Rattle.cil_start.specs.Ready.{AreReady, AreInStep}
-use Rattle.cil_semantics.specs.Modes.{HaveModel}
 
 as_many : (ys : List Layouts) (us : List CilUnit) → AreInStep ys us → length ys ≡ length us
 as_many [] [] h = refl

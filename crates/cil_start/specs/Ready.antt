@@ -3,9 +3,9 @@ use Rattle.std.specs.Prelude.{List, [], ◌∷◌}
 use Rattle.layout_lp64.specs.declared.layouts.Layouts.{Layouts}
 use Rattle.layout_lp64.specs.Tables.{InStep}
 use Rattle.cil_tree.specs.declared.globals.CilUnit.{CilUnit}
+use Rattle.cil_semantics.specs.Modes.{HaveOneModel}
 use Rattle.cil_link.specs.Units.{AreLinked, programs_in}
 use Rattle.cil_start.specs.declared.loaded.LoadedUnits.{LoadedUnits}
-use Rattle.cil_semantics.specs.Modes.{HaveOneModel}
 
 -- each program's layouts are those of its types
 abbrev pub AreInStep : List Layouts → List CilUnit → Type 0

@@ -9,11 +9,11 @@ ghost use Rattle.execution.specs.Runs.{memory_of};
 ghost use Rattle.cil_tree.specs.View.{item_of, global_of};
 ghost use Rattle.cil_tree.specs.Globals.{item_fits, global_fits};
 ghost use Rattle.cil_semantics.specs.Values.{size_in};
+ghost use Rattle.cil_semantics.specs.Modes.{HaveModel};
 ghost use Rattle.cil_start.specs.Loads.{program_in, IsReady, image_held, global_held, definer_held};
 ghost use Rattle.cil_link.specs.Entities.{IsOne, IsThere};
 ghost use Rattle.cil_link.specs.Units.{programs_in, units_in};
 ghost use Rattle.cil_start.specs.Ready.{AreReady};
-ghost use Rattle.cil_semantics.specs.Modes.{HaveModel};
 
 use crate::images::write_items;
 use crate::loaded::{Loaded, LoadedUnits};

@@ -1,8 +1,8 @@
 ghost use Rattle.std.specs.Prelude.{ℕ, IfOk, List, map};
 ghost use Rattle.cil_tree.specs.View.{program_of};
+ghost use Rattle.cil_semantics.specs.Modes.{HaveModel, HaveOneModel};
 ghost use Rattle.cil_link.specs.Units.{programs_in};
 ghost use Rattle.cil_start.specs.Ready.{AreReady};
-ghost use Rattle.cil_semantics.specs.Modes.{HaveModel, HaveOneModel};
 ghost use Rattle.cil_start.specs.Starts.{Starts};
 
 use crate::loaded::LoadedUnits;
@@ -13,7 +13,7 @@ use cil_base::{Abi, Bytes, Memory};
 use cil_tree::CilUnit;
 use std::alloc::Global;
 
-/// The model of the programs of a run; they have one (own).
+/// The data model of the programs of a run; they have one (own).
 fn abi_of(units: &[CilUnit]) -> Abi
     ensures { (names : List (List ℕ)) → HaveOneModel (map (program_of names) units.now) → HaveModel result (map (program_of names) units.now) }
 {
@@ -24,7 +24,8 @@ fn abi_of(units: &[CilUnit]) -> Abi
 }
 
 /// The store in which the run of linked programs starts with those words, the first of which names it: their objects with
-/// their images, their functions and the host's, and the arguments (C11 5.1.2p1, 5.1.2.2.1p2).
+/// their images, their functions and the host's, and the arguments (C11 5.1.2p1, 5.1.2.2.1p2), in the data model of the
+/// programs, which have one (own).
 ///
 /// Memory also comes where a number would not fit.
 pub fn start(alloc: Global, l: &LoadedUnits, words: &[Bytes]) -> Result<Store, Memory>

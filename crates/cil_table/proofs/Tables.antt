@@ -12,6 +12,7 @@ use Rattle.cil_tree.specs.Typing.{global_at}
 use Rattle.cil_semantics.specs.Runs.{linkables, global_meaning}
 use Rattle.cil_semantics.specs.Laws.{calls_in}
 use Rattle.cil_semantics.proofs.ProgramLaws.{programs_tame}
+use Rattle.cil_semantics.specs.Modes.{HaveModel, HaveOneModel}
 use Rattle.cil_control.specs.Remains.{Remains}
 use Rattle.cil_frames.specs.declared.frames.Function.{Function}
 use Rattle.cil_frames.specs.declared.frames.Entity.{Entity}
@@ -22,7 +23,6 @@ use Rattle.cil_link.specs.declared.entities.Definer.{Definer}
 use Rattle.cil_link.specs.declared.entities.Definer.TheVariants.{Global}
 use Rattle.cil_link.specs.Entities as linking
 use Rattle.cil_link.specs.Entities.{InRun, in_run, linked_in, global_meant, meant}
-use Rattle.cil_semantics.specs.Modes.{HaveModel, HaveOneModel}
 use Rattle.cil_start.proofs.UnitLaws.{model_at}
 use Rattle.cil_table.specs.Courses.{global_course, unit_course, entity_course, courses_in}
 use Rattle.cil_table.specs.Entries.{IsGlobalEntry, IsEntry, AreEntries, IsLoadedTable}

@@ -5,11 +5,11 @@ use Rattle.cil_tree.specs.Tree.{GlobalDecl, Program}
 use Rattle.cil_tree.specs.Typing.{global_at}
 use Rattle.cil_semantics.specs.Runs.{global_meaning}
 use Rattle.cil_semantics.specs.Laws.{calls_in}
+use Rattle.cil_semantics.specs.Modes.{HaveModel}
 use Rattle.cil_frames.specs.declared.frames.Entity.{Entity}
 use Rattle.cil_frames.specs.Frames.{IsEntity, IsMachine}
 use Rattle.cil_link.specs.declared.entities.Definer.{Definer}
 use Rattle.cil_link.specs.Entities.{InRun, in_run, linked_in, meant}
-use Rattle.cil_semantics.specs.Modes.{HaveModel}
 use Rattle.cil_table.specs.Courses.{global_course, entity_course, courses_in}
 
 -- the global is one of the program

@@ -9,7 +9,7 @@ use Rattle.execution.specs.Unrolling.{unrolled}
 use Rattle.execution.specs.Data.{Kind, same_kind, Datum, Argument, local_name, argument_held, with_arguments, Automatic, with_objects, without_objects}
 use Rattle.execution.specs.Jumps.{Signal, Normal, Broken, Jumped, Returned}
 use Rattle.execution.specs.Calls.{Call, Enter, Function, Meaning, Object, Code, Host, Linked, leaves, number_of, scoped, returned, returns, numbers, begun, activated, arguments_match, matches, entered, function_called, host_called, called, meant, call_step, calls}
-use Rattle.execution.specs.Likeness.{Ending, Exact, Past, Likeness, ends, Like, Within, Gives, Targets, LikeSignal, Later, Grows, Needs, LikeArguments, LikeCall, AlikeCalls, SameKinds, LikeMeaning}
+use Rattle.execution.specs.Likeness.{Ending, Exact, Past, Likeness, ends, Like, Within, Computes, Targets, LikeSignal, Later, Grows, Needs, LikeArguments, LikeCall, AlikeCalls, SameKinds, LikeMeaning}
 use Rattle.execution.proofs.Congruence.{later_refl, later_trans, bind_grows, needed, always, bind_into, bind_like, meanings_like}
 
 -- objects whose lifetimes end
@@ -60,8 +60,8 @@ returns_like L c end other r q v w l = bind_like L (LikeSignal L c) L.values r q
 -- an activation: its arguments, its body, and the call that leads to it
 
 -- a state in which the number of the next activation is taken
-abbrev pub numbered : State → State
-numbered s = record s { next = suc s.next }
+abbrev pub next_taken : State → State
+next_taken s = record s { next = suc s.next }
 
 arguments_like : (M : Likeness) (abi : Abi) (act other i : ℕ) (xs ys : List Argument) (n : ℕ) → LikeArguments M xs ys → i + length xs ≡ n
     → ((j : ℕ) (a b : Argument) (s t : State) → j < n → b.kind ≡ a.kind → M.values a.datum b.datum → M.states s t
@@ -75,11 +75,11 @@ arguments_like M abi act other i (a ∷ xs) (b ∷ ys) n l e one s t h =
     (one i a b s t (omega arith) l.0 l.1 h)
 
 -- an activation begins: its number is taken, and its arguments are made in turn
-pub begun_like : (M : Likeness) (abi : Abi) (xs ys : List Argument) (s t : State) → LikeArguments M xs ys → M.states (numbered s) (numbered t)
+pub begun_like : (M : Likeness) (abi : Abi) (xs ys : List Argument) (s t : State) → LikeArguments M xs ys → M.states (next_taken s) (next_taken t)
     → ((j : ℕ) (a b : Argument) (u v : State) → j < length xs → b.kind ≡ a.kind → M.values a.datum b.datum → M.states u v
     → M.states (with_memory u (with_held u.memory (local_name s.next j) (Some (argument_held abi a)))) (with_memory v (with_held v.memory (local_name t.next j) (Some (argument_held abi b)))))
     → M.states (begun abi xs s) (begun abi ys t)
-begun_like M abi xs ys s t l h one = arguments_like M abi s.next t.next 0 xs ys (length xs) l (omega arith) one (numbered s) (numbered t) h
+begun_like M abi xs ys s t l h one = arguments_like M abi s.next t.next 0 xs ys (length xs) l (omega arith) one (next_taken s) (next_taken t) h
 
 pub activated_like : (M L : Likeness) (f g : Function) (enter also : Enter) (xs ys : List Argument) (s t : State) → Within M L → M.states (begun f.abi xs s) (begun g.abi ys t)
     → ((u v : State) → M.states u v → L.states (with_memory u (without_objects s.next (numbers 0 xs) u.memory)) (with_memory v (without_objects t.next (numbers 0 ys) v.memory)))
@@ -123,7 +123,7 @@ function_like L f g enter also c d s t i l w k =
 
 -- what is called is one or the other on both sides; where the first side calls nothing that is known, the second may do anything
 pub called_like : (L : Likeness) (P : Function → Function → Type 0) (enter also : Enter) (m n : Option Meaning) (c d : Call) (s t : State)
-    → Gives L.wild (LikeMeaning P) m n → ends {B = Datum} L.wild L Undefined s (Undefined t) → Needs L.wild (Later t (last (called also n d t)))
+    → Computes L.wild (LikeMeaning P) m n → ends {B = Datum} L.wild L Undefined s (Undefined t) → Needs L.wild (Later t (last (called also n d t)))
     → ((f g : Function) → P f g → Like L L.values (function_called enter f c s) (function_called also g d t)) → ((name : HostName) → Like L L.values (host_called name c s) (host_called name d t))
     → Like L L.values (called enter m c s) (called also n d t)
 called_like L P enter also (Some m) n c d s t g w later f h = subst (λ x. Like L L.values (called enter (Some m) c s) (called also x d t)) (sym g.2) (by m g.0 g.1)
@@ -140,7 +140,7 @@ called_like L P enter also (Some m) n c d s t g w later f h = subst (λ x. Like 
     by (Host name) (Host other) i = subst (λ x. Like L L.values (host_called name c s) (host_called x d t)) (sym i) (h name)
 called_like L P enter also None n c d s t g w later f h = by L.wild g w later
   where
-    by : (e : Ending) → Gives e (LikeMeaning P) None n → ends {B = Datum} e L Undefined s (Undefined t) → Needs e (Later t (last (called also n d t))) → ends {B = Datum} e L Undefined s (called also n d t)
+    by : (e : Ending) → Computes e (LikeMeaning P) None n → ends {B = Datum} e L Undefined s (Undefined t) → Needs e (Later t (last (called also n d t))) → ends {B = Datum} e L Undefined s (called also n d t)
     by Exact g w later = (w.0, w.1, ap (λ x. called also x d t) g ∙ w.2)
     by Past g w later = L.later s t (last (called also n d t)) w later
 
@@ -150,7 +150,7 @@ pub calls_like : {I : Type 0} (L : I → Likeness) (P : Function → Function �
     → ((i : I) (s t : State) → (L i).states s t → ends {B = Datum} (L i).cut (L i) Running s (Running t))
     → ((i : I) (s t : State) → (L i).states s t → ends {B = Datum} (L i).wild (L i) Undefined s (Undefined t))
     → ((n : ℕ) → Grows (unrolled (call_step other) n))
-    → ((i : I) (c d : Call) → LikeCall (L i) c d → Gives (L i).wild (LikeMeaning P) (meant link c.callee) (meant other d.callee))
+    → ((i : I) (c d : Call) → LikeCall (L i) c d → Computes (L i).wild (LikeMeaning P) (meant link c.callee) (meant other d.callee))
     → ((i : I) (name : HostName) (c d : Call) (s t : State) → LikeCall (L i) c d → (L i).states s t → Like (L i) (L i).values (host_called name c s) (host_called name d t))
     → ((f g : Function) (enter also : Enter) → P f g → Grows also → AlikeCalls L enter also → (i : I) (c d : Call) (s t : State) → LikeCall (L i) c d → (L i).states s t → Like (L i) (L i).values (function_called enter f c s) (function_called also g d t))
     → AlikeCalls L (calls link) (calls other)

@@ -6,7 +6,7 @@ use Rattle.byte_mem.specs.Steps.{◌>>=◌}
 use Rattle.execution.specs.States.{State, Result, Goes, Exits, Running, Undefined, bind, given, spend, spent, last, with_left}
 use Rattle.execution.specs.Unrolling.{Step, unrolled, meaning}
 use Rattle.execution.specs.Jumps.{Target, ToCase, ToDefault, Entry, Signal, Normal, Broken, Jumped, Returned, Has, Goer, jumped, after, behind, jumping, spending, across, caught, seq_at, seq_from, chosen, if_from, case_for, broken_off, switch_ends, switched, switch_from, turned, turn_ends, turn, loop_from}
-use Rattle.execution.specs.Likeness.{Ending, Exact, Past, Later, Likeness, ends, Like, Within, Gives, Alike, Targets, Same, LikeSignal, LikeGoer, Grows, Needs, Carries, Along}
+use Rattle.execution.specs.Likeness.{Ending, Exact, Past, Later, Likeness, ends, Like, Within, Computes, Alike, Targets, Same, LikeSignal, LikeGoer, Grows, Needs, Carries, Along}
 
 pub later_refl : (s : State) → Later s s
 later_refl s = record { written = IsPrefix-refl s.out; spent = omega arith }
@@ -79,20 +79,20 @@ like_wider M L R S (Undefined s) q w n f h = ends_within M L w M.wild L.wild w.w
 
 -- computations
 
-pub gives_itself : {A : Type 0} (e : Ending) (o : Option A) → Gives e Same o o
+pub gives_itself : {A : Type 0} (e : Ending) (o : Option A) → Computes e Same o o
 gives_itself e (Some a) = (a, refl, refl)
 gives_itself Exact None = refl
 gives_itself Past None = tt
 
 -- what is undefined on both sides may be anything too
-pub gives_so : {A B : Type 0} (e : Ending) (R : A → B → Type 0) (o : Option A) (u : Option B) → Gives Exact R o u → Gives e R o u
+pub gives_so : {A B : Type 0} (e : Ending) (R : A → B → Type 0) (o : Option A) (u : Option B) → Computes Exact R o u → Computes e R o u
 gives_so e R (Some a) u g = g
 gives_so Exact R None u g = g
 gives_so Past R None u g = tt
 
 pub gives_bind : {A B C D : Type 0} (e : Ending) (R : A → C → Type 0) (S : B → D → Type 0) (o : Option A) (u : Option C) (go : A → Option B) (to : C → Option D)
-    → Gives e R o u → ((a : A) (c : C) → R a c → Gives e S (go a) (to c)) → Gives e S (o >>= go) (u >>= to)
-gives_bind e R S (Some a) u go to g k = subst (λ z. Gives e S (go a) (z >>= to)) (sym g.2) (k a g.0 g.1)
+    → Computes e R o u → ((a : A) (c : C) → R a c → Computes e S (go a) (to c)) → Computes e S (o >>= go) (u >>= to)
+gives_bind e R S (Some a) u go to g k = subst (λ z. Computes e S (go a) (z >>= to)) (sym g.2) (k a g.0 g.1)
 gives_bind Exact R S None u go to g k = ap (λ z. z >>= to) g
 gives_bind Past R S None u go to g k = tt
 
@@ -102,12 +102,12 @@ given_grows s (Some a) to g = g a
 given_grows s None to g = later_refl s
 
 pub given_like : {A B C D : Type 0} (L : Likeness) (Q : A → C → Type 0) (R : B → D → Type 0) (s t : State) (o : Option A) (u : Option C) (go : A → Result B) (to : C → Result D)
-    → Gives L.wild Q o u → ((a : A) (c : C) → Q a c → Like L R (go a) (to c)) → ends {B = D} L.wild L Undefined s (Undefined t) → Needs L.wild ((c : C) → Later t (last (to c)))
+    → Computes L.wild Q o u → ((a : A) (c : C) → Q a c → Like L R (go a) (to c)) → ends {B = D} L.wild L Undefined s (Undefined t) → Needs L.wild ((c : C) → Later t (last (to c)))
     → Like L R (given s o go) (given t u to)
 given_like L Q R s t (Some a) u go to g k w m = subst (λ z. Like L R (go a) (given t z to)) (sym g.2) (k a g.0 g.1)
 given_like {A} {B} {C} {D} L Q R s t None u go to g k w m = by L.wild g w m
   where
-    by : (e : Ending) → Gives e Q None u → ends {B = D} e L Undefined s (Undefined t) → Needs e ((c : C) → Later t (last (to c))) → ends {B = D} e L Undefined s (given t u to)
+    by : (e : Ending) → Computes e Q None u → ends {B = D} e L Undefined s (Undefined t) → Needs e ((c : C) → Later t (last (to c))) → ends {B = D} e L Undefined s (given t u to)
     by Exact g w m = (w.0, w.1, ap (λ z. given t z to) g ∙ w.2)
     by Past g w m = L.later s t (last (given t u to)) w (given_grows t u to m)
 

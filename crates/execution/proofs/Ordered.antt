@@ -15,7 +15,7 @@ use Rattle.byte_mem.specs.Below.{Names, IsOneToOne, BelowValue, BelowBytes, Belo
 use Rattle.byte_mem.proofs.BelowLemmas.{bytes_below, with_below, end_below}
 use Rattle.host_calls.specs.declared.names.HostName.{HostName}
 use Rattle.host_calls.specs.declared.calls.HostResult.{HostResult}
-use Rattle.host_calls.specs.declared.calls.HostResult.TheVariants.{Value as Gives', Exit as Ends, Undefined as Broke, NeedsInput, Memory as WantOfMemory}
+use Rattle.host_calls.specs.declared.calls.HostResult.TheVariants.{Value as Gives, Exit as Ends, Undefined as Broke, NeedsInput, Memory as WantOfMemory}
 use Rattle.host_calls.specs.Host.{byte_of, HostState, host}
 use Rattle.host_calls.specs.Laws.{KeepsHeap, BelowState, BelowArgs, BelowAnswer}
 use Rattle.host_calls.proofs.BelowLemmas.{host_below}
@@ -23,7 +23,7 @@ use Rattle.execution.specs.States.{State, Result, Goes, Exits, Running, Undefine
 use Rattle.execution.specs.Data.{Kind, OfScalar, OfVoid, OfAggregate, Datum, Single, Bytes, Argument, local_name, bytes_in, argument_held, without_objects}
 use Rattle.execution.specs.Calls.{Call, Function, Enter, host_state, after_host, host_gave, host_outcome, host_called, ready, input_after, at_end_after, begun, numbers, activated, function_called, Linked, meant, calls}
 use Rattle.execution.specs.Runs.{status_of, outcome_of}
-use Rattle.execution.specs.Likeness.{Exact, Past, Likeness, Like, Gives, LikeMeaning, LikeScalars, KeepsForms, LikeCall, SameKinds, Grows, AlikeCalls}
+use Rattle.execution.specs.Likeness.{Exact, Past, Likeness, Like, Computes, LikeMeaning, LikeScalars, KeepsForms, LikeCall, SameKinds, Grows, AlikeCalls}
 use Rattle.execution.specs.Bounds.{AllTame}
 use Rattle.execution.proofs.Congruence.{spend_like, within_itself}
 use Rattle.execution.proofs.CallCongruence.{begun_like, numbers_like, activated_like, function_like, calls_like}
@@ -101,11 +101,11 @@ after_below f name s t h k r q = record {
 
 gave_below : (f : Names) (name : HostName) (s t : State) (r : HostResult) (h : HostState) (a : HostResult) (k : HostState) → BelowRun f s t → IsPrefix s.out (last (host_gave name t a k)).out → BelowAnswer f r h (a, k)
     → Like (ordered f) (BelowDatum f) (host_gave name s r h) (host_gave name t a k)
-gave_below f name s t (Gives' v) h (Gives' w) k n p b = (Single w, after_host name t k, b.0, after_below f name s t h k n b.1, refl)
-gave_below f name s t (Gives' v) h (Ends status) k n p b = absurd b.0
-gave_below f name s t (Gives' v) h Broke k n p b = absurd b.0
-gave_below f name s t (Gives' v) h NeedsInput k n p b = absurd b.0
-gave_below f name s t (Gives' v) h WantOfMemory k n p b = absurd b.0
+gave_below f name s t (Gives v) h (Gives w) k n p b = (Single w, after_host name t k, b.0, after_below f name s t h k n b.1, refl)
+gave_below f name s t (Gives v) h (Ends status) k n p b = absurd b.0
+gave_below f name s t (Gives v) h Broke k n p b = absurd b.0
+gave_below f name s t (Gives v) h NeedsInput k n p b = absurd b.0
+gave_below f name s t (Gives v) h WantOfMemory k n p b = absurd b.0
 gave_below f name s t (Ends status) h a k n p b = (after_host name t k, b.1.out, ap (λ x. host_gave name t x k) b.0)
 gave_below f name s t Broke h a k n p b = p
 gave_below f name s t NeedsInput h a k n p b = p
@@ -175,7 +175,7 @@ pub record OrderedFunctions (f : Names) (g h : Function) : Type 0 where
   pub body : (enter also : Enter) → Grows also → OrderedCalls f enter also → (act : ℕ) (s t : State) → BelowRun f s t → Like (ordered f) (BelowDatum f) (g.body enter act s) (h.body also act t)
 
 pub calls_ordered : (f : Names) → IsOneToOne f → KeepsHeap f → KeepsLocals f → (link other : Linked) → AllTame other
-    → ((v w : Value) → BelowValue f v w → Gives Past (LikeMeaning (OrderedFunctions f)) (meant link v) (meant other w)) → OrderedCalls f (calls link) (calls other)
+    → ((v w : Value) → BelowValue f v w → Computes Past (LikeMeaning (OrderedFunctions f)) (meant link v) (meant other w)) → OrderedCalls f (calls link) (calls other)
 calls_ordered f o heap locals link other tame names =
     calls_like (λ i. ordered f) (OrderedFunctions f) link other (λ i s t n. n.left) (λ i s t n. (t, n.out, refl)) (λ i s t n. outputs f s t n) (calls_grow other tame) (λ i c d l. names c.callee d.callee l.callee)
     (λ i name c d s t. host_ordered f o heap name c d s t)

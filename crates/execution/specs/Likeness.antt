@@ -52,10 +52,10 @@ pub record Within (M L : Likeness) : Type 0 where
   pub wild : M.wild ≡ L.wild
 
 -- what is computed on both sides: where the first is undefined, so is the second, or it may be anything
-abbrev pub Gives : {A B : Type 0} → Ending → (A → B → Type 0) → Option A → Option B → Type 0
-Gives {A} {B} e R (Some a) y = (b : B) × R a b × (y ≡ Some b)
-Gives Exact R None y = y ≡ None
-Gives Past R None y = Unit {0}
+abbrev pub Computes : {A B : Type 0} → Ending → (A → B → Type 0) → Option A → Option B → Type 0
+Computes {A} {B} e R (Some a) y = (b : B) × R a b × (y ≡ Some b)
+Computes Exact R None y = y ≡ None
+Computes Past R None y = Unit {0}
 
 -- for each likeness of a family: from states that are alike, and what Q relates, two parts give alike results
 abbrev pub Alike : {I X Y A B : Type 0} → (I → Likeness) → (I → X → Y → Type 0) → (I → A → B → Type 0) → (X → State → Result A) → (Y → State → Result B) → Type 0
@@ -130,7 +130,7 @@ pub record LikeCall (L : Likeness) (c d : Call) : Type 0 where
   pub result : d.result ≡ c.result
   pub arguments : LikeArguments L c.arguments d.arguments
 
--- so do what calls do, from calls that are alike
+-- what calls do on the two sides is alike, from calls that are alike
 abbrev pub AlikeCalls : {I : Type 0} → (I → Likeness) → Enter → Enter → Type 0
 AlikeCalls L = Alike L (λ i. LikeCall (L i)) (λ i. (L i).values)
 

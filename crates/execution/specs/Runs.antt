@@ -117,7 +117,7 @@ outcome_in (Some r) = outcome_of r
 abbrev pub run_linked : Abi → Linked → ℕ → List (List ℕ) → List ℕ → ℕ → Outcome
 run_linked abi link entity words input n = outcome_in (result_linked abi link entity words input n)
 
--- units of any languages, linked and run in a mode: the run begins in a memory of the mode's data model, and whether tentative definitions are common does not count yet (own)
+-- units of any languages, linked and run in a mode: argv and the call of main have the mode's data model, and whether tentative definitions are common does not count yet (own)
 abbrev pub run : List (List Linkable) → Mode → List (List ℕ) → List ℕ → ℕ → Outcome
 run units mode words input n = run_linked mode.abi (linked units) (main_entity units) words input n
 

@@ -1,10 +1,10 @@
 use Rattle.std.proofs.Common.{arith, sym, subst}
 use Rattle.std.proofs.lemmas.List.Elements.{All-get_or}
+use Rattle.cil_semantics.specs.Modes.{HaveModel}
 use Rattle.cil_link.specs.declared.entities.Definer.TheVariants.{Nothing}
 use Rattle.cil_link.specs.Entities.{IsOne}
 use Rattle.cil_base.specs.declared.kinds.Abi.{Abi}
 use Rattle.cil_link.specs.Units.{programs_in, units_in}
-use Rattle.cil_semantics.specs.Modes.{HaveModel}
 use Rattle.cil_start.proofs.ObjectLaws.{entities_begin, entities_end, entities_next, next_absent}
 use Rattle.cil_start.proofs.objects.make_entities.Goals as goal
 

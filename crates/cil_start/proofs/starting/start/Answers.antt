@@ -1,7 +1,7 @@
 use Rattle.std.proofs.Common.{sym, ◌∙◌, subst}
 use Rattle.cil_base.specs.declared.kinds.Abi.{Abi}
-use Rattle.cil_link.specs.Units.{programs_in}
 use Rattle.cil_semantics.specs.Modes.{HaveModel}
+use Rattle.cil_link.specs.Units.{programs_in}
 use Rattle.cil_start.proofs.StartLaws.{starts}
 use Rattle.cil_start.proofs.starting.start.Goals as goal
 

@@ -4,6 +4,7 @@ use Rattle.std.proofs.lemmas.List.Elements.{All-same, All-cons, All-nil}
 use Rattle.cil_tree.specs.declared.globals.CilUnit.{CilUnit}
 use Rattle.cil_tree.specs.View.{program_of}
 use Rattle.cil_tree.specs.Programs.{IsProgram}
+use Rattle.cil_semantics.specs.Modes.{HaveModel}
 use Rattle.cil_runner.specs.Machine.{Loads}
 use Rattle.cil_runner.proofs.Loads.{all_units, one_alone}
 use Rattle.cil_runner.proofs.machine.Machine.load.Goals as goal
@@ -18,6 +19,6 @@ link-requires-clause-units c =
     all_units c.args.names.now c.from_ref.result.now (All-same is_program c.from_ref.result.now (c.args.u.now ∷ []) c.from_ref.ensures.value all)
 
 pub returns-clause-loads : goal.returns-clause-loads
-returns-clause-loads c =
-    subst (λ (us : List CilUnit). IfOk c.link.result (λ m. Loads m (map (program_of c.args.names.now) us) (map (string_bytes {Z = Global}) c.args.args.now))) c.from_ref.ensures.value
-    (subst (λ (ws : List (List ℕ)). IfOk c.link.result (λ m. Loads m (map (program_of c.args.names.now) c.from_ref.result.now) ws)) (c.deref.ensures.value ∙ c.in_ok-words.ensures) c.link.ensures.loads)
+returns-clause-loads c = λ mode model.
+    subst (λ (us : List CilUnit). HaveModel mode.abi (map (program_of c.args.names.now) us) → IfOk c.link.result (λ m. Loads m (map (program_of c.args.names.now) us) mode (map (string_bytes {Z = Global}) c.args.args.now))) c.from_ref.ensures.value
+    (λ each. subst (λ (ws : List (List ℕ)). IfOk c.link.result (λ m. Loads m (map (program_of c.args.names.now) c.from_ref.result.now) mode ws)) (c.deref.ensures.value ∙ c.in_ok-words.ensures) (c.link.ensures.loads mode each)) model
