@@ -160,7 +160,7 @@ none_wrote (Some bytes) = ap Some (sym (append-nil bytes))
 
 -- where memory is wanting for the words, nothing was read and nothing written
 pub lacks_memory : (programs : List Program) (mode : Mode) (words : List (List ℕ)) (steps used : ℕ) (bytes taken : Option (List ℕ)) → used ≡ 0 → RunsAs WantOfMemory programs mode words steps used bytes bytes taken taken
-lacks_memory programs mode words steps used bytes taken zero = record {
+lacks_memory programs mode words steps used bytes taken nothing = record {
   got = [];
   sent = [];
   ended = false;
@@ -169,12 +169,12 @@ lacks_memory programs mode words steps used bytes taken zero = record {
   asked = needed_none (λ input. FindsEnd programs mode words input steps ≡ true) false false refl;
   stops = λ fault. refl;
   finds = λ not. absurd (cc);
-  means = λ tail none. subst (λ used. CutOff programs mode words tail steps used []) (sym zero) (cut_at_once programs mode words tail steps);
+  means = λ tail none. subst (λ used. CutOff programs mode words tail steps used []) (sym nothing) (cut_at_once programs mode words tail steps);
 }
 
 -- without a main the run is undefined
 pub lacks_main : (machine : Machine) (programs : List Program) (mode : Mode) (words : List (List ℕ)) (steps used : ℕ) (bytes taken : Option (List ℕ)) → Loads machine programs mode words → machine.main ≡ None → used ≡ 0 → RunsAs WentUndefined programs mode words steps used bytes bytes taken taken
-lacks_main machine programs mode words steps used bytes taken loads none zero = record {
+lacks_main machine programs mode words steps used bytes taken loads none nothing = record {
   got = [];
   sent = [];
   ended = false;
@@ -185,5 +185,5 @@ lacks_main machine programs mode words steps used bytes taken loads none zero = 
   finds = λ not. absurd (cc);
   means = λ tail all.
       let no_result = ap (option_map (result_with mode.abi (linked_in programs) (main_entity (map linkables programs)) words tail steps)) (subst (BeginsWith programs) none loads.main words) in
-      subst (λ used. EndsAs programs mode words tail steps used (Undefined [])) (sym zero) (undefined_without programs mode words tail steps no_result);
+      subst (λ used. EndsAs programs mode words tail steps used (Undefined [])) (sym nothing) (undefined_without programs mode words tail steps no_result);
 }
