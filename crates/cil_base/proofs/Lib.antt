@@ -1,4 +1,6 @@
 mod IntegerRows
+pub mod UsualRows
+pub mod KindLaws
 mod ArithmeticRows
 pub mod OutcomeLaws
 pub mod PoolLemmas

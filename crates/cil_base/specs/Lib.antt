@@ -7,3 +7,6 @@ pub mod Env
 pub mod Fault
 pub mod NamePool
 pub mod Token
+pub mod Usual
+pub mod HostNames
+pub mod Kinds

@@ -1,5 +1,7 @@
 ghost use Rattle.std.specs.Prelude.{◌≡◌};
-ghost use Rattle.cil_base.specs.Integer.{size_of, rank_of, is_signed, words_of, suffix_of, has_kind, long_of, ulong_of, pointer_size_of};
+ghost use Rattle.cil_base.specs.Integer.{size_of, rank_of, is_signed, least, greatest, words_of, suffix_of, has_kind, long_of, ulong_of, pointer_size_of};
+ghost use Rattle.cil_base.specs.Arithmetic.{fits};
+ghost use Rattle.cil_base.specs.Usual.{has_values_of, unsigned_of, promoted, mixed, common_of_promoted, common};
 
 /// The integer types of C11 6.2.5, whose sizes and signs are those of the product's data model.
 #[derive(Clone, Copy, Debug, PartialEq, Eq)]
@@ -65,6 +67,94 @@ impl IntKind {
         }
     }
 
+    /// The least value (C11 5.2.4.2.1).
+    pub fn least(self) -> i128
+        ensures { result ≡ least self }
+    {
+        match self {
+            IntKind::Bool
+            | IntKind::UChar
+            | IntKind::UShort
+            | IntKind::UInt
+            | IntKind::ULong
+            | IntKind::ULLong => 0,
+            IntKind::Char | IntKind::SChar => -0x80,
+            IntKind::Short => -0x8000,
+            IntKind::Int => -0x8000_0000,
+            IntKind::Long | IntKind::LLong => -0x8000_0000_0000_0000,
+        }
+    }
+
+    /// The greatest value (C11 5.2.4.2.1).
+    pub fn greatest(self) -> i128
+        ensures { result ≡ greatest self }
+    {
+        match self {
+            IntKind::Bool => 1,
+            IntKind::Char | IntKind::SChar => 0x7f,
+            IntKind::UChar => 0xff,
+            IntKind::Short => 0x7fff,
+            IntKind::UShort => 0xffff,
+            IntKind::Int => 0x7fff_ffff,
+            IntKind::UInt => 0xffff_ffff,
+            IntKind::Long | IntKind::LLong => 0x7fff_ffff_ffff_ffff,
+            IntKind::ULong | IntKind::ULLong => 0xffff_ffff_ffff_ffff,
+        }
+    }
+
+    /// Whether the number is a value of the kind.
+    pub fn fits(self, v: i128) -> bool
+        ensures { result ≡ fits self v }
+    {
+        self.least() <= v && v <= self.greatest()
+    }
+
+    /// Whether each value of the other kind is one of this kind.
+    pub fn has_values_of(self, other: IntKind) -> bool
+        ensures { result ≡ has_values_of self other }
+    {
+        self.least() <= other.least() && other.greatest() <= self.greatest()
+    }
+
+    /// The unsigned kind that corresponds to a signed one; an unsigned kind itself (C11 6.2.5p6).
+    pub fn unsigned(self) -> IntKind
+        ensures { result ≡ unsigned_of self }
+    {
+        match self {
+            IntKind::Char | IntKind::SChar => IntKind::UChar,
+            IntKind::Short => IntKind::UShort,
+            IntKind::Int => IntKind::UInt,
+            IntKind::Long => IntKind::ULong,
+            IntKind::LLong => IntKind::ULLong,
+            IntKind::Bool
+            | IntKind::UChar
+            | IntKind::UShort
+            | IntKind::UInt
+            | IntKind::ULong
+            | IntKind::ULLong => self,
+        }
+    }
+
+    /// The kind to which the integer promotions convert (C11 6.3.1.1p2).
+    pub fn promoted(self) -> IntKind
+        ensures { result ≡ promoted self }
+    {
+        if self.rank() > IntKind::Int.rank() {
+            self
+        } else if IntKind::Int.has_values_of(self) {
+            IntKind::Int
+        } else {
+            IntKind::UInt
+        }
+    }
+
+    /// The kind to which the usual arithmetic conversions convert operands of these kinds (C11 6.3.1.8p1).
+    pub fn common(self, other: IntKind) -> IntKind
+        ensures { result ≡ common self other }
+    {
+        common_of_promoted(self.promoted(), other.promoted())
+    }
+
     /// The words that name the type, as a type name of C (C11 6.7.2p2).
     pub fn words(self) -> &'static str
         ensures { result.now ≡ words_of self }
@@ -115,6 +205,30 @@ impl IntKind {
     }
 }
 
+/// The common kind of an unsigned and a signed kind (C11 6.3.1.8p1).
+fn mixed(unsigned: IntKind, signed: IntKind) -> IntKind
+    ensures { result ≡ mixed unsigned signed }
+{
+    if unsigned.rank() >= signed.rank() {
+        unsigned
+    } else if signed.has_values_of(unsigned) {
+        signed
+    } else {
+        signed.unsigned()
+    }
+}
+
+/// The common kind of two kinds that are promoted (C11 6.3.1.8p1).
+fn common_of_promoted(a: IntKind, b: IntKind) -> IntKind
+    ensures { result ≡ common_of_promoted a b }
+{
+    match (a.is_signed(), b.is_signed()) {
+        (false, true) => mixed(a, b),
+        (true, false) => mixed(b, a),
+        (true, true) | (false, false) => { if a.rank() >= b.rank() { a } else { b } }
+    }
+}
+
 /// The data models (own): the sizes of the types and the kinds that there are.
 #[derive(Clone, Copy, Debug, PartialEq, Eq)]
 pub enum Abi {
@@ -157,6 +271,87 @@ impl Abi {
     {
         match self {
             Abi::Lp64 => 8,
+        }
+    }
+}
+
+#[cfg(test)]
+mod tests {
+    use super::*;
+    use std::process::Abort;
+    use std::test::Fail;
+
+    const KINDS: [IntKind; 12] = [
+        IntKind::Bool,
+        IntKind::Char,
+        IntKind::SChar,
+        IntKind::UChar,
+        IntKind::Short,
+        IntKind::UShort,
+        IntKind::Int,
+        IntKind::UInt,
+        IntKind::Long,
+        IntKind::ULong,
+        IntKind::LLong,
+        IntKind::ULLong,
+    ];
+
+    /// For each of them: the kind to which gcc 12 promotes it (`_Generic` of `+ a`), and the kinds that it gives to
+    /// `a + b` for each b. A letter is that of `letter`.
+    const COMMON: [(u8, &[u8; 12]); 12] = [
+        (b'i', b"iiiiiiiulmLM"),
+        (b'i', b"iiiiiiiulmLM"),
+        (b'i', b"iiiiiiiulmLM"),
+        (b'i', b"iiiiiiiulmLM"),
+        (b'i', b"iiiiiiiulmLM"),
+        (b'i', b"iiiiiiiulmLM"),
+        (b'i', b"iiiiiiiulmLM"),
+        (b'u', b"uuuuuuuulmLM"),
+        (b'l', b"lllllllllmLM"),
+        (b'm', b"mmmmmmmmmmMM"),
+        (b'L', b"LLLLLLLLLMLM"),
+        (b'M', b"MMMMMMMMMMMM"),
+    ];
+
+    fn letter(kind: IntKind) -> u8 {
+        match kind {
+            IntKind::Int => b'i',
+            IntKind::UInt => b'u',
+            IntKind::Long => b'l',
+            IntKind::ULong => b'm',
+            IntKind::LLong => b'L',
+            IntKind::ULLong => b'M',
+            _ => b'?',
+        }
+    }
+
+    fn row_is_met(rt: &impl Abort, kind: IntKind, row: &[u8; 12]) {
+        for j in 0..12 {
+            assert_eq!(rt; letter(kind.common(KINDS[j])), row[j]);
+        }
+    }
+
+    #[test]
+    fn converts_operands_as_a_c_compiler(rt: HostRuntime) {
+        for i in 0..12 {
+            let (promoted, row) = COMMON[i];
+            assert_eq!(rt; letter(KINDS[i].promoted()), promoted);
+            row_is_met(&rt, KINDS[i], row);
+        }
+    }
+
+    /// The limits of C11 5.2.4.2.1 at which a number begins not to fit.
+    #[test]
+    fn has_the_values_of_its_range(rt: HostRuntime) {
+        for (kind, least, greatest) in [
+            (IntKind::Bool, 0, 1),
+            (IntKind::Char, -128, 127),
+            (IntKind::UShort, 0, 65535),
+            (IntKind::Int, -2147483648, 2147483647),
+            (IntKind::ULLong, 0, 18446744073709551615),
+        ] {
+            assert!(rt; kind.fits(least) && kind.fits(greatest));
+            assert!(rt; !kind.fits(least - 1) && !kind.fits(greatest + 1));
         }
     }
 }

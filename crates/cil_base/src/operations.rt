@@ -46,54 +46,12 @@ pub fn arith(op: BinOp, kind: IntKind, a: i128, b: i128) -> Option<i128>
     }
 }
 
-/// The least value of a kind (C11 5.2.4.2.1).
-fn least(kind: IntKind) -> i128
-    ensures { result ≡ least kind }
-{
-    match kind {
-        IntKind::Bool
-        | IntKind::UChar
-        | IntKind::UShort
-        | IntKind::UInt
-        | IntKind::ULong
-        | IntKind::ULLong => 0,
-        IntKind::Char | IntKind::SChar => -0x80,
-        IntKind::Short => -0x8000,
-        IntKind::Int => -0x8000_0000,
-        IntKind::Long | IntKind::LLong => -0x8000_0000_0000_0000,
-    }
-}
-
-/// The greatest value of a kind (C11 5.2.4.2.1).
-fn greatest(kind: IntKind) -> i128
-    ensures { result ≡ greatest kind }
-{
-    match kind {
-        IntKind::Bool => 1,
-        IntKind::Char | IntKind::SChar => 0x7f,
-        IntKind::UChar => 0xff,
-        IntKind::Short => 0x7fff,
-        IntKind::UShort => 0xffff,
-        IntKind::Int => 0x7fff_ffff,
-        IntKind::UInt => 0xffff_ffff,
-        IntKind::Long | IntKind::LLong => 0x7fff_ffff_ffff_ffff,
-        IntKind::ULong | IntKind::ULLong => 0xffff_ffff_ffff_ffff,
-    }
-}
-
-/// Whether the kind has the number as a value.
-fn fits(kind: IntKind, v: i128) -> bool
-    ensures { result ≡ fits kind v }
-{
-    least(kind) <= v && v <= greatest(kind)
-}
-
 /// What an operation gives whose mathematical result is v (C11 6.2.5p9, 6.5p5).
 fn settled(kind: IntKind, v: i128) -> Option<i128>
     ensures { result ≡ settled kind v }
 {
     if kind.is_signed() {
-        if fits(kind, v) { Some(v) } else { None }
+        if kind.fits(v) { Some(v) } else { None }
     } else {
         Some(wrap(kind, v))
     }
