@@ -9,13 +9,13 @@ use Rattle.cil_tree.specs.Tree.{Item, Program, Step, ToField, ToIndex}
 use Rattle.cil_tree.specs.Globals.{Part, agree, constant_fits, member_part, element_part, path_part, item_offset, are_rising, next_type, next_element}
 use Rattle.cil_base.specs.declared.constants.Constant.{Constant}
 use Rattle.cil_tree.specs.Typing.{is_scalar}
-use Rattle.cil_check.specs.declared.paths.Place.{Place}
+use Rattle.cil_check.specs.declared.paths.Subobject.{Subobject}
 use Rattle.cil_check.specs.Seen.{at}
 
-abbrev pub part_of : Graph → Place → Part
+abbrev pub part_of : Graph → Subobject → Part
 part_of g p = (shape g.nodes p.ty.0, p.at)
 
-abbrev pub parts : Graph → Option Place → Option Part
+abbrev pub parts : Graph → Option Subobject → Option Part
 parts g o = option_map (part_of g) o
 
 -- the part that one step leads to

@@ -11,9 +11,9 @@ ghost use Rattle.cil_check.specs.Seen.{at, seen_shape, IsThere};
 ghost use Rattle.cil_check.specs.Paths.{is_pointer, scalar_has, adjacent_agree, ScalarsRise};
 
 use crate::expressions::number_at;
-use crate::operators::{fits, is_function, is_scalar, names_enum};
+use crate::operators::{is_function, is_scalar, names_enum};
 use crate::paths::{agree, path_part};
-use crate::seen::{Seen, same_kind, see};
+use crate::seen::{Seen, see};
 use cil_base::{Constant, EntityId, IntKind, NamePool, TypeId};
 use cil_tree::{CilUnit, ImageItem};
 use layout_lp64::Layouts;
@@ -23,7 +23,7 @@ use type_graph::{Node, TypeGraph};
 fn number_fits(place: IntKind, kind: IntKind, v: i128) -> bool
     ensures { result ≡ number_fits place kind v }
 {
-    same_kind(kind, place) && fits(kind, v) && v != 0
+    kind == place && kind.fits(v) && v != 0
 }
 
 /// The type of a global, if there is one with the number.

@@ -32,6 +32,7 @@ pub use operators::{
     address, binary, cast, constant, element, element_of, is_scalar, is_void, member, names_enum,
     pointed, read, start, unary,
 };
+pub use paths::{Subobject, path_part};
 pub use scope::Scope;
 pub use seen::{Seen, see, type_at};
 pub use types::types_are_well_formed;

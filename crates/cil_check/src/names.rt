@@ -15,7 +15,7 @@ use crate::bodies::text_at;
 use crate::expressions::number_at;
 use crate::name_sets::{add_fresh, all_plain, are_different, are_named_apart, is_plain};
 use crate::operators::is_void;
-use crate::seen::{same_kind, same_quals};
+use crate::seen::same_quals;
 use crate::words::{is_builtin, is_host_name, is_name};
 use cil_base::{AggId, IntKind, Memory, NameId, NamePool, TypeId};
 use cil_tree::{Body, CilUnit, GlobalDecl, GlobalDef, Local};
@@ -213,7 +213,7 @@ fn is_kind(g: &TypeGraph, t: TypeId, kind: IntKind) -> bool
     ensures { result ≡ same_shape (shape g.now.nodes t.0) (IntType kind) }
 {
     match g.node(t) {
-        Node::Int(k) => same_kind(*k, kind),
+        Node::Int(k) => *k == kind,
         Node::Void | Node::Ptr(_) | Node::Array(..) | Node::Func { .. } | Node::Agg(_) => false,
     }
 }

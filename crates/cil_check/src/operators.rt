@@ -8,8 +8,8 @@ ghost use Rattle.type_graph.specs.declared.aggregates.Member.{Member};
 ghost use Rattle.cil_check.specs.Rules.{AreThere};
 ghost use Rattle.cil_check.specs.Seen.{seen_shape, IsThere, told, at, bare};
 
-use crate::seen::{Seen, is_same, same_kind, see};
-use cil_base::{AggId, BinOp, IntKind, TypeId, UnOp, wrap};
+use crate::seen::{Seen, is_same, see};
+use cil_base::{AggId, BinOp, IntKind, TypeId, UnOp};
 use type_graph::{AggKind, Member, Node, QualType, Quals, TypeGraph};
 
 /// Whether a kind is int or wider (C11 6.3.1.1p2).
@@ -17,14 +17,6 @@ pub fn is_wide(kind: IntKind) -> bool
     ensures { result ≡ is_wide kind }
 {
     kind.rank() >= IntKind::Int.rank()
-}
-
-/// Whether the kind has the number as a value: where its conversion leaves it as it is.
-#[tactic(auto, using(crate::proofs::SeenLaws::fits_is))]
-pub fn fits(kind: IntKind, v: i128) -> bool
-    ensures { result ≡ fits kind v }
-{
-    wrap(kind, v) == v
 }
 
 /// Whether an aggregate of the graph is an enum.
@@ -111,7 +103,7 @@ pub fn constant(g: &TypeGraph, kind: IntKind, value: u64) -> Option<Seen>
     ensures told { told g.now result ≡ constant_type (bare g.now) kind (pos value) }
     ensures there { IfSome result (IsThere g.now) }
 {
-    if is_wide(kind) && kind.is_of(g.abi()) && fits(kind, value as i128) {
+    if is_wide(kind) && kind.is_of(g.abi()) && kind.fits(value as i128) {
         Some(Seen::Int(kind))
     } else {
         None
@@ -225,7 +217,7 @@ fn integers(g: &TypeGraph, op: BinOp, k: IntKind, l: IntKind) -> Option<Seen>
 {
     // The graph is what types are told by; kinds need none of it.
     let _types = g.len();
-    let fits = is_wide(k) && is_wide(l) && (is_shift(op) || same_kind(k, l));
+    let fits = is_wide(k) && is_wide(l) && (is_shift(op) || k == l);
     if_true(fits, result_kind(op, k))
 }
 

@@ -11,16 +11,16 @@ use cil_tree::Step;
 use layout_lp64::Layouts;
 use type_graph::{AggKind, Node, TypeGraph};
 
-/// A part of an object: its type, and its offset in bytes.
+/// A part of an object (C11 6.5p4): its type, and its offset in bytes.
 #[derive(Clone, Copy, Debug, PartialEq, Eq)]
-pub(crate) struct Place {
-    pub(crate) ty: TypeId,
-    pub(crate) at: u128,
+pub struct Subobject {
+    pub ty: TypeId,
+    pub at: u128,
 }
 
 /// A member of a struct or union (C11 6.5.2.3).
 #[tactic(auto, using(crate::proofs::PathLaws::offset_known))]
-fn member_part(g: &TypeGraph, l: &Layouts, whole: Place, number: u32) -> Option<Place>
+fn member_part(g: &TypeGraph, l: &Layouts, whole: Subobject, number: u32) -> Option<Subobject>
     requires step { InStep l.now g.now }
     requires there { whole.ty.0 < length g.now.nodes }
     requires low { whole.at < 2 ^ 127 }
@@ -33,7 +33,7 @@ fn member_part(g: &TypeGraph, l: &Layouts, whole: Place, number: u32) -> Option<
         Node::Agg(a) => {
             let ty = member(g, whole.ty, number)?;
             let offset = l.offset(*a, number);
-            Some(Place {
+            Some(Subobject {
                 ty,
                 at: whole.at + offset as u128,
             })
@@ -52,7 +52,7 @@ fn scaled(index: u64, size: u32) -> u128
 
 /// An element of an array, whose index is below the array's known bound.
 #[tactic(auto, using(crate::proofs::PathLaws::element_low, crate::proofs::PathLaws::element_there, crate::proofs::PathLaws::element_none))]
-fn element_part(g: &TypeGraph, l: &Layouts, whole: Place, index: u64) -> Option<Place>
+fn element_part(g: &TypeGraph, l: &Layouts, whole: Subobject, index: u64) -> Option<Subobject>
     requires step { InStep l.now g.now }
     requires there { whole.ty.0 < length g.now.nodes }
     requires low { whole.at < 2 ^ 127 }
@@ -67,7 +67,7 @@ fn element_part(g: &TypeGraph, l: &Layouts, whole: Place, index: u64) -> Option<
                 return None;
             }
             let size = l.known_size(q.of)?;
-            Some(Place {
+            Some(Subobject {
                 ty: q.of,
                 at: whole.at + scaled(index, size),
             })
@@ -78,7 +78,7 @@ fn element_part(g: &TypeGraph, l: &Layouts, whole: Place, index: u64) -> Option<
 }
 
 /// The part that one step leads to.
-fn step_part(g: &TypeGraph, l: &Layouts, whole: Place, step: Step) -> Option<Place>
+fn step_part(g: &TypeGraph, l: &Layouts, whole: Subobject, step: Step) -> Option<Subobject>
     requires step { InStep l.now g.now }
     requires there { whole.ty.0 < length g.now.nodes }
     requires low { whole.at < 2 ^ 127 }
@@ -93,13 +93,13 @@ fn step_part(g: &TypeGraph, l: &Layouts, whole: Place, step: Step) -> Option<Pla
 
 /// The part of an object of a type that a path leads to.
 #[tactic(auto, using(crate::proofs::PathLaws::path_next))]
-pub(crate) fn path_part(g: &TypeGraph, l: &Layouts, t: TypeId, path: &[Step]) -> Option<Place>
+pub fn path_part(g: &TypeGraph, l: &Layouts, t: TypeId, path: &[Step]) -> Option<Subobject>
     requires step { InStep l.now g.now }
     requires there { t.0 < length g.now.nodes }
     ensures told { parts g.now result ≡ path_part g.now (map step_of path.now) (shape g.now.nodes t.0, 0) }
     ensures there { IfSome result (λ p. p.ty.0 < length g.now.nodes) }
 {
-    let mut part = Place { ty: t, at: 0 };
+    let mut part = Subobject { ty: t, at: 0 };
     for i in 0..path.len() {
         part = step_part(g, l, part, path[i])?;
     }

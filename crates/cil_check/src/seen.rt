@@ -2,7 +2,7 @@ ghost use Rattle.std.specs.Prelude.{◌≡◌, ◌↔◌, ◌<◌, true, IsTrue,
 ghost use Rattle.type_graph.specs.Shapes.{shape};
 ghost use Rattle.type_graph.specs.Arena.{complete_shape};
 ghost use Rattle.cil_tree.specs.View.{type_at};
-ghost use Rattle.cil_tree.specs.Typing.{is_scalar, same_shape, same_kind, same_quals};
+ghost use Rattle.cil_tree.specs.Typing.{is_scalar, same_shape, same_quals};
 ghost use Rattle.cil_check.specs.Seen.{seen_shape, IsThere, told};
 
 use cil_base::{IntKind, TypeId};
@@ -40,13 +40,6 @@ pub fn type_at(g: &TypeGraph, t: TypeId) -> Option<Seen>
     if t.0 < g.len() { Some(see(g, t)) } else { None }
 }
 
-/// Whether two kinds are one.
-pub fn same_kind(k: IntKind, l: IntKind) -> bool
-    ensures { result ≡ same_kind k l }
-{
-    k == l
-}
-
 /// Whether two numbers are those of one type. Types of one shape have one number.
 pub fn same_number(g: &TypeGraph, s: TypeId, t: TypeId) -> bool
     requires left { s.0 < length g.now.nodes }
@@ -79,7 +72,7 @@ pub fn is_same(g: &TypeGraph, a: Seen, b: Seen) -> bool
     ensures { result ≡ same_shape (seen_shape g.now a) (seen_shape g.now b) }
 {
     match (a, b) {
-        (Seen::Int(k), Seen::Int(l)) => same_kind(k, l),
+        (Seen::Int(k), Seen::Int(l)) => k == l,
         (Seen::Ptr(q), Seen::Ptr(r)) => same_pointer(g, q, r),
         (Seen::Other(s), Seen::Other(t)) => same_number(g, s, t),
         (_, _) => false,

@@ -6,9 +6,7 @@ ghost use Rattle.cil_check.specs.Seen.{seen_scope};
 ghost use Rattle.cil_check.specs.Statements.{keeps_rules, keep_rules, switch_is_once};
 
 use crate::instructions::{instr_fits, return_fits, switch_kind, test_fits};
-use crate::operators::fits;
 use crate::scope::Scope;
-use crate::seen::same_kind;
 use crate::switches::cases_are_once;
 use cil_base::{IntKind, Memory, TypeId};
 use cil_tree::Stmt;
@@ -68,7 +66,7 @@ fn case_fits(switch: Option<IntKind>, kind: IntKind, value: i128) -> bool
 {
     match switch {
         None => false,
-        Some(k) => same_kind(kind, k) && fits(kind, value),
+        Some(k) => kind == k && kind.fits(value),
     }
 }
 

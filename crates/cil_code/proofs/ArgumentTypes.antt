@@ -20,7 +20,8 @@ use Rattle.type_graph.specs.Arena.{Graph, IsArena, EachType, NamesBelow, complet
 use Rattle.type_graph.proofs.Lists.{get_there}
 use Rattle.type_graph.proofs.ShapeLaws.{shape_is, shape_past}
 use Rattle.cil_tree.specs.Tree.{Exp, Const, Value, Un, Bin, Cast, AddrOf, StartOf, Host, Global, Var, At, Offsets, Here, Field, Index, Lval, Place, Callee, Direct, Through}
-use Rattle.cil_tree.specs.Typing.{Scope, is_void, is_scalar, is_function, is_wide, is_index, same_kind, same_shape, is_comparison, is_readable, pointer_to, pointed, global_type, local_type, member_at, member_type, element_of, element_type, read_type, address_type, start_type, unary_type, moved_type, pointers_type, forward_type, backward_type, binary_type, cast_type, type_of, host_type, part_type, place_type}
+use Rattle.cil_base.specs.Kinds.{same_kind}
+use Rattle.cil_tree.specs.Typing.{Scope, is_void, is_scalar, is_function, is_wide, is_index, same_shape, is_comparison, is_readable, pointer_to, pointed, global_type, local_type, member_at, member_type, element_of, element_type, read_type, address_type, start_type, unary_type, moved_type, pointers_type, forward_type, backward_type, binary_type, cast_type, type_of, host_type, part_type, place_type}
 use Rattle.cil_tree.specs.Bodies.{callee_type}
 use Rattle.cil_tree.specs.WellFormedTypes.{is_result, is_parameter, are_parameters, function_fits, each_shape}
 

@@ -1,3 +1,4 @@
+pub mod FitLaws
 pub mod TermSteps
 pub mod Numbers
 pub mod Differences

@@ -24,9 +24,10 @@ use Rattle.byte_mem.specs.Memory.{Memory, load}
 use Rattle.byte_mem.specs.Operator.{truth, converted, computed, pointer_sum, pointer_less, pointer_difference, compared, number_in, pointer_in, unary}
 use Rattle.execution.specs.Data.{Kind, OfVoid, OfScalar, OfAggregate, Datum, Single, load_datum, load_from}
 use Rattle.cil_tree.specs.Tree.{Exp, Const, Value as ValueOf, Un, Bin, Cast, AddrOf, StartOf, Lval}
-use Rattle.cil_tree.specs.Typing.{Scope, type_of, place_type, same_kind, is_wide, is_scalar, is_comparison, integer_type, binary_type, unary_type, cast_type, pointers_type, is_function, same_shape, is_void, read_type, is_readable, address_type, start_type, pointer_to}
-use Rattle.cil_tree.proofs.ShapeEquality.{kind_told, kind_itself}
-use Rattle.cil_check.proofs.SeenLaws.{fits_is}
+use Rattle.cil_base.specs.Kinds.{same_kind}
+use Rattle.cil_tree.specs.Typing.{Scope, type_of, place_type, is_wide, is_scalar, is_comparison, integer_type, binary_type, unary_type, cast_type, pointers_type, is_function, same_shape, is_void, read_type, is_readable, address_type, start_type, pointer_to}
+use Rattle.cil_base.proofs.KindLaws.{kind_told, kind_itself}
+use Rattle.cil_machine.proofs.FitLaws.{fits_is}
 use Rattle.cil_semantics.specs.Values.{Activation, scalar_in, scalar_kind, kind_in, single_in, size_in, value, scalar_value, place, unary_value, binary_value, moved_value, summed_value, pointers_value, cast_value}
 use Rattle.cil_machine.specs.declared.terms.Term.{Term, Number, Load, Not', Unary', Arithmetic', Shift', Compare', Sum', Less', Difference', Relation', Convert', Address}
 use Rattle.cil_machine.specs.declared.terms.Spot.{Spot}

@@ -19,7 +19,7 @@ use Rattle.byte_mem.specs.Steps.{◌>>=◌, only_if}
 use Rattle.byte_mem.specs.Scalar.{kind_of}
 use Rattle.byte_mem.specs.Memory.{Memory, load}
 use Rattle.byte_mem.specs.Operator.{converted, place_of, pointer_in, truth, compared, pointer_sum, pointer_less, pointer_difference, member_place, element_place, computed, unary, number_in}
-use Rattle.cil_tree.specs.Typing.{same_kind}
+use Rattle.cil_base.specs.Kinds.{same_kind}
 use Rattle.cil_machine.specs.declared.terms.Term.{Term, Number, Load, Not', Unary', Arithmetic', Shift', Compare', Sum', Less', Difference', Relation', Convert', Address, Wrong as NoTerm}
 use Rattle.cil_machine.specs.declared.terms.Spot.{Spot, Entity as Global, Local as Own, At', Member', Element', Wrong as NoSpot}
 

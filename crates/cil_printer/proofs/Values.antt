@@ -19,7 +19,8 @@ use Rattle.cil_tree.specs.declared.expressions.Offset.{Offset}
 use Rattle.cil_tree.specs.declared.expressions.Offset as code
 use Rattle.cil_tree.specs.Tree.{Exp, Const, Value, Un, Bin, Cast, AddrOf, StartOf, Here, Field, Index, Lval}
 use Rattle.cil_tree.specs.View.{exp_of, offsets_of}
-use Rattle.cil_tree.specs.Typing.{Scope, same_kind, same_shape, is_wide, is_void, is_function, is_scalar, is_readable, element_of, element_type, is_index, pointed, pointer_to, read_type, address_type, start_type, unary_type, integer_type, moved_type, pointers_type, forward_type, backward_type, binary_type, cast_type, type_of, part_type, place_type, member_type, member_at}
+use Rattle.cil_base.specs.Kinds.{same_kind}
+use Rattle.cil_tree.specs.Typing.{Scope, same_shape, is_wide, is_void, is_function, is_scalar, is_readable, element_of, element_type, is_index, pointed, pointer_to, read_type, address_type, start_type, unary_type, integer_type, moved_type, pointers_type, forward_type, backward_type, binary_type, cast_type, type_of, part_type, place_type, member_type, member_at}
 use Rattle.cil_tree.specs.Lines.{Token}
 use Rattle.cil_tree.specs.Declarators.{in_parentheses}
 use Rattle.cil_tree.specs.Text.{in_brackets, exp_tokens, offset_tokens, name_in}

@@ -10,41 +10,6 @@ use cil_base::IntKind;
 use itoa::Buffer;
 use std::alloc::AllocError;
 
-/// The least value of a kind (C11 5.2.4.2.1).
-fn least(kind: IntKind) -> i128
-    ensures { result ≡ least kind }
-{
-    match kind {
-        IntKind::Char | IntKind::SChar => -128,
-        IntKind::Short => -32768,
-        IntKind::Int => -2147483648,
-        IntKind::Long | IntKind::LLong => -9223372036854775808,
-        IntKind::Bool
-        | IntKind::UChar
-        | IntKind::UShort
-        | IntKind::UInt
-        | IntKind::ULong
-        | IntKind::ULLong => 0,
-    }
-}
-
-/// The greatest value of a kind (C11 5.2.4.2.1).
-fn greatest(kind: IntKind) -> u64
-    ensures { result ≡ unsigned_abs (greatest kind) }
-{
-    match kind {
-        IntKind::Bool => 1,
-        IntKind::Char | IntKind::SChar => 127,
-        IntKind::UChar => 255,
-        IntKind::Short => 32767,
-        IntKind::UShort => 65535,
-        IntKind::Int => 2147483647,
-        IntKind::UInt => 4294967295,
-        IntKind::Long | IntKind::LLong => 9223372036854775807,
-        IntKind::ULong | IntKind::ULLong => 18446744073709551615,
-    }
-}
-
 /// Appends digits with the suffix of a kind.
 #[tactic(auto, using(crate::proofs::Puts::constant_pushed))]
 fn push_constant(out: &mut Sink, kind: IntKind, figures: &[u8]) -> Result<(), AllocError>
@@ -78,7 +43,7 @@ fn push_least(out: &mut Sink, kind: IntKind) -> Result<(), AllocError>
     ensures { OnOk result (out.new ≡ puts out.old (codes "-" ∷ digits kind (unsigned_abs (greatest kind)) ∷ codes "-" ∷ codes "1" ∷ [])) }
 {
     out.token(b"-")?;
-    push_digits(out, kind, greatest(kind))?;
+    push_absolute(out, kind, kind.greatest())?;
     out.token(b"-")?;
     out.token(b"1")?;
     Ok(())
@@ -96,7 +61,7 @@ fn is_minus(v: i128) -> bool
 fn is_least(kind: IntKind, v: i128) -> bool
     ensures { result ≡ int_eq v (least kind) }
 {
-    v == least(kind)
+    v == kind.least()
 }
 
 /// Appends a negative value of a kind.

@@ -22,7 +22,7 @@ abbrev plain : ℕ → QualType
 plain t = record { quals = unqualified; of = record { 0 = t } }
 
 abbrev member : ℕ → Member
-member t = record { name = record { 0 = 0 }; ty = plain t; value = pos 0 }
+member t = record { name = record { 0 = 0 }; anonymous = false; ty = plain t; value = pos 0 }
 
 -- struct s { char c; int n; }; struct node { struct node *next; int v; }; union u { int *p; unsigned long n; unsigned char b[8]; };
 abbrev graph : Graph

@@ -40,7 +40,7 @@ abbrev untagged : Aggregate
 untagged = record { kind = Struct; tag = None; members = None }
 
 abbrev members : List Member
-members = record { name = record { 0 = 2 }; ty = record { quals = unqualified; of = record { 0 = 0 } }; value = pos 0 } ∷ []
+members = record { name = record { 0 = 2 }; anonymous = false; ty = record { quals = unqualified; of = record { 0 = 0 } }; value = pos 0 } ∷ []
 
 first_graph : Graph
 first_graph = record { abi = Lp64; nodes = Int int_kind ∷ []; aggs = []; completed = [] }

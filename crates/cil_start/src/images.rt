@@ -13,10 +13,9 @@ ghost use Rattle.cil_semantics.specs.Runs.{constant_value};
 ghost use Rattle.cil_start.specs.Loads.{program_in, IsReady, written_of, place_of, Changed, IsObject, item_held, items_held, Writing};
 
 use crate::loaded::Loaded;
-use crate::paths::path_part;
 use byte_mem::{ObjName, Pointer, Scalar, Store, Value};
 use cil_base::{Constant, EntityId, TypeId};
-use cil_check::see;
+use cil_check::{path_part, see};
 use cil_machine::scalar_of;
 use cil_tree::ImageItem;
 use type_graph::TypeGraph;

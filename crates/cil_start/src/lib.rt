@@ -10,7 +10,6 @@
 mod images;
 mod loaded;
 mod objects;
-mod paths;
 mod starting;
 mod words;
 

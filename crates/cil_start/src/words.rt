@@ -36,12 +36,11 @@ fn push_zeros(bytes: &mut Vec<Byte>, count: u8) -> Result<(), Memory>
 }
 
 /// The size of a pointer.
+#[tactic(auto, using(cil_base::proofs::KindLaws::pointer_small))]
 fn pointer_size(abi: Abi) -> u8
     ensures { result ≡ pointer_size_of abi }
 {
-    match abi {
-        Abi::Lp64 => 8,
-    }
+    abi.pointer_size() as u8
 }
 
 /// The bytes of the array argv: pointers to the words, and a null pointer behind them (C11 5.1.2.2.1p2).

@@ -1,11 +1,13 @@
 -- A call of the host over streams answers as the meaning does.
-use Rattle.std.proofs.Common.{◌≡◌, ℕ, nat_eq, inl, Bool, true, false, ◌&&◌, List, [], ◌∷◌, ◌++◌, Option, Some, None, refl, ap, sym, subst, ◌∙◌, append_assoc}
+use Rattle.std.proofs.Common.{◌≡◌, ℕ, inl, Bool, true, false, ◌&&◌, List, [], ◌∷◌, ◌++◌, Option, Some, None, refl, ap, sym, subst, ◌∙◌, append_assoc}
 use Rattle.std.specs.Prelude.{if◌then◌else◌}
 use Rattle.std.proofs.lemmas.Bool.{and_parts}
 use Rattle.std.proofs.lemmas.List.{append-nil}
 use Rattle.cil_base.specs.declared.kinds.Abi.{Abi}
 use Rattle.cil_base.specs.declared.kinds.IntKind.{IntKind}
 use Rattle.cil_base.specs.declared.kinds.IntKind.TheVariants.{Int as int}
+use Rattle.cil_base.specs.Kinds.{same_kind}
+use Rattle.cil_base.proofs.KindLaws.{kind_told}
 use Rattle.byte_mem.specs.declared.values.Scalar.{Scalar}
 use Rattle.byte_mem.specs.declared.values.Scalar.TheVariants.{Int as OfKind, Ptr as OfPointer}
 use Rattle.byte_mem.specs.declared.values.Value as values
@@ -14,7 +16,7 @@ use Rattle.host_calls.specs.declared.names.HostName.{HostName}
 use Rattle.host_calls.specs.declared.names.HostName.TheVariants.{Getchar, Putchar, Exit, Abort, Malloc, Free, Memset}
 use Rattle.host_calls.specs.declared.calls.HostResult.{HostResult}
 use Rattle.host_calls.specs.declared.calls.HostResult.TheVariants.{Value as Gives, Exit as Ends, Undefined, NeedsInput}
-use Rattle.host_calls.specs.Host.{HostState, Outcome, undefined, getchar, result_of, parameters_of, kind_number, same_result, have_kinds, host}
+use Rattle.host_calls.specs.Host.{HostState, Outcome, undefined, getchar, result_of, parameters_of, same_result, have_kinds, host}
 use Rattle.outside.specs.Moves.{Wrote, Began, WasRead}
 use Rattle.execution.specs.States.{State, output}
 use Rattle.execution.specs.Calls.{Call, ready, input_after, at_end_after, host_state, after_host, host_outcome, scalar_result, scalar_arguments, host_called}
@@ -54,9 +56,8 @@ if_asks : (h k : HostState) (b : Bool) → (if b then (NeedsInput, h) else undef
 if_asks h k true e = (sym (ap (λ (o : Outcome). o.1) e), λ s. refl, refl)
 if_asks h k false e = absurd (subst IsAnswer (ap (λ (o : Outcome). o.0) e) tt)
 
-only_int : (kind : IntKind) → nat_eq 6 (kind_number kind) ≡ true → kind ≡ int
-only_int int same = refl
-only_int _ same = absurd (cc)
+only_int : (kind : IntKind) → same_kind int kind ≡ true → kind ≡ int
+only_int kind same = sym (kind_told int kind same)
 
 only_result : (wanted : Option Scalar) → same_result (Some (OfKind int)) wanted ≡ true → wanted ≡ Some (OfKind int)
 only_result None same = absurd (cc)

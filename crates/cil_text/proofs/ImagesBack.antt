@@ -20,12 +20,14 @@ use Rattle.type_graph.specs.declared.nodes.Quals.{Quals}
 use Rattle.type_graph.specs.Shapes.{Shape, VoidType, IntType, PtrType, ArrayType, FuncType, AggType, shape}
 use Rattle.type_graph.specs.Layouts.{offset}
 use Rattle.cil_tree.specs.Tree.{Step, ToField, ToIndex, Item, Program}
-use Rattle.cil_tree.specs.Typing.{Scope, same_kind, is_function, is_scalar, global_type, is_enum, member_of, member_type, element_of, names_enum}
+use Rattle.cil_base.specs.Kinds.{same_kind}
+use Rattle.cil_tree.specs.Typing.{Scope, is_function, is_scalar, global_type, is_enum, member_of, member_type, element_of, names_enum}
 use Rattle.cil_tree.specs.Lines.{Token}
 use Rattle.cil_tree.specs.Declarators.{digits, separated, in_parentheses, number, declared}
 use Rattle.cil_tree.specs.Text.{shape_layout, name_in, global_name, is_function_type, path_tokens, path_type, address_tokens, constant_tokens, item_tokens, items_tokens, in_braces, image_tokens}
 use Rattle.cil_tree.specs.Globals.{Part, aggregate_of, member_part, element_part, path_part, number_fits, is_object, address_fits, constant_fits, item_fits, item_offset, is_below, are_rising, unions_agree, image_fits}
-use Rattle.cil_tree.proofs.ShapeEquality.{kind_told, shape_itself}
+use Rattle.cil_base.proofs.KindLaws.{kind_told}
+use Rattle.cil_tree.proofs.ShapeEquality.{shape_itself}
 use Rattle.cil_text.specs.Words.{Word, LeftParen, RightParen, LeftBracket, RightBracket, RightBrace, Dot, Comma, Assign, Operator, CharWord, Name, word_of, onto}
 use Rattle.cil_text.specs.ReadTypes.{Named, skip_one}
 use Rattle.cil_text.specs.ReadExps.{find_named, type_of_named, fields, host_named, enclosed}

@@ -8,11 +8,13 @@ use Rattle.cil_base.specs.declared.kinds.IntKind.{IntKind}
 use Rattle.cil_base.specs.Arithmetic.{fits}
 use Rattle.type_graph.specs.Shapes.{Shape, Shapes, VoidType, IntType, PtrType, ArrayType, FuncType, AggType, NoTypes, MoreTypes}
 use Rattle.cil_tree.specs.Tree.{Exp, Const, Value, Un, Bin, Cast, AddrOf, StartOf, At, Here, Lval, Place, Callee, Direct, Through, Instr, Set, Call, Zero, Stmt, Do, If, Switch, Loop, Block, Label, Case, Default, Goto, Break, Return, Stmts, Done, Seq, Program}
-use Rattle.cil_tree.specs.Typing.{Scope, same_kind, is_type, is_void, is_wide, is_array, is_scalar, pointer_to, global_type, pointed, address_type, type_of, place_type}
+use Rattle.cil_base.specs.Kinds.{same_kind}
+use Rattle.cil_tree.specs.Typing.{Scope, is_type, is_void, is_wide, is_array, is_scalar, pointer_to, global_type, pointed, address_type, type_of, place_type}
 use Rattle.cil_tree.specs.Bodies.{is_complete, has_type, is_promoted, argument_is_promoted, arguments_fit, result_fits, callee_type, called_fits, instr_fits, kind_of, switch_kind, parts_fit, each_stmt, each_within, labels_of, labels_in, goto_fits, case_fits, cases_fit, cases_fit_in, returns_fit}
 use Rattle.cil_tree.specs.Names.{is_name, is_plain_name, is_builtin, are_different, memset_type}
 use Rattle.cil_tree.specs.Text.{global_name, label_name, exp_tokens, callee_tokens}
-use Rattle.cil_tree.proofs.ShapeEquality.{kind_told, shape_told}
+use Rattle.cil_base.proofs.KindLaws.{kind_told}
+use Rattle.cil_tree.proofs.ShapeEquality.{shape_told}
 use Rattle.cil_base.specs.declared.operators.BinOp.TheVariants.{Mul}
 use Rattle.cil_text.specs.Words.{Word, LeftParen, RightParen, Operator, Name, word_of, onto}
 use Rattle.cil_text.specs.ReadGlobals.{params_of}

@@ -96,7 +96,7 @@ abbrev pub plain : ℕ → QualType
 plain t = record { quals = unqualified; of = record { 0 = t } }
 
 abbrev pub member : ℕ → ℕ → ℤ → Member
-member name t value = record { name = record { 0 = name }; ty = plain t; value = value }
+member name t value = record { name = record { 0 = name }; anonymous = false; ty = plain t; value = value }
 
 abbrev pub aggregate : AggKind → ℕ → Option (List Member) → Aggregate
 aggregate kind tag members = record { kind = kind; tag = Some (record { 0 = tag }); members = members }

@@ -2,9 +2,11 @@
 use Rattle.std.proofs.Common.{◌≡◌, ◌↔◌, ℕ, Bool, true, false, ◌&&◌, Option, Some, None, List, [], ◌∷◌, slice_index_or, refl, sym, ap, ◌∙◌, eq-eqb, eqb-true}
 use Rattle.cil_base.specs.declared.kinds.IntKind.{IntKind}
 use Rattle.cil_base.specs.declared.kinds.IntKind.TheVariants as kind
+use Rattle.cil_base.specs.Kinds.{same_kind}
+use Rattle.cil_base.proofs.KindLaws.{kind_told, kind_itself}
 use Rattle.type_graph.specs.declared.nodes.Quals.{Quals}
 use Rattle.type_graph.specs.Shapes.{Shape, Shapes, VoidType, IntType, PtrType, ArrayType, FuncType, AggType, NoTypes, MoreTypes}
-use Rattle.cil_tree.specs.Typing.{kind_number, same_kind, same_truth, same_quals, same_bound, same_shape, same_shapes}
+use Rattle.cil_tree.specs.Typing.{same_truth, same_quals, same_bound, same_shape, same_shapes}
 
 both : (p q : Bool) → p && q ≡ true → (p ≡ true) × (q ≡ true)
 both true q e = (refl, e)
@@ -12,22 +14,6 @@ both false q e = cc
 
 joined : (p q : Bool) → p ≡ true → q ≡ true → p && q ≡ true
 joined p q e f = ap (λ b. b && q) e ∙ f
-
-kinds : List IntKind
-kinds = kind.Bool ∷ kind.Char ∷ kind.SChar ∷ kind.UChar ∷ kind.Short ∷ kind.UShort ∷ kind.Int ∷ kind.UInt ∷ kind.Long ∷ kind.ULong ∷ kind.LLong ∷ kind.ULLong ∷ []
-
-kind_of : ℕ → IntKind
-kind_of n = slice_index_or kinds n kind.Bool
-
-kind_back : (k : IntKind) → kind_of (kind_number k) ≡ k
-unfolding kind_of kinds
-kind_back k = elim k as (λ v. kind_of (kind_number v) ≡ v) [ kind.Bool ↦ refl | kind.Char ↦ refl | kind.SChar ↦ refl | kind.UChar ↦ refl | kind.Short ↦ refl | kind.UShort ↦ refl | kind.Int ↦ refl | kind.UInt ↦ refl | kind.Long ↦ refl | kind.ULong ↦ refl | kind.LLong ↦ refl | kind.ULLong ↦ refl ]
-
-pub kind_told : (k l : IntKind) → same_kind k l ≡ true → k ≡ l
-kind_told k l e = sym (kind_back k) ∙ ap kind_of (eqb-true (kind_number k) (kind_number l) e) ∙ kind_back l
-
-pub kind_itself : (k : IntKind) → same_kind k k ≡ true
-kind_itself k = eq-eqb (kind_number k) (kind_number k) refl
 
 truth_told : (a b : Bool) → same_truth a b ≡ true → a ≡ b
 truth_told true true e = refl

@@ -71,7 +71,7 @@ wider = record graph {
 
 types_refused :
     list_all node_is_unqualified wider.nodes
-    ∷ members_are_unqualified (aggregate Struct 3 (Some (record { name = record { 0 = 5 }; ty = record { quals = record { constant = false; restricted = true }; of = record { 0 = 3 } }; value = pos 0 } ∷ [])))
+    ∷ members_are_unqualified (aggregate Struct 3 (Some (record { name = record { 0 = 5 }; anonymous = false; ty = record { quals = record { constant = false; restricted = true }; of = record { 0 = 3 } }; value = pos 0 } ∷ [])))
     ∷ has_tag (record { kind = Struct; tag = None; members = None })
     ∷ enum_is_complete (aggregate Enum 0 None)
     ∷ members_have_kind graph (aggregate Enum 0 (Some (member 1 1 (pos 0) ∷ [])))

@@ -9,7 +9,8 @@ use Rattle.cil_base.specs.Arithmetic.{fits}
 use Rattle.type_graph.specs.Shapes.{Shape, Shapes, IntType, PtrType, FuncType, AggType, NoTypes, MoreTypes}
 use Rattle.type_graph.specs.Arena.{Graph, complete_shape}
 use Rattle.cil_tree.specs.Tree.{Exp, Lval, Callee, Direct, Through, Instr, Set, Call, Zero, Stmt, Do, If, Switch, Loop, Block, Label, Case, Default, Goto, Break, Return, Stmts, Done, Seq, Local, Body, Program}
-use Rattle.cil_tree.specs.Typing.{Scope, scope_of, same_kind, is_type, is_void, is_wide, is_scalar, names_enum, global_type, pointed, type_of, place_type}
+use Rattle.cil_base.specs.Kinds.{same_kind}
+use Rattle.cil_tree.specs.Typing.{Scope, scope_of, is_type, is_void, is_wide, is_scalar, names_enum, global_type, pointed, type_of, place_type}
 
 -- the type is complete
 abbrev pub is_complete : Scope → Shape → Bool

@@ -16,7 +16,8 @@ use Rattle.type_graph.specs.Shapes.{Shape, VoidType, IntType, PtrType, ArrayType
 use Rattle.type_graph.specs.Arena.{Graph, complete_shape}
 use Rattle.type_graph.specs.Layouts.{offset}
 use Rattle.cil_tree.specs.Tree.{Step, ToField, ToIndex, Item, Definition, Declared, Zeros, Image, Function, GlobalDecl, Program}
-use Rattle.cil_tree.specs.Typing.{same_kind, is_void, is_function, is_scalar, names_enum, global_type, member_type, element_of}
+use Rattle.cil_base.specs.Kinds.{same_kind}
+use Rattle.cil_tree.specs.Typing.{is_void, is_function, is_scalar, names_enum, global_type, member_type, element_of}
 use Rattle.cil_tree.specs.Text.{shape_layout, is_function_type}
 use Rattle.cil_tree.specs.Bodies.{body_fits}
 

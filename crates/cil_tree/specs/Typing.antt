@@ -2,7 +2,8 @@
 use Rattle.std.specs.Prelude.{ℕ, Bool, true, false, ◌&&◌, ◌||◌, not, nat_eq, nat_lt, if◌then◌else◌, List, Option, Some, None, slice_get, ℤ, pos}
 use Rattle.std.specs.Option.{option_map, option_and_then}
 use Rattle.cil_base.specs.declared.kinds.IntKind.{IntKind}
-use Rattle.cil_base.specs.declared.kinds.IntKind.TheVariants.{Bool as Boolean, Char, SChar, UChar, Short, UShort, Int as int, UInt, Long, ULong, LLong, ULLong}
+use Rattle.cil_base.specs.declared.kinds.IntKind.TheVariants.{Int as int}
+use Rattle.cil_base.specs.Kinds.{same_kind}
 use Rattle.cil_base.specs.declared.operators.BinOp.{BinOp}
 use Rattle.cil_base.specs.declared.operators.BinOp.TheVariants.{Add, Sub, Lt, Gt, Le, Ge, Eq, Ne}
 use Rattle.cil_base.specs.declared.operators.UnOp.{UnOp}
@@ -26,24 +27,6 @@ pub record Scope : Type 0 where
 
 abbrev pub scope_of : Program → Body → Scope
 scope_of p body = record { program = p; locals = body.locals; labels = body.labels }
-
--- the types of C11 6.2.5, told apart
-abbrev pub kind_number : IntKind → ℕ
-kind_number Boolean = 0
-kind_number Char = 1
-kind_number SChar = 2
-kind_number UChar = 3
-kind_number Short = 4
-kind_number UShort = 5
-kind_number int = 6
-kind_number UInt = 7
-kind_number Long = 8
-kind_number ULong = 9
-kind_number LLong = 10
-kind_number ULLong = 11
-
-abbrev pub same_kind : IntKind → IntKind → Bool
-same_kind k l = nat_eq (kind_number k) (kind_number l)
 
 abbrev pub same_truth : Bool → Bool → Bool
 same_truth true b = b

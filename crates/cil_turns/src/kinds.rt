@@ -1,5 +1,5 @@
 ghost use Rattle.std.specs.Prelude.{◌≡◌, map};
-ghost use Rattle.host_calls.specs.Host.{kind_number, same_scalar};
+ghost use Rattle.host_calls.specs.Host.{same_scalar};
 ghost use Rattle.execution.specs.Data.{kinds_match, same_kind};
 ghost use Rattle.execution.specs.Calls.{arguments_match};
 ghost use Rattle.cil_code.specs.Calling.{kind_of, kind_from};
@@ -7,34 +7,14 @@ ghost use Rattle.cil_frames.specs.Entering.{arguments_of};
 ghost use Rattle.cil_turns.specs.Turning.{kinds_agree};
 
 use byte_mem::Scalar;
-use cil_base::IntKind;
 use cil_code::Kind;
 use cil_frames::{Argument, Function};
-
-fn kind_number(kind: IntKind) -> u8
-    ensures { result ≡ kind_number kind }
-{
-    match kind {
-        IntKind::Bool => 0,
-        IntKind::Char => 1,
-        IntKind::SChar => 2,
-        IntKind::UChar => 3,
-        IntKind::Short => 4,
-        IntKind::UShort => 5,
-        IntKind::Int => 6,
-        IntKind::UInt => 7,
-        IntKind::Long => 8,
-        IntKind::ULong => 9,
-        IntKind::LLong => 10,
-        IntKind::ULLong => 11,
-    }
-}
 
 fn is_same_scalar(a: Scalar, b: Scalar) -> bool
     ensures { result ≡ same_scalar a b }
 {
     match (a, b) {
-        (Scalar::Int(x), Scalar::Int(y)) => kind_number(x) == kind_number(y),
+        (Scalar::Int(x), Scalar::Int(y)) => x == y,
         (Scalar::Ptr, Scalar::Ptr) => true,
         (Scalar::Int(_), Scalar::Ptr) | (Scalar::Ptr, Scalar::Int(_)) => false,
     }

@@ -1,10 +1,24 @@
 -- Device: the texts of the host's functions differ.
-use Rattle.std.proofs.Common.{◌≡◌, ◌≢◌, ℕ, cond, List, Some, None, ◌↔◌, refl, sym, ap, ◌∙◌}
+use Rattle.std.proofs.Common.{◌≡◌, ◌≢◌, ℕ, true, cond, List, [], ◌∷◌, map, Some, None, ◌↔◌, refl, sym, ap, ◌∙◌}
 use Rattle.std.specs.Str.{bytes_eq}
 use Rattle.std.proofs.lemmas.Option.{none-some}
+use Rattle.cil_base.specs.HostNames.{called_names, is_host_name}
 use Rattle.host_calls.specs.declared.names.HostName.{HostName}
 use Rattle.host_calls.specs.declared.names.HostName.TheVariants.{Getchar, Putchar, Exit, Abort, Malloc, Free, Memset}
 use Rattle.host_calls.specs.Host.{text_of}
+
+-- each row has a name of the host, and each name whose calls have a meaning has a row
+pub rows_have_host_names : (r : HostName) → is_host_name (text_of r) ≡ true
+rows_have_host_names Getchar = refl
+rows_have_host_names Putchar = refl
+rows_have_host_names Exit = refl
+rows_have_host_names Abort = refl
+rows_have_host_names Malloc = refl
+rows_have_host_names Free = refl
+rows_have_host_names Memset = refl
+
+pub called_names_have_rows : map text_of (Getchar ∷ Putchar ∷ Exit ∷ Abort ∷ Malloc ∷ Free ∷ Memset ∷ []) ≡ called_names
+called_names_have_rows = refl
 
 -- the function whose text it is
 abbrev named : List ℕ → HostName

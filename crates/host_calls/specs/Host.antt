@@ -1,9 +1,9 @@
 -- Definition: the host's functions (C11 7.21.7, 7.22.3, 7.22.4; own): from the name, the kind of the call's result, the arguments with their kinds and the state to the result and the state after it.
-use Rattle.std.specs.Prelude.{ℕ, ◌+◌, ◌-◌, ◌^◌, Bool, true, false, ◌&&◌, nat_eq, nat_lt, if◌then◌else◌, List, [], ◌∷◌, ◌++◌, codes, slice_get, Option, Some, None, ℤ, pos, negsuc, unsigned_abs}
+use Rattle.std.specs.Prelude.{ℕ, ◌+◌, ◌-◌, ◌^◌, Bool, true, false, ◌&&◌, nat_lt, if◌then◌else◌, List, [], ◌∷◌, ◌++◌, codes, slice_get, Option, Some, None, ℤ, pos, negsuc, unsigned_abs}
 use Rattle.std.specs.Ordering.{int_eq}
 use Rattle.cil_base.specs.declared.kinds.Abi.{Abi}
-use Rattle.cil_base.specs.declared.kinds.IntKind.{IntKind}
-use Rattle.cil_base.specs.declared.kinds.IntKind.TheVariants.{Bool as Boolean, Char, SChar, UChar, Short, UShort, Int as Int', UInt, Long, ULong, LLong, ULLong}
+use Rattle.cil_base.specs.declared.kinds.IntKind.TheVariants.{Int as Int'}
+use Rattle.cil_base.specs.Kinds.{same_kind}
 use Rattle.cil_base.specs.Integer.{reduced, ulong_of}
 use Rattle.byte_mem.specs.declared.pointers.ObjName.{ObjName}
 use Rattle.byte_mem.specs.declared.pointers.ObjName.TheVariants.{Heap}
@@ -143,22 +143,8 @@ called Free values s = with_value s (value_arg values 0) (λ v. free s v)
 called Memset values s = with_value s (value_arg values 0) (λ v. with_number s (number_arg values 1) (λ c. with_number s (number_arg values 2) (λ n. memset s v (byte_of c) (unsigned_abs n))))
 
 -- two kinds are the same
-abbrev pub kind_number : IntKind → ℕ
-kind_number Boolean = 0
-kind_number Char = 1
-kind_number SChar = 2
-kind_number UChar = 3
-kind_number Short = 4
-kind_number UShort = 5
-kind_number Int' = 6
-kind_number UInt = 7
-kind_number Long = 8
-kind_number ULong = 9
-kind_number LLong = 10
-kind_number ULLong = 11
-
 abbrev pub same_scalar : Scalar → Scalar → Bool
-same_scalar (OfKind a) (OfKind b) = nat_eq (kind_number a) (kind_number b)
+same_scalar (OfKind a) (OfKind b) = same_kind a b
 same_scalar OfPointer OfPointer = true
 same_scalar (OfKind a) OfPointer = false
 same_scalar OfPointer (OfKind b) = false

@@ -2,7 +2,7 @@ ghost use Rattle.std.specs.Prelude.{◌≡◌, ◌≤◌, ◌<◌, ◌+◌, ◌^
 ghost use Rattle.byte_mem.specs.Memory.{live_size, fill};
 ghost use Rattle.byte_mem.specs.Store.{memory};
 ghost use Rattle.cil_base.specs.Integer.{reduced};
-ghost use Rattle.host_calls.specs.Host.{result_of, parameters_of, byte_of, getchar, putchar, malloc, free, free_named, memset, called, kind_number, same_scalar, same_result, have_kinds, values_of, host, undefined, with_number, heap_limit, free_object, filled, value_arg, number_arg, HostState};
+ghost use Rattle.host_calls.specs.Host.{result_of, parameters_of, byte_of, getchar, putchar, malloc, free, free_named, memset, called, same_scalar, same_result, have_kinds, values_of, host, undefined, with_number, heap_limit, free_object, filled, value_arg, number_arg, HostState};
 ghost use Rattle.host_calls.specs.Counted.{IsCounted, state, Answers};
 
 use crate::names::HostName;
@@ -56,30 +56,11 @@ impl Io {
     }
 }
 
-fn kind_number(kind: IntKind) -> u8
-    ensures { result ≡ kind_number kind }
-{
-    match kind {
-        IntKind::Bool => 0,
-        IntKind::Char => 1,
-        IntKind::SChar => 2,
-        IntKind::UChar => 3,
-        IntKind::Short => 4,
-        IntKind::UShort => 5,
-        IntKind::Int => 6,
-        IntKind::UInt => 7,
-        IntKind::Long => 8,
-        IntKind::ULong => 9,
-        IntKind::LLong => 10,
-        IntKind::ULLong => 11,
-    }
-}
-
 fn is_same_scalar(a: Scalar, b: Scalar) -> bool
     ensures { result ≡ same_scalar a b }
 {
     match (a, b) {
-        (Scalar::Int(x), Scalar::Int(y)) => kind_number(x) == kind_number(y),
+        (Scalar::Int(x), Scalar::Int(y)) => x == y,
         (Scalar::Ptr, Scalar::Ptr) => true,
         _ => false,
     }
