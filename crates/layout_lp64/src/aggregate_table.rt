@@ -1,4 +1,4 @@
-ghost use Rattle.std.specs.Prelude.{◌≡◌, ◌+◌, ◌<◌, ◌≤◌, Some, None, [], ◌∷◌, ◌++◌, length, slice_set, IsSome, IfOk, OnOk, OnErr};
+ghost use Rattle.std.specs.Prelude.{◌≡◌, ◌+◌, ◌<◌, ◌≤◌, Some, None, [], ◌∷◌, ◌++◌, length, slice_get, slice_set, IsSome, IfOk, OnOk, OnErr};
 ghost use Rattle.std.specs.Option.{option_map};
 ghost use Rattle.layout_lp64.specs.Placements.{seen};
 ghost use Rattle.layout_lp64.specs.Tables.{whole_found, offset_found};
@@ -55,6 +55,18 @@ fn kept_if(
             let entry = kept(offsets, layout)?;
             Ok(Some(entry))
         }
+    }
+}
+
+/// The offset of a member of the entry's aggregate, if it is there.
+fn member_offset(offsets: &[u32], e: Entry, member: u32) -> Option<u32>
+    requires { e.first + e.count ≤ length offsets.now }
+    ensures { result ≡ slice_get (entry_of offsets.now e).offsets member }
+{
+    let first = e.first as usize;
+    match offsets[first..first + e.count as usize].get(member as usize) {
+        None => None,
+        Some(offset) => Some(*offset),
     }
 }
 
@@ -122,6 +134,17 @@ impl AggregateTable {
     {
         match self.entries.get(a.0 as usize) {
             Some(Some(e)) => Some(e.whole),
+            Some(None) => None,
+            None => None,
+        }
+    }
+
+    /// The offset of a member, if it is there and the aggregate is complete.
+    pub(crate) fn known_offset(&self, a: AggId, member: u32) -> Option<u32>
+        ensures { result ≡ offset_found self.now a.0 member }
+    {
+        match self.entries.get(a.0 as usize) {
+            Some(Some(e)) => member_offset(&self.offsets, *e, member),
             Some(None) => None,
             None => None,
         }

@@ -326,7 +326,7 @@ impl Layouts {
     }
 
     /// No layouts, for a graph without types.
-    pub(crate) fn new(alloc: Global) -> Self
+    pub fn new(alloc: Global) -> Self
         ensures { (abi : Abi) → InStep result (empty_graph abi) }
     {
         Layouts {
@@ -384,6 +384,23 @@ impl Layouts {
             Some(l) => Some(l.size),
             None => None,
         }
+    }
+
+    /// The alignment of a type in bytes, if it is a complete object type (C11 6.2.8).
+    pub fn known_align(&self, t: TypeId) -> Option<u32>
+        ensures { result ≡ option_map (λ (l : Layout). l.align) (found self.now t.0) }
+    {
+        match self.found(t) {
+            Some(l) => Some(l.align),
+            None => None,
+        }
+    }
+
+    /// The offset of a member in bytes, if its aggregate is complete and has it (C11 6.7.2.1p15, p16).
+    pub fn known_offset(&self, a: AggId, member: u32) -> Option<u32>
+        ensures { result ≡ found_offset self.now a.0 member }
+    {
+        self.aggs.known_offset(a, member)
     }
 
     /// The alignment of a complete object type in bytes (C11 6.2.8).

@@ -12,7 +12,5 @@ mod layouts;
 mod placing;
 mod span_table;
 mod spans;
-mod types;
 
 pub use layouts::{LayoutStop, Layouts};
-pub use types::Types;

@@ -8,7 +8,7 @@ use Rattle.type_graph.specs.declared.aggregates.AggKind.TheVariants.{Struct, Uni
 use Rattle.type_graph.specs.declared.aggregates.Aggregate.{Aggregate}
 use Rattle.type_graph.specs.declared.nodes.Quals.{Quals}
 use Rattle.type_graph.specs.Shapes.{Shape, Shapes, VoidType, IntType, PtrType, ArrayType, FuncType, AggType, NoTypes, MoreTypes}
-use Rattle.type_compat.specs.Kinds.{same_kind}
+use Rattle.cil_base.specs.Kinds.{same_kind}
 
 -- qualified types are compatible only where they are qualified alike (6.7.3p10)
 abbrev pub same_quals : Quals → Quals → Bool

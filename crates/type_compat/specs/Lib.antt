@@ -1,5 +1,4 @@
 pub mod Measure
-pub mod Kinds
 pub mod Compatible
 pub mod Composed
 pub mod Functions

@@ -17,7 +17,7 @@ plain : ℕ → QualType
 plain t = record { quals = record { constant = false; restricted = false }; of = record { 0 = t } }
 
 member : ℕ → Member
-member t = record { name = record { 0 = t }; ty = plain t; value = pos 0 }
+member t = record { name = record { 0 = t }; anonymous = false; ty = plain t; value = pos 0 }
 
 aggregate : AggKind → List Member → Aggregate
 aggregate kind members = record { kind = kind; tag = None; members = Some members }

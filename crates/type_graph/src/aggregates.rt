@@ -1,4 +1,4 @@
-ghost use Rattle.std.specs.Prelude.{◌≡◌, List, length};
+ghost use Rattle.std.specs.Prelude.{◌≡◌, List, length, true, false, pos};
 ghost use Rattle.type_graph.specs.Renaming.{renamed_members};
 ghost use Rattle.type_graph.specs.Kept.{members_in};
 
@@ -18,6 +18,8 @@ pub enum AggKind {
 #[derive(Clone, Copy, Debug)]
 pub struct Member {
     pub name: NameId,
+    /// Whether it is an anonymous structure or union (C11 6.7.2.1p13); its name is then a made one.
+    pub anonymous: bool,
     pub ty: QualType,
     /// The value of an enumerator; 0 elsewhere.
     pub value: i32,
@@ -26,9 +28,26 @@ pub struct Member {
 impl Member {
     /// A member or enumerator with a name of its own.
     pub fn named(name: NameId, ty: QualType, value: i32) -> Self
-        ensures { result ≡ record { name = name; ty = ty; value = value } }
+        ensures { result ≡ record { name = name; anonymous = false; ty = ty; value = value } }
     {
-        Member { name, ty, value }
+        Member {
+            name,
+            anonymous: false,
+            ty,
+            value,
+        }
+    }
+
+    /// An anonymous structure or union (C11 6.7.2.1p13), with the name that is made for it.
+    pub fn unnamed(name: NameId, ty: QualType) -> Self
+        ensures { result ≡ record { name = name; anonymous = true; ty = ty; value = pos 0 } }
+    {
+        Member {
+            name,
+            anonymous: true,
+            ty,
+            value: 0,
+        }
     }
 }
 

@@ -1,0 +1,14 @@
+//! The types of one arena in another: a table that gives each type of the first its number in the second.
+//!
+//! Its public contract gives each mapped type the mapped shape, in which aggregates have the numbers that are given for them and
+//! qualifiers are kept or dropped.
+//!
+//! The rules are own.
+#![tactic(auto)]
+
+mod mapping;
+
+pub use mapping::map_graph;
+
+#[cfg(test)]
+mod tests;

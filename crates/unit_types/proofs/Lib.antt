@@ -1,0 +1,4 @@
+pub mod NormalLaws
+pub mod StepLaws
+pub mod TypeLists
+pub mod MemberLists

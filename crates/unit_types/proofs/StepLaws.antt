@@ -1,0 +1,39 @@
+-- Device: layouts follow an arena that grows.
+use Rattle.std.proofs.Common.{◌≡◌, ℕ, ◌<◌, ◌≤◌, false, List, Some, length, slice_get, ap, subst}
+use Rattle.type_graph.specs.Shapes.{shape}
+use Rattle.type_graph.specs.Arena.{Graph, IsArena, complete, complete_shape, flexible_shape}
+use Rattle.cil_base.specs.declared.numbers.AggId.{AggId}
+use Rattle.type_graph.specs.declared.aggregates.Aggregate.{Aggregate}
+use Rattle.type_graph.specs.declared.aggregates.Member.{Member}
+use Rattle.type_graph.specs.declared.nodes.Node.{Node}
+use Rattle.type_graph.specs.Growth.{Grows, AddsNode, with_members}
+use Rattle.type_graph.proofs.Lists.{get_there}
+use Rattle.type_graph.proofs.ShapeLaws.{shape_past}
+use Rattle.layout_lp64.specs.declared.layouts.Layouts.{Layouts}
+use Rattle.layout_lp64.specs.declared.layouts.LayoutStop.{LayoutStop}
+use Rattle.layout_lp64.specs.declared.layouts.LayoutStop.TheVariants.{TooBig, Memory}
+use Rattle.layout_lp64.specs.Stops.{StopsAt}
+use Rattle.layout_lp64.specs.Tables.{InStep, WereInStep, IsLeastTooBig}
+use Rattle.unit_types.specs.Steps.{StopsWith, StopsCompleting}
+
+pub were_in_step : (l : Layouts) (g h : Graph) → InStep l g → IsArena g → Grows g h → WereInStep l h
+were_in_step l g h step w grows = record { before = g; arena = w; step = step; grows = grows }
+
+-- what is beyond the types is no complete type
+pub complete_past : (g : Graph) (t : ℕ) → length g.nodes ≤ t → complete g t ≡ false
+complete_past g t h = ap (complete_shape g.aggs) (shape_past g.nodes t h)
+
+-- the arena with the type that was asked for has a type that is too big
+pub stops_added : (old g : Graph) (n : Node) (k : ℕ) (e : LayoutStop) → AddsNode old g n k → StopsAt g e → StopsWith old n e
+stops_added old g n k (TooBig t) adds stops = (g, k, adds, stops)
+stops_added old g n k Memory adds stops = tt
+
+pub flexible_past : (g : Graph) (t : ℕ) → length g.nodes ≤ t → flexible_shape g.aggs (shape g.nodes t) ≡ false
+flexible_past g t h = ap (flexible_shape g.aggs) (shape_past g.nodes t h)
+
+-- the arena with the aggregate completed has a type that is too big
+pub stops_completed : (g h : Graph) (a : AggId) (ms : List Member) (e : LayoutStop) → a.0 < length g.aggs → ((x : Aggregate) → slice_get g.aggs a.0 ≡ Some x → h ≡ with_members g a x ms) → StopsAt h e → StopsCompleting g a ms e
+stops_completed g h a ms (TooBig t) there is stops =
+    let x = get_there g.aggs a.0 there in
+    (x.0, x.1, subst (λ (p : Graph). IsLeastTooBig p t.0) (is x.0 x.1) stops)
+stops_completed g h a ms Memory there is stops = tt
