@@ -99,3 +99,9 @@ most_items (x ∷ xs) = ap (max (item_height (item_of x))) (most_items xs)
 pub most_parameters : (xs : List Parameter) → most_of (λ p. parameter_height (parameter_of p)) xs ≡ parameters_height (parameters_of xs)
 most_parameters [] = refl
 most_parameters (x ∷ xs) = ap (max (parameter_height (parameter_of x))) (most_parameters xs)
+
+-- an element is the same whatever stands for one out of range
+pub same_default : {A : Type 0} (xs : List A) (i : ℕ) (d e : A) → i < length xs → get_or xs i d ≡ get_or xs i e
+same_default [] i d e lt = absurd (omega arith)
+same_default (x ∷ xs) zero d e lt = refl
+same_default (x ∷ xs) (suc i) d e lt = same_default xs i d e (omega arith)

@@ -11,5 +11,3 @@ pub mod Capped
 pub mod Scoped
 pub mod Grammatical
 pub mod Told
-pub mod SpelledTokens
-pub mod Added

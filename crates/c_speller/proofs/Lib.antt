@@ -1,0 +1,3 @@
+pub mod AddedLemmas
+pub mod AddedLists
+pub mod UnitLists

@@ -1,0 +1,7 @@
+use Rattle.std.specs.Prelude.{[], ◌∷◌}
+use Rattle.c_tree.specs.Spelling.{word, qualifier_word}
+use Rattle.c_speller.specs.Added.{AddedSoFar}
+use Rattle.c_speller.proofs.speller.put_qualifiers.Given as goal
+
+abbrev pub invariant-loop-x : goal.invariant-loop-x
+invariant-loop-x l = AddedSoFar l.from.names.now l.fn.out l.out (λ q. word (qualifier_word q) ∷ []) l.xs l.x-index

@@ -1,0 +1,2 @@
+pub mod SpelledTokens
+pub mod Added

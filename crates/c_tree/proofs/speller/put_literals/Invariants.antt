@@ -1,7 +1,0 @@
-use Rattle.std.specs.Prelude.{[], ◌∷◌}
-use Rattle.c_tree.specs.Spelling.{literal}
-use Rattle.c_tree.specs.Added.{AddedSoFar}
-use Rattle.c_tree.proofs.speller.put_literals.Given as goal
-
-abbrev pub invariant-loop-x : goal.invariant-loop-x
-invariant-loop-x l = AddedSoFar l.from.names.now l.fn.out.items l.out.items (λ t. literal t ∷ []) l.xs l.x-index

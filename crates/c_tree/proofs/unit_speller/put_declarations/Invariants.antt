@@ -1,7 +1,0 @@
-use Rattle.c_tree.specs.UnitView.{declaration_of}
-use Rattle.c_tree.specs.UnitSpelling.{spell_declaration}
-use Rattle.c_tree.specs.Added.{AddedSoFar}
-use Rattle.c_tree.proofs.unit_speller.put_declarations.Given as goal
-
-abbrev pub invariant-loop-x : goal.invariant-loop-x
-invariant-loop-x l = AddedSoFar l.from.names.now l.fn.out.items l.out.items (λ x. spell_declaration (declaration_of x)) l.xs l.x-index
