@@ -18,14 +18,16 @@ use Rattle.c_tree.specs.Height.{expr_height, bound_height}
 use Rattle.c_tree.specs.Levels.{has_some, is_within, levelled, levelled_bound, is_bound_of}
 use Rattle.c_tree.specs.Placed.{placed_expr, placed_bound}
 use Rattle.c_tree.specs.Scoped.{scoped_expr, scoped_bound, after_expr, after_bound}
-use Rattle.c_exprs.specs.Readers.{head}
-use Rattle.c_exprs.specs.Classes.{is_sign, is_static_word, is_qualifier, qualifier_word_kind, next_is, a_qualifier, start_kind, start_word_kind, is_some_of}
+use Rattle.c_cursor.specs.Readers.{head}
+use Rattle.c_cursor.specs.Classes.{is_sign, is_static_word, next_is}
+use Rattle.c_exprs.specs.Classes.{is_qualifier, qualifier_word_kind, a_qualifier, start_kind, start_word_kind, is_some_of}
 use Rattle.c_exprs.specs.GoesOn.{goes_on_expr}
 use Rattle.c_exprs.specs.Subs.{In, Subs}
 use Rattle.c_exprs.specs.DeclaratorReading.{qualifiers, static_bound, bound_static, behind_star, star_bound, open_bound, given_bound, qualified_bound, bound}
 use Rattle.c_exprs.proofs.Laws
 use Rattle.c_exprs.proofs.Laws.{Lawful, Any, Anywhere, Next, And, Steps, Ends, More, Token, Mapped, Behind, Before, Both, Either, Met, Unmet, Under, There, Headed, Gives, Numbers, bare, bind_lawful, guard_lawful, mapped_lawful, behind_lawful, behind_at_lawful, pure_lawful, when_lawful, many_lawful, steps_fit, one_lawful, here_lawful, there_lawful, headed_lawful, headed_begins, said, known, ended, At}
-use Rattle.c_exprs.proofs.Tokens.{eq_true, true_eq, both, sign_tells, static_tells, a_qualifier_is, is_a_qualifier}
+use Rattle.c_cursor.proofs.Tokens.{eq_true, true_eq}
+use Rattle.c_exprs.proofs.Tokens.{both, sign_tells, static_tells, a_qualifier_is, is_a_qualifier}
 use Rattle.c_exprs.proofs.Heads.{expr_starts, apart, no_sign_starts}
 use Rattle.c_exprs.proofs.Relations.{Below, ExprIs, base_of, StarredIs, LawfulSubs}
 use Rattle.c_exprs.proofs.Climbing.{Climb, climb_to, spelled_by_base, base_levelled, base_scoped}

@@ -3,13 +3,13 @@ use Rattle.std.proofs.Common.{◌≡◌, refl, sym, ◌∙◌, ap, subst, ℕ, s
 use Rattle.typedef_scopes.specs.Scopes.{Scope}
 use Rattle.c_tree.specs.declared.level.Level.{Level}
 use Rattle.c_tree.specs.Syntax.{ExprTree, SpecifierTrees, DeclaratorTree, InitTree}
-use Rattle.c_exprs.specs.declared.stops.ParseStop.{ParseStop}
-use Rattle.c_exprs.specs.declared.stops.ParseStop.TheVariants.{At, Memory}
+use Rattle.c_cursor.specs.declared.stops.ParseStop.{ParseStop}
+use Rattle.c_cursor.specs.declared.stops.ParseStop.TheVariants.{At, Memory}
 use Rattle.c_exprs.specs.declared.words.SpecifierForm.TheVariants.{Declaration as InDeclaration}
 use Rattle.c_exprs.specs.declared.words.DeclaratorForm.TheVariants.{Definition as InDefinition, Member as InMember}
-use Rattle.c_exprs.specs.Readers.{Input, input}
-use Rattle.c_exprs.specs.Lexemes.{Standing, ahead}
-use Rattle.c_exprs.specs.Given.{Fails, Gives}
+use Rattle.c_cursor.specs.Readers.{Input, input}
+use Rattle.c_cursor.specs.Lexemes.{Standing, ahead}
+use Rattle.c_cursor.specs.Given.{Fails, Gives}
 use Rattle.c_exprs.specs.Subs.{In}
 use Rattle.c_exprs.specs.ExprReading.{expression, type_name}
 use Rattle.c_exprs.specs.SpecifierReading.{specifiers}
@@ -18,7 +18,7 @@ use Rattle.c_exprs.specs.InitReading.{initialiser}
 use Rattle.c_exprs.specs.Reading.{readings, below}
 use Rattle.c_exprs.specs.Answers.{Reads, Refuses}
 use Rattle.c_exprs.specs.Forms.{IsExpr, expr_goes, IsTypeName, type_name_goes, IsSpecifiers, specifiers_goes, IsDeclarator, declarator_goes, IsNamedDeclarator, named_declarator_goes, IsInit, init_goes}
-use Rattle.c_exprs.specs.Telling.{Tells}
+use Rattle.c_cursor.specs.Telling.{Tells}
 use Rattle.c_exprs.proofs.Public.{gives, refuses, expr_reading, type_name_reading, specifiers_reading, declarator_reading, named_declarator_reading, init_reading}
 
 -- the tokens where the number says

@@ -23,12 +23,14 @@ use Rattle.c_exprs.specs.declared.words.Joint.{Joint}
 use Rattle.c_exprs.specs.declared.words.Joint.TheVariants.{Arithmetic as Arithmetically, Logical as Logically, Assign as Assigning, Comma as InSequence}
 use Rattle.c_exprs.specs.declared.words.Operator.{Operator}
 use Rattle.c_exprs.specs.declared.words.Operator.TheVariants.{Index as ToIndex, Call as ToCall, Member as ToMember, Arrow as ToArrow, Step as ToStep, Conditional as ToChoose, Join as ToJoin}
-use Rattle.c_exprs.specs.Classes.{is_sign, is_literal, next_is, a_name, joint_right, joint_node, operator_level, operator_left, operator_sign, operator_kind, operator_fits, operator_for}
+use Rattle.c_cursor.specs.Classes.{is_sign, is_literal, next_is, a_name}
+use Rattle.c_exprs.specs.Classes.{joint_right, joint_node, operator_level, operator_left, operator_sign, operator_kind, operator_fits, operator_for}
 use Rattle.c_exprs.specs.GoesOn.{goes_on_by, goes_on_level, goes_on_expr}
 use Rattle.c_exprs.specs.Subs.{In}
 use Rattle.c_exprs.specs.ExprReading.{expr_trees}
 use Rattle.c_exprs.proofs.Laws.{Token, Both, Behind, Before, Mapped, Gives, Steps, Ends, More, none_is_no}
-use Rattle.c_exprs.proofs.Tokens.{eq_true, true_eq, le_true, true_le, false_le, le_false, lt_true, true_lt, both, none_of, or_true, sign_tells, joint_text, operator_text, joint_valid, operator_valid, operator_is, OneToken, one_token, is_operator, a_name_is}
+use Rattle.c_cursor.proofs.Tokens.{eq_true, true_eq}
+use Rattle.c_exprs.proofs.Tokens.{le_true, true_le, false_le, le_false, lt_true, true_lt, both, none_of, or_true, sign_tells, joint_text, operator_text, joint_valid, operator_valid, operator_is, OneToken, one_token, is_operator, a_name_is}
 use Rattle.c_exprs.proofs.Relations.{Below, GoodExpr, ExprIs, base_of}
 
 -- levels

@@ -14,8 +14,9 @@ use Rattle.c_exprs.specs.declared.words.DeclaratorForm.{DeclaratorForm}
 use Rattle.c_exprs.specs.declared.words.DeclaratorForm.TheVariants.{Definition as InDefinition, Member as InMember, Abstract as InAbstract, Parameter as InParameter}
 use Rattle.c_exprs.specs.declared.words.Derivation.{Derivation}
 use Rattle.c_exprs.specs.declared.words.Derivation.TheVariants.{Array as ArrayOf, Function as FunctionOf}
-use Rattle.c_exprs.specs.Readers.{head}
-use Rattle.c_exprs.specs.Classes.{a_name, derivation_for, may_be_absent, may_be_named, is_sign, is_name, next_is, name_kind, an_identifier, is_some_of, if_so, begins_parameter, may_have_identifiers}
+use Rattle.c_cursor.specs.Readers.{head}
+use Rattle.c_cursor.specs.Classes.{a_name, is_sign, is_name, next_is, name_kind, if_so}
+use Rattle.c_exprs.specs.Classes.{derivation_for, may_be_absent, may_be_named, an_identifier, is_some_of, begins_parameter, may_have_identifiers}
 use Rattle.c_exprs.specs.GoesOn.{goes_on_declarator}
 use Rattle.c_exprs.specs.Subs.{In, Subs, comma_ahead}
 use Rattle.c_exprs.specs.DeclaratorReading.{behind_derivation, derivation, derivations, grouped, begins_function, behind_group, parenthesis, name_or_none, inner, parameter_trees, outer_of, prototyped, more_identifiers, identifiers, unprototyped, begins_identifiers, with_list, function_of}

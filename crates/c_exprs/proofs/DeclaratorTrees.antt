@@ -17,14 +17,16 @@ use Rattle.c_exprs.specs.declared.words.DeclaratorForm.{DeclaratorForm}
 use Rattle.c_exprs.specs.declared.words.DeclaratorForm.TheVariants.{Definition as InDefinition, Member as InMember, Abstract as InAbstract, Parameter as InParameter}
 use Rattle.c_exprs.specs.declared.words.Derivation.{Derivation}
 use Rattle.c_exprs.specs.declared.words.Derivation.TheVariants.{Array as ArrayOf, Function as FunctionOf}
-use Rattle.c_exprs.specs.Readers.{head, here, bind}
-use Rattle.c_exprs.specs.Classes.{is_qualifier, may_be_absent, may_be_named, is_sign, is_name, next_is, is_some_of, if_so, piece_word, begins_parameter, may_have_identifiers}
+use Rattle.c_cursor.specs.Readers.{head, here, bind}
+use Rattle.c_cursor.specs.Classes.{is_sign, is_name, next_is, if_so}
+use Rattle.c_exprs.specs.Classes.{is_qualifier, may_be_absent, may_be_named, is_some_of, piece_word, begins_parameter, may_have_identifiers}
 use Rattle.c_exprs.specs.GoesOn.{goes_on_typed, goes_on_name, goes_on_absent, goes_on_declarator}
 use Rattle.c_exprs.specs.Subs.{In, Subs}
 use Rattle.c_exprs.specs.DeclaratorReading.{begins_function, direct, pointer, declarator_at, declarator, parameter_trees, outer_of}
 use Rattle.c_exprs.proofs.Laws
 use Rattle.c_exprs.proofs.Laws.{guard_lawful, guard_known, here_lawful, there_lawful, cancelled, Lawful, Any, Anywhere, Next, And, Steps, Ends, More, Token, Mapped, Behind, Before, Both, Either, Met, Unmet, Under, There, Opens, Gives, Numbers, bare, bind_lawful, mapped_lawful, behind_lawful, before_lawful, pure_lawful, when_lawful, many_lawful, steps_fit, one_lawful, opens_lawful, opens_begins, fact_lawful, said, known, ended, take_is, taken_is, At}
-use Rattle.c_exprs.proofs.Tokens.{derivation_text, derivation_is, is_derivation, a_name_is, eq_true, true_eq, true_le, le_true, both, none_of, not_true, or_true, sign_tells}
+use Rattle.c_cursor.proofs.Tokens.{eq_true, true_eq}
+use Rattle.c_exprs.proofs.Tokens.{derivation_text, derivation_is, is_derivation, a_name_is, true_le, le_true, both, none_of, not_true, or_true, sign_tells}
 use Rattle.c_exprs.proofs.Heads.{nameless, declarator_begins}
 use Rattle.c_exprs.proofs.Relations.{Below, DeclaratorIs, EndsDeclarator, is_of_form, LawfulSubs}
 use Rattle.c_exprs.proofs.ExprTrees.{tall_declarator}

@@ -12,7 +12,7 @@ use Rattle.c_tree.specs.Height.{expr_height, specifiers_height, declarator_heigh
 use Rattle.c_tree.specs.Levels.{is_within, levelled, levelled_specifiers, levelled_declarator, levelled_items, has_item, is_type_name}
 use Rattle.c_tree.specs.Placed.{placed_expr, placed_specifiers, placed_declarator, placed_items}
 use Rattle.c_tree.specs.Scoped.{scoped_type_name, scoped_items, after_expr, after_type_name, after_items}
-use Rattle.c_exprs.specs.Readers.{Reader, bind}
+use Rattle.c_cursor.specs.Readers.{Reader, bind}
 use Rattle.c_exprs.specs.Subs.{In, Subs}
 use Rattle.c_exprs.specs.ExprReading.{rises, parenthesised, starred, literal_of}
 use Rattle.c_exprs.proofs.Laws

@@ -21,10 +21,12 @@ use Rattle.c_exprs.specs.declared.words.Operator.{Operator}
 use Rattle.c_exprs.specs.declared.words.Operator.TheVariants.{Index as ToIndex, Call as ToCall, Member as ToMember, Arrow as ToArrow, Step as ToStep, Conditional as ToChoose, Join as ToJoin}
 use Rattle.c_exprs.specs.declared.words.SpecifierForm.TheVariants.{TypeName as InTypeName}
 use Rattle.c_exprs.specs.declared.words.DeclaratorForm.TheVariants.{Abstract as InAbstract}
-use Rattle.c_exprs.specs.Readers.{head}
-use Rattle.c_exprs.specs.Classes.{is_sign, is_literal, next_is, a_name, a_literal, joint_right, joint_node, operator_kind, operator_for, operator_level, step_sign_kind, start_kind, is_some_of}
+use Rattle.c_cursor.specs.Readers.{head}
+use Rattle.c_cursor.specs.Classes.{is_sign, is_literal, next_is, a_name, a_literal}
+use Rattle.c_exprs.specs.Classes.{joint_right, joint_node, operator_kind, operator_for, operator_level, step_sign_kind, start_kind, is_some_of}
 use Rattle.c_exprs.specs.GoesOn.{goes_on_level, goes_on_expr, goes_on_typed, goes_on_name, goes_on_absent, goes_on_type, goes_on_specifiers, goes_on_declarator, goes_on_type_name}
-use Rattle.c_exprs.specs.Subs.{In, Subs, comma_ahead, more_literals}
+use Rattle.c_cursor.specs.Literals.{more_literals}
+use Rattle.c_exprs.specs.Subs.{In, Subs, comma_ahead}
 use Rattle.c_exprs.specs.ExprReading.{expr_trees, some_arguments, arguments, typed_declarator, type_name, type_name_closed, next_is_type, braced, in_parentheses, compound, cast, behind_type_name, typed, behind_parenthesis, prefixed, signed, sizeof_typed, sizeof_type, sizeof_parenthesised, sizeof_behind, sizeof_operand, alignof_operand, literals_from, operand, to_index, to_call, to_choose, to_join, behind_operator, rise, rises}
 use Rattle.c_exprs.proofs.Laws
 use Rattle.c_exprs.proofs.Laws.{Lawful, Any, Anywhere, Next, And, Steps, Ends, More, Token, Mapped, Behind, Before, Both, Either, Met, Unmet, Under, There, Gives, bare, bind_lawful, mapped_lawful, behind_lawful, before_lawful, pure_lawful, when_lawful, many_lawful, guard_lawful, one_lawful, stopped_lawful, steps_fit, there_lawful, behind_at_lawful, Headed, headed_lawful, headed_begins, cancelled, At, said, known, ended}

@@ -18,13 +18,15 @@ use Rattle.c_tree.specs.Placed.{placed_expr, placed_specifiers, placed_declarato
 use Rattle.c_tree.specs.Scoped.{scoped_expr, scoped_type_name, scoped_items, after_expr, after_type_name, after_items}
 use Rattle.c_exprs.specs.declared.words.Start.{Start}
 use Rattle.c_exprs.specs.declared.words.Start.TheVariants.{Name as NameStart, Integer as IntegerStart, Character as CharacterStart, Literal as LiteralStart, Parenthesis as ParenthesisStart, Step as StepStart, Unary as UnaryStart, Sizeof as SizeofStart, Alignof as AlignofStart}
-use Rattle.c_exprs.specs.Readers.{head}
-use Rattle.c_exprs.specs.Classes.{is_sign, next_is, start_of, start_fits}
+use Rattle.c_cursor.specs.Readers.{head}
+use Rattle.c_cursor.specs.Classes.{is_sign, next_is}
+use Rattle.c_exprs.specs.Classes.{start_of, start_fits}
 use Rattle.c_exprs.specs.Subs.{In, Subs}
 use Rattle.c_exprs.specs.ExprReading.{expression_from, expression}
 use Rattle.c_exprs.proofs.Laws
 use Rattle.c_exprs.proofs.Laws.{Lawful, Any, Anywhere, Next, Steps, Ends, More, Token, Mapped, Behind, Before, Both, Either, Met, Unmet, Under, There, Headed, Gives, Numbers, bare, bind_lawful, guard_lawful, one_lawful, here_lawful, there_lawful, said, known, ended, cancelled, At}
-use Rattle.c_exprs.proofs.Tokens.{eq_true, true_eq, true_le, le_true, not_true, both, a_literal_is, start_lexeme, StartIs, start_is, is_start}
+use Rattle.c_cursor.proofs.Tokens.{eq_true, true_eq}
+use Rattle.c_exprs.proofs.Tokens.{true_le, le_true, not_true, both, a_literal_is, start_lexeme, StartIs, start_is, is_start}
 use Rattle.c_exprs.proofs.Relations.{Below, GoodExpr, ExprIs, EndsExpr, base_of, GoodType, type_text, LawfulSubs}
 use Rattle.c_exprs.proofs.Climbing.{ends_after, Rises, climb_from, Climb, climb_to}
 use Rattle.c_exprs.proofs.Arguments.{tall}

@@ -30,8 +30,9 @@ use Rattle.c_tree.specs.Levels.{levelled, has_some, is_absent, declares, is_spec
 use Rattle.c_tree.specs.Scoped.{scoped_expr, scoped_specifier, scoped_specifiers, first_name}
 use Rattle.c_exprs.specs.declared.words.Piece.TheVariants.{Name as NamePiece}
 use Rattle.c_exprs.specs.declared.words.SpecifierForm.TheVariants.{TypeName as InTypeName}
-use Rattle.c_exprs.specs.Readers.{head}
-use Rattle.c_exprs.specs.Classes.{is_sign, next_is, start_kind, step_sign_kind, start_word_kind, is_some_of, piece_word, piece_fits, fitting, if_so, begins_type_name}
+use Rattle.c_cursor.specs.Readers.{head}
+use Rattle.c_cursor.specs.Classes.{is_sign, next_is, fitting, if_so}
+use Rattle.c_exprs.specs.Classes.{start_kind, step_sign_kind, start_word_kind, is_some_of, piece_word, piece_fits, begins_type_name}
 use Rattle.c_exprs.proofs.Tokens.{both, sign_tells}
 
 -- expressions

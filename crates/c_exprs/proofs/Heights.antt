@@ -3,11 +3,11 @@ use Rattle.std.proofs.Common.{◌≡◌, refl, subst, ℕ, zero, suc, ◌-◌, �
 use Rattle.typedef_scopes.specs.Scopes.{Scope}
 use Rattle.c_tree.specs.declared.level.Level.{Level}
 use Rattle.c_tree.specs.Syntax.{ExprTree, SpecifierTrees, DeclaratorTree, ItemTrees}
-use Rattle.c_exprs.specs.declared.stops.ParseStop.{ParseStop}
+use Rattle.c_cursor.specs.declared.stops.ParseStop.{ParseStop}
 use Rattle.c_exprs.specs.declared.words.SpecifierForm.{SpecifierForm}
 use Rattle.c_exprs.specs.declared.words.DeclaratorForm.{DeclaratorForm}
-use Rattle.c_exprs.specs.Readers.{Input}
-use Rattle.c_exprs.specs.Given.{Gives}
+use Rattle.c_cursor.specs.Readers.{Input}
+use Rattle.c_cursor.specs.Given.{Gives}
 use Rattle.c_exprs.specs.Subs.{In}
 use Rattle.c_exprs.specs.ExprReading.{expression, parenthesised, starred, literal_of}
 use Rattle.c_exprs.specs.SpecifierReading.{specifiers}

@@ -15,14 +15,16 @@ use Rattle.c_tree.specs.Placed.{placed_expr, placed_init, placed_item, placed_it
 use Rattle.c_tree.specs.Scoped.{scoped_init, scoped_item, scoped_items, scoped_designator, scoped_designators, after_init, after_item, after_items, after_designator, after_designators}
 use Rattle.c_exprs.specs.declared.words.Designation.{Designation}
 use Rattle.c_exprs.specs.declared.words.Designation.TheVariants.{Index as ByIndex, Member as ByMember}
-use Rattle.c_exprs.specs.Readers.{head, pure, bind}
-use Rattle.c_exprs.specs.Classes.{is_sign, is_designation, next_is, a_name, a_designation, designation_sign, step_sign_kind, start_kind, is_some_of}
+use Rattle.c_cursor.specs.Readers.{head, pure, bind}
+use Rattle.c_cursor.specs.Classes.{is_sign, next_is, a_name}
+use Rattle.c_exprs.specs.Classes.{is_designation, a_designation, designation_sign, step_sign_kind, start_kind, is_some_of}
 use Rattle.c_exprs.specs.GoesOn.{goes_on_expr}
 use Rattle.c_exprs.specs.Subs.{In, Subs}
 use Rattle.c_exprs.specs.InitReading.{behind_designation, designator, designator_trees, more_designators, some_designators, braces, single, initialiser, designated, undesignated, item, item_trees, some_items, items}
 use Rattle.c_exprs.proofs.Laws
 use Rattle.c_exprs.proofs.Laws.{Lawful, Any, Anywhere, Next, And, Steps, Ends, More, Token, Mapped, Behind, Before, Both, Either, Met, Unmet, Under, There, Headed, Gives, Numbers, bare, bind_lawful, guard_known, mapped_lawful, behind_lawful, before_lawful, pure_lawful, stopped_lawful, when_lawful, many_lawful, steps_fit, one_lawful, here_lawful, there_lawful, said, known, ended, At}
-use Rattle.c_exprs.proofs.Tokens.{eq_true, true_eq, true_le, le_true, both, sign_tells, a_name_is, designation_text, a_designation_is}
+use Rattle.c_cursor.proofs.Tokens.{eq_true, true_eq}
+use Rattle.c_exprs.proofs.Tokens.{true_le, le_true, both, sign_tells, a_name_is, designation_text, a_designation_is}
 use Rattle.c_exprs.proofs.Heads.{expr_starts, apart, no_sign_starts}
 use Rattle.c_exprs.proofs.Relations.{Below, ExprIs, ItemsIs, EndsList, EndsItems, LawfulSubs}
 use Rattle.c_exprs.proofs.Lists.{grown, Grows, Over, Rest, rest_of_steps, steps_of_rest, last_known, all_last, AfterComma, Listed, Ending, EndIs, listed_to_lawful}

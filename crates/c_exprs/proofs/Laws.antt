@@ -2,8 +2,8 @@
 use Rattle.std.proofs.Common.{◌≡◌, refl, sym, ap, ◌∙◌, subst, ℕ, zero, suc, ◌+◌, ◌<◌, ◌≤◌, length, Bool, true, false, List, [], ◌∷◌, ◌++◌, Option, Some, None, Result, Ok, Err, append_assoc, append-nil, arith, length-append, true≢false}
 use Rattle.c_tree.specs.Spelling.{Lexeme}
 use Rattle.cil_base.specs.declared.tokens.TokenKind.{TokenKind}
-use Rattle.c_exprs.specs.Classes.{of_kind, plain, if_so, fitting, take}
-use Rattle.c_exprs.specs.Readers.{Input, input, Reader, head, pure, fail, here, token_taken, one, and_then, bind, pick, when, guard, chain, many}
+use Rattle.c_cursor.specs.Classes.{of_kind, plain, if_so, fitting, take}
+use Rattle.c_cursor.specs.Readers.{Input, input, Reader, head, pure, fail, here, token_taken, one, and_then, bind, pick, when, guard, chain, many}
 
 -- what a reader took: tokens that the value has, and what follows may stand there
 pub record Taken {A : Type 0} (H : A → ℕ → List Lexeme → Type 0) (S : A → Option Lexeme → Type 0) (n : ℕ) (ts : List Lexeme) (a : A) (i : Input) : Type 0 where

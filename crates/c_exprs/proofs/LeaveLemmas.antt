@@ -7,8 +7,8 @@ use Rattle.c_tree.specs.Syntax as plain
 use Rattle.c_tree.specs.Syntax.{ParameterTree, DeclaratorTree}
 use Rattle.c_tree.specs.View.{parameter_of, parameters_of}
 use Rattle.c_tree.specs.Scoped.{after_parameters}
-use Rattle.c_exprs.specs.Readers.{Input, and_then, bind, pure}
-use Rattle.c_exprs.specs.Classes.{is_sign, take}
+use Rattle.c_cursor.specs.Readers.{Input, and_then, bind, pure}
+use Rattle.c_cursor.specs.Classes.{is_sign, take}
 use Rattle.c_exprs.specs.DeclaratorReading.{outer_of, parameters, parameter_trees, prototyped}
 use Rattle.c_exprs.specs.Reading.{below}
 use Rattle.c_exprs.proofs.ParameterLaws.{parameters_lawful, parameters_from}

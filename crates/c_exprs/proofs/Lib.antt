@@ -18,8 +18,6 @@ pub mod MemberLaws
 pub mod SpecifierLaws
 pub mod Whole
 pub mod Public
-pub mod Standings
-pub mod SignLemmas
 pub mod NextLemmas
 pub mod Loops
 pub mod ListLoops

@@ -5,7 +5,7 @@ use Rattle.cil_base.specs.declared.tokens.TokenKind.{TokenKind}
 use Rattle.cil_base.specs.declared.tokens.TokenKind.TheVariants.{Punctuator as IsPunctuator}
 use Rattle.typedef_scopes.specs.Scopes.{Scope}
 use Rattle.c_tree.specs.Spelling.{Lexeme, sign}
-use Rattle.c_exprs.specs.Readers.{Reader, head}
+use Rattle.c_cursor.specs.Readers.{Reader, head}
 use Rattle.c_exprs.specs.Subs.{In, grow, behind_comma, comma_ahead, more_listed, listed, one_more_or_end, more_or_end, more_listed_to, listed_to}
 use Rattle.c_exprs.proofs.Laws.{Lawful, Any, And, Steps, Ends, More, Mapped, Behind, Both, Either, Met, Unmet, Under, bind_lawful, mapped_lawful, behind_lawful, when_lawful, many_lawful, steps_fit, said, known, ended, fact_lawful}
 use Rattle.c_exprs.proofs.Tokens.{sign_tells, both, not_true}

@@ -15,14 +15,17 @@ use Rattle.c_tree.specs.Placed.{placed_expr, placed_specifiers, placed_declarato
 use Rattle.c_tree.specs.Scoped.{has_type_specifier, first_name, first_member_name, stands_behind, scoped_expr, scoped_specifiers, scoped_declarator, scoped_member, scoped_members, scoped_member_declarator, scoped_member_declarators, scoped_enumerator, scoped_enumerators, scoped_value, after_expr, after_specifiers, after_declarator, after_member, after_members, after_member_declarator, after_member_declarators, after_enumerator, after_enumerators, after_value}
 use Rattle.c_exprs.specs.declared.words.SpecifierForm.TheVariants.{TypeName as InTypeName}
 use Rattle.c_exprs.specs.declared.words.DeclaratorForm.TheVariants.{Member as InMember}
-use Rattle.c_exprs.specs.Readers.{head}
-use Rattle.c_exprs.specs.Classes.{is_sign, is_assert_word, is_literal, next_is, next_is_not, a_name, a_literal, begins_type_name}
+use Rattle.c_cursor.specs.Readers.{head}
+use Rattle.c_cursor.specs.Classes.{is_sign, is_assert_word, is_literal, next_is, next_is_not, a_name, a_literal}
+use Rattle.c_exprs.specs.Classes.{begins_type_name}
 use Rattle.c_exprs.specs.GoesOn.{goes_on_expr, goes_on_typed, goes_on_specifiers, goes_on_declarator}
-use Rattle.c_exprs.specs.Subs.{In, Subs, comma_ahead, some_literals}
+use Rattle.c_cursor.specs.Literals.{some_literals}
+use Rattle.c_exprs.specs.Subs.{In, Subs, comma_ahead}
 use Rattle.c_exprs.specs.SpecifierReading.{bit_field, named_field, member_declarator, member_declarator_trees, member_declarators, member_line, assert_end, member_assert, member, member_trees, more_members, members, enumerator_behind, enumerator, enumerator_trees, enumerators}
 use Rattle.c_exprs.proofs.Laws
 use Rattle.c_exprs.proofs.Laws.{Lawful, Any, Anywhere, Next, And, Steps, Ends, More, Token, Mapped, Behind, Before, Both, Either, Met, Unmet, Under, There, Opens, Gives, Numbers, bare, bind_lawful, mapped_lawful, behind_lawful, before_lawful, pure_lawful, when_lawful, many_lawful, steps_fit, one_lawful, here_lawful, opens_lawful, opens_begins, said, known, ended, At}
-use Rattle.c_exprs.proofs.Tokens.{eq_true, true_eq, both, not_true, or_true, sign_tells, assert_tells, a_name_is, a_literal_is}
+use Rattle.c_cursor.proofs.Tokens.{eq_true, true_eq}
+use Rattle.c_exprs.proofs.Tokens.{both, not_true, or_true, sign_tells, assert_tells, a_name_is, a_literal_is}
 use Rattle.c_exprs.proofs.Heads.{apart, declarator_begins, type_begins}
 use Rattle.c_exprs.proofs.Relations.{Below, ExprIs, SpecifiersIs, DeclaratorIs, EndsDeclarator, LawfulSubs}
 use Rattle.c_exprs.proofs.Lists.{grown, Grows, Over, Rest, rest_of_steps, steps_of_rest, AfterComma, Listed, listed_lawful, Ending, EndIs, Last, all_last, listed_to_lawful}

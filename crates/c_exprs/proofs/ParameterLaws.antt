@@ -14,8 +14,9 @@ use Rattle.c_tree.specs.Placed.{placed_specifiers, placed_declarator, placed_par
 use Rattle.c_tree.specs.Scoped.{has_type_specifier, has_typedef, name_of, first_name, stands_behind, takes_typedef_names, declared_if, scoped_specifier, scoped_specifiers, scoped_declarator, scoped_parameter, scoped_parameters, after_specifiers, after_declarator, after_parameter, after_parameters}
 use Rattle.c_exprs.specs.declared.words.SpecifierForm.TheVariants.{Declaration as InDeclaration}
 use Rattle.c_exprs.specs.declared.words.DeclaratorForm.TheVariants.{Parameter as InParameter}
-use Rattle.c_exprs.specs.Readers.{head}
-use Rattle.c_exprs.specs.Classes.{is_sign, next_is, is_some_of, plain, if_so, fitting, piece_word, begins_parameter}
+use Rattle.c_cursor.specs.Readers.{head}
+use Rattle.c_cursor.specs.Classes.{is_sign, next_is, plain, if_so, fitting}
+use Rattle.c_exprs.specs.Classes.{is_some_of, piece_word, begins_parameter}
 use Rattle.c_exprs.specs.GoesOn.{goes_on_typed, goes_on_name, goes_on_absent, goes_on_kind, goes_on_specifiers, goes_on_declarator}
 use Rattle.c_exprs.specs.Subs.{In, Subs}
 use Rattle.c_exprs.specs.DeclaratorReading.{parameter, parameter_trees, parameters}

@@ -10,7 +10,7 @@ use Rattle.c_tree.specs.Placed.{placed_expr, placed_specifiers, placed_declarato
 use Rattle.c_tree.specs.Scoped.{scoped_expr, scoped_type_name, scoped_specifiers, scoped_declarator, scoped_init}
 use Rattle.c_exprs.specs.declared.words.SpecifierForm.TheVariants.{Declaration as InDeclaration}
 use Rattle.c_exprs.specs.declared.words.DeclaratorForm.TheVariants.{Definition as InDefinition, Member as InMember}
-use Rattle.c_exprs.specs.Readers.{Input, input, Reader}
+use Rattle.c_cursor.specs.Readers.{Input, input, Reader}
 use Rattle.c_exprs.specs.Subs.{In}
 use Rattle.c_exprs.specs.ExprReading.{type_name}
 use Rattle.c_exprs.specs.InitReading.{initialiser}

@@ -14,7 +14,8 @@ use Rattle.c_tree.specs.Scoped.{scoped_expr, scoped_specifiers, scoped_declarato
 use Rattle.c_exprs.specs.declared.words.SpecifierForm.{SpecifierForm}
 use Rattle.c_exprs.specs.declared.words.DeclaratorForm.{DeclaratorForm}
 use Rattle.c_exprs.specs.declared.words.DeclaratorForm.TheVariants.{Definition as InDefinition, Member as InMember, Abstract as InAbstract, Parameter as InParameter}
-use Rattle.c_exprs.specs.Classes.{is_sign, next_is, in_type_name}
+use Rattle.c_cursor.specs.Classes.{is_sign, next_is}
+use Rattle.c_exprs.specs.Classes.{in_type_name}
 use Rattle.c_exprs.specs.GoesOn.{goes_on_expr, goes_on_specifiers, goes_on_declarator}
 use Rattle.c_exprs.specs.Subs.{In, Subs, comma_ahead}
 use Rattle.c_exprs.proofs.Laws.{Lawful, Any, At}

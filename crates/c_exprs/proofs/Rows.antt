@@ -11,7 +11,7 @@ use Rattle.c_tree.specs.declared.words.UnaryOp.TheVariants.{Indirection}
 use Rattle.c_tree.specs.Syntax as t
 use Rattle.c_tree.specs.Spelling.{word, sign, named, integer}
 use Rattle.c_exprs.specs.declared.words.DeclaratorForm.TheVariants.{Definition as InDefinition, Parameter as InParameter}
-use Rattle.c_exprs.specs.Readers.{input}
+use Rattle.c_cursor.specs.Readers.{input}
 use Rattle.c_exprs.specs.Reading.{below}
 
 abbrev name : ℕ → NameId

@@ -19,14 +19,16 @@ use Rattle.c_exprs.specs.declared.words.Piece.{Piece}
 use Rattle.c_exprs.specs.declared.words.Piece.TheVariants.{Storage as StoragePiece, Basic as BasicPiece, Qualifier as QualifierPiece, Function as FunctionPiece, Name as NamePiece, Struct as StructPiece, Enum as EnumPiece}
 use Rattle.c_exprs.specs.declared.words.SpecifierForm.{SpecifierForm}
 use Rattle.c_exprs.specs.declared.words.SpecifierForm.TheVariants.{TypeName as InTypeName}
-use Rattle.c_exprs.specs.Readers.{head}
-use Rattle.c_exprs.specs.Classes.{is_sign, is_name, next_is, a_name, piece_for, piece_fits, in_type_name, piece_word}
+use Rattle.c_cursor.specs.Readers.{head}
+use Rattle.c_cursor.specs.Classes.{is_sign, is_name, next_is, a_name}
+use Rattle.c_exprs.specs.Classes.{piece_for, piece_fits, in_type_name, piece_word}
 use Rattle.c_exprs.specs.GoesOn.{goes_on_typed, goes_on_specifiers}
 use Rattle.c_exprs.specs.Subs.{In, Subs}
 use Rattle.c_exprs.specs.SpecifierReading.{member_trees, struct_body, struct_tag, behind_struct_tag, behind_struct, enumerator_trees, enum_body, behind_enum_tag, behind_enum, behind_piece, specifier, some_typed, specifier_trees, next_specifier, some_specifiers, specifiers}
 use Rattle.c_exprs.proofs.Laws
 use Rattle.c_exprs.proofs.Laws.{Lawful, Any, Anywhere, Next, And, Steps, Ends, More, Token, Mapped, Behind, Before, Both, Either, Met, Unmet, Under, There, Gives, Numbers, bare, bind_lawful, guard_known, guard_lawful, mapped_lawful, behind_lawful, before_lawful, pure_lawful, when_lawful, many_lawful, steps_fit, one_lawful, here_lawful, said, known, ended}
-use Rattle.c_exprs.proofs.Tokens.{eq_true, true_eq, true_le, le_true, true_lt, lt_true, both, or_true, sign_tells, a_name_is, piece_lexeme, PieceIs, piece_is, is_piece}
+use Rattle.c_cursor.proofs.Tokens.{eq_true, true_eq}
+use Rattle.c_exprs.proofs.Tokens.{true_le, le_true, true_lt, lt_true, both, or_true, sign_tells, a_name_is, piece_lexeme, PieceIs, piece_is, is_piece}
 use Rattle.c_exprs.proofs.Heads.{storage_begins, basic_begins, qualifier_begins, function_begins, tag_begins, struct_begins}
 use Rattle.c_exprs.proofs.Relations.{Below, SpecifiersIs, EndsSpecifiers, LawfulSubs}
 use Rattle.c_exprs.proofs.Lists.{grown, Grows, Over, Rest, rest_of_steps, steps_of_rest, Last, last_of, of_last, all_last, Listed, Ending}

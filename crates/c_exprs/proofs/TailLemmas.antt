@@ -3,13 +3,14 @@ use Rattle.std.proofs.Common.{◌≡◌, refl, sym, ◌∙◌, ap, subst, ℕ, �
 use Rattle.cil_base.specs.declared.tokens.Punctuator.TheVariants.{Star as StarSign}
 use Rattle.typedef_scopes.specs.Scopes.{Scope}
 use Rattle.c_tree.specs.Syntax.{DeclaratorTree}
-use Rattle.c_exprs.specs.declared.stops.ParseStop.{ParseStop}
+use Rattle.c_cursor.specs.declared.stops.ParseStop.{ParseStop}
 use Rattle.c_exprs.specs.declared.words.DeclaratorForm.{DeclaratorForm}
 use Rattle.c_exprs.specs.declared.words.Derivation.{Derivation}
 use Rattle.c_exprs.specs.declared.words.Derivation.TheVariants.{Array as ArrayOf}
-use Rattle.c_exprs.specs.Readers.{Input, Reader, head, pick, fail, one, and_then}
-use Rattle.c_exprs.specs.Given.{Gives}
-use Rattle.c_exprs.specs.Classes.{is_sign, next_is, derivation_for}
+use Rattle.c_cursor.specs.Readers.{Input, Reader, head, pick, fail, one, and_then}
+use Rattle.c_cursor.specs.Given.{Gives}
+use Rattle.c_cursor.specs.Classes.{is_sign, next_is}
+use Rattle.c_exprs.specs.Classes.{derivation_for}
 use Rattle.c_exprs.specs.Subs.{In, Subs}
 use Rattle.c_exprs.specs.DeclaratorReading.{array_of, behind_derivation, derivation, pointer, direct, declarator_at, declarator}
 use Rattle.c_exprs.proofs.Tokens.{true_le}

@@ -1,5 +1,5 @@
 -- Device: the classes of tokens tell which tokens they are.
-use Rattle.std.proofs.Common.{◌≡◌, refl, sym, ap, ◌∙◌, subst, ℕ, zero, suc, ◌<◌, ◌≤◌, Bool, true, false, not, ◌&&◌, ◌||◌, nat_eq, nat_le, nat_lt, List, [], ◌∷◌, Option, Some, None, arith, true≢false, if◌then◌else◌}
+use Rattle.std.proofs.Common.{◌≡◌, refl, sym, ap, ◌∙◌, subst, ℕ, ◌<◌, ◌≤◌, Bool, true, false, not, ◌&&◌, ◌||◌, nat_le, nat_lt, List, [], ◌∷◌, Option, Some, None, arith, true≢false, if◌then◌else◌}
 use Rattle.std.proofs.lemmas.Bool.Decides.{nat_tests}
 use Rattle.cil_base.specs.declared.numbers.NameId.{NameId}
 use Rattle.cil_base.specs.declared.operators.BinOp.TheVariants.{Mul, Div, Rem, Add, Sub, Shl, Shr, Lt, Gt, Le, Ge, Eq, Ne, And, Xor, Or}
@@ -8,7 +8,7 @@ use Rattle.cil_base.specs.declared.tokens.TokenKind.TheVariants.{Name as IsName,
 use Rattle.cil_base.specs.declared.tokens.Keyword.{Keyword}
 use Rattle.cil_base.specs.declared.tokens.Keyword.TheVariants.{Auto as AutoWord, Char as CharWord, Const as ConstWord, Enum as EnumWord, Extern as ExternWord, Inline as InlineWord, Int as IntWord, Long as LongWord, Register as RegisterWord, Restrict as RestrictWord, Short as ShortWord, Signed as SignedWord, Sizeof as SizeofWord, Static as StaticWord, Struct as StructWord, Typedef as TypedefWord, Union as UnionWord, Unsigned as UnsignedWord, Void as VoidWord, Alignof as AlignofWord, Bool as BoolWord, Noreturn as NoreturnWord, StaticAssert as StaticAssertWord}
 use Rattle.cil_base.specs.declared.tokens.Punctuator.{Punctuator}
-use Rattle.cil_base.specs.declared.tokens.Punctuator.TheVariants.{LeftBracket, RightBracket, LeftParen, RightParen, LeftBrace, RightBrace, Dot, Arrow as ArrowSign, PlusPlus, MinusMinus, Ampersand, Star as StarSign, Plus, Minus, Tilde, Exclamation, Slash, Percent, LeftShift, RightShift, Less, Greater, LessEqual, GreaterEqual, EqualEqual, ExclamationEqual, Caret, Bar, AmpersandAmpersand, BarBar, Question, Colon, Semicolon, Ellipsis, Equal, StarEqual, SlashEqual, PercentEqual, PlusEqual, MinusEqual, LeftShiftEqual, RightShiftEqual, AmpersandEqual, CaretEqual, BarEqual, Comma as CommaSign}
+use Rattle.cil_base.specs.declared.tokens.Punctuator.TheVariants.{LeftBracket, LeftParen, Dot, Arrow as ArrowSign, PlusPlus, MinusMinus, Ampersand, Star as StarSign, Plus, Minus, Tilde, Exclamation, Slash, Percent, LeftShift, RightShift, Less, Greater, LessEqual, GreaterEqual, EqualEqual, ExclamationEqual, Caret, Bar, AmpersandAmpersand, BarBar, Question, Equal, StarEqual, SlashEqual, PercentEqual, PlusEqual, MinusEqual, LeftShiftEqual, RightShiftEqual, AmpersandEqual, CaretEqual, BarEqual, Comma as CommaSign}
 use Rattle.typedef_scopes.specs.Scopes.{Scope, is_type}
 use Rattle.c_tree.specs.declared.words.StorageClass.TheVariants.{Typedef, Extern, Static, Auto, Register}
 use Rattle.c_tree.specs.declared.words.BasicType.TheVariants.{Void, Char, Short, Int, Long, Signed, Unsigned, Bool as Boolean}
@@ -45,14 +45,10 @@ use Rattle.c_tree.specs.Spelling.{Lexeme, word, sign, named, integer, character,
 use Rattle.c_tree.specs.Syntax.{ExprTree, DeclaratorTree}
 use Rattle.c_tree.specs.Height.{declarator_height}
 use Rattle.c_tree.specs.Levels.{is_assign_op}
-use Rattle.c_exprs.specs.Classes.{sign_number, is_sign, is_static_word, is_assert_word, is_literal, plain, fitting, name_kind, a_name, an_identifier, a_literal, step_sign_kind, start_word_kind, start_kind, has_text, is_empty, start_fits, with_text, start_of, operator_sign, operator_kind, operator_fits, operator_for, piece_word, piece_kind, piece_fits, piece_for, qualifier_word_kind, qualifier_kind, a_qualifier, derivation_sign, derivation_kind, derivation_for, designation_sign, designation_kind, a_designation}
+use Rattle.c_cursor.specs.Classes.{sign_number, is_sign, is_static_word, is_assert_word, is_literal, plain, fitting, name_kind, a_name, a_literal, has_text}
+use Rattle.c_exprs.specs.Classes.{an_identifier, step_sign_kind, start_word_kind, start_kind, is_empty, start_fits, with_text, start_of, operator_sign, operator_kind, operator_fits, operator_for, piece_word, piece_kind, piece_fits, piece_for, qualifier_word_kind, qualifier_kind, a_qualifier, derivation_sign, derivation_kind, derivation_for, designation_sign, designation_kind, a_designation}
 use Rattle.c_exprs.proofs.Laws.{bare, Tells, some_is, none_is_no, if_so_is, plain_is, fitting_is}
-
-pub eq_true : (a b : ℕ) → nat_eq a b ≡ true → a ≡ b
-eq_true a b e = grind (arith, nat_tests)
-
-pub true_eq : (a : ℕ) → nat_eq a a ≡ true
-true_eq a = grind (arith, nat_tests)
+use Rattle.c_cursor.proofs.Tokens.{eq_true, true_eq, same_number}
 
 pub le_true : (a b : ℕ) → nat_le a b ≡ true → a ≤ b
 le_true a b e = grind (arith, nat_tests)
@@ -99,20 +95,6 @@ not_both_ways b e f = true≢false (sym e ∙ f)
 
 pub fitted : {A : Type 0} (fits : A → Bool) (a : A) → fits a ≡ true → fitting fits (Some a) ≡ Some a
 fitted fits a e = rw e refl
-
-abbrev all_signs : List Punctuator
-all_signs = LeftBracket ∷ RightBracket ∷ LeftParen ∷ RightParen ∷ LeftBrace ∷ RightBrace ∷ Dot ∷ ArrowSign ∷ PlusPlus ∷ MinusMinus ∷ Ampersand ∷ StarSign ∷ Plus ∷ Minus ∷ Tilde ∷ Exclamation ∷ Slash ∷ Percent ∷ LeftShift ∷ RightShift ∷ Less ∷ Greater ∷ LessEqual ∷ GreaterEqual ∷ EqualEqual ∷ ExclamationEqual ∷ Caret ∷ Bar ∷ AmpersandAmpersand ∷ BarBar ∷ Question ∷ Colon ∷ Semicolon ∷ Ellipsis ∷ Equal ∷ StarEqual ∷ SlashEqual ∷ PercentEqual ∷ PlusEqual ∷ MinusEqual ∷ LeftShiftEqual ∷ RightShiftEqual ∷ AmpersandEqual ∷ CaretEqual ∷ BarEqual ∷ CommaSign ∷ []
-
-abbrev nth : List Punctuator → ℕ → Punctuator
-nth [] n = LeftBracket
-nth (p ∷ ps) zero = p
-nth (p ∷ ps) (suc n) = nth ps n
-
-number_finds : (p : Punctuator) → nth all_signs (sign_number p) ≡ p
-number_finds p = elim p as (λ q. nth all_signs (sign_number q) ≡ q) [ LeftBracket ↦ refl | _ ↦ refl ]
-
-pub same_number : (p q : Punctuator) → sign_number p ≡ sign_number q → q ≡ p
-same_number p q e = sym (number_finds q) ∙ (ap (nth all_signs) (sym e) ∙ number_finds p)
 
 sign_only : (p : Punctuator) (k : TokenKind) → is_sign p k ≡ true → k ≡ IsPunctuator p
 sign_only p (IsName n) e = absurd (true≢false (sym e))

@@ -1,7 +1,7 @@
 -- Device: the readings of each height give exactly the trees that are lower, by induction on the height.
 use Rattle.std.proofs.Common.{ℕ, zero, suc, List, Option, arith}
 use Rattle.c_tree.specs.Spelling.{Lexeme}
-use Rattle.c_exprs.specs.Readers.{fail}
+use Rattle.c_cursor.specs.Readers.{fail}
 use Rattle.c_exprs.specs.Subs.{Subs, nothing}
 use Rattle.c_exprs.specs.Reading.{readings, below}
 use Rattle.c_exprs.proofs.Laws.{Lawful, fail_lawful, said}

@@ -2,7 +2,7 @@
 -- `Is a n text`: a is a tree of the form, with the scopes behind it, `n` is the number of its first token and `text` is what it spells. `goes a o`: the next token `o`, or the end of the tokens, goes on behind it.
 use Rattle.std.specs.Prelude.{◌≡◌, ℕ, ◌+◌, Bool, false, List, ◌∷◌, ◌++◌, length, Option, Some}
 use Rattle.c_tree.specs.Spelling.{Lexeme}
-use Rattle.c_exprs.specs.Readers.{head}
+use Rattle.c_cursor.specs.Readers.{head}
 
 -- a tree of the form that spells the tokens from there up to `rest`, whose first has the number `at` and does not go on
 pub record Reads {A : Type 0} (Is : A → ℕ → List Lexeme → Type 0) (goes : A → Option Lexeme → Bool) (n : ℕ) (ts : List Lexeme) (a : A) (at : ℕ) (rest : List Lexeme) : Type 0 where

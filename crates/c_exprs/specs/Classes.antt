@@ -1,13 +1,13 @@
 -- Definition: classes of tokens, told by their kind, and of identifiers by the scopes. Definitions say by them what goes on behind a tree (GoesOn.antt), and the readings decide by them.
-use Rattle.std.specs.Prelude.{ℕ, Bool, true, false, not, ◌&&◌, ◌||◌, nat_eq, nat_le, nat_lt, List, [], ◌∷◌, Option, Some, None, if◌then◌else◌}
+use Rattle.std.specs.Prelude.{ℕ, Bool, true, false, not, ◌&&◌, ◌||◌, nat_le, nat_lt, List, [], ◌∷◌, Option, Some, None, if◌then◌else◌}
 use Rattle.cil_base.specs.declared.numbers.NameId.{NameId}
 use Rattle.cil_base.specs.declared.operators.BinOp.TheVariants.{Mul, Div, Rem, Add, Sub, Shl, Shr, Lt, Gt, Le, Ge, Eq, Ne, And, Xor, Or}
 use Rattle.cil_base.specs.declared.tokens.TokenKind.{TokenKind}
 use Rattle.cil_base.specs.declared.tokens.TokenKind.TheVariants.{Name as IsName, Keyword as IsKeyword, Integer as IsInteger, Character as IsCharacter, Literal as IsLiteral, Punctuator as IsPunctuator}
 use Rattle.cil_base.specs.declared.tokens.Keyword.{Keyword}
-use Rattle.cil_base.specs.declared.tokens.Keyword.TheVariants.{Auto as AutoWord, Char as CharWord, Const as ConstWord, Enum as EnumWord, Extern as ExternWord, Inline as InlineWord, Int as IntWord, Long as LongWord, Register as RegisterWord, Restrict as RestrictWord, Short as ShortWord, Signed as SignedWord, Sizeof as SizeofWord, Static as StaticWord, Struct as StructWord, Typedef as TypedefWord, Union as UnionWord, Unsigned as UnsignedWord, Void as VoidWord, Alignof as AlignofWord, Bool as BoolWord, Noreturn as NoreturnWord, StaticAssert as StaticAssertWord}
+use Rattle.cil_base.specs.declared.tokens.Keyword.TheVariants.{Auto as AutoWord, Char as CharWord, Const as ConstWord, Enum as EnumWord, Extern as ExternWord, Inline as InlineWord, Int as IntWord, Long as LongWord, Register as RegisterWord, Restrict as RestrictWord, Short as ShortWord, Signed as SignedWord, Sizeof as SizeofWord, Static as StaticWord, Struct as StructWord, Typedef as TypedefWord, Union as UnionWord, Unsigned as UnsignedWord, Void as VoidWord, Alignof as AlignofWord, Bool as BoolWord, Noreturn as NoreturnWord}
 use Rattle.cil_base.specs.declared.tokens.Punctuator.{Punctuator}
-use Rattle.cil_base.specs.declared.tokens.Punctuator.TheVariants.{LeftBracket, RightBracket, LeftParen, RightParen, LeftBrace, RightBrace, Dot, Arrow as ArrowSign, PlusPlus, MinusMinus, Ampersand, Star as StarSign, Plus, Minus, Tilde, Exclamation, Slash, Percent, LeftShift, RightShift, Less, Greater, LessEqual, GreaterEqual, EqualEqual, ExclamationEqual, Caret, Bar, AmpersandAmpersand, BarBar, Question, Colon, Semicolon, Ellipsis, Equal, StarEqual, SlashEqual, PercentEqual, PlusEqual, MinusEqual, LeftShiftEqual, RightShiftEqual, AmpersandEqual, CaretEqual, BarEqual, Comma as CommaSign}
+use Rattle.cil_base.specs.declared.tokens.Punctuator.TheVariants.{LeftBracket, LeftParen, Dot, Arrow as ArrowSign, PlusPlus, MinusMinus, Ampersand, Star as StarSign, Plus, Minus, Tilde, Exclamation, Slash, Percent, LeftShift, RightShift, Less, Greater, LessEqual, GreaterEqual, EqualEqual, ExclamationEqual, Caret, Bar, AmpersandAmpersand, BarBar, Question, Equal, StarEqual, SlashEqual, PercentEqual, PlusEqual, MinusEqual, LeftShiftEqual, RightShiftEqual, AmpersandEqual, CaretEqual, BarEqual, Comma as CommaSign}
 use Rattle.typedef_scopes.specs.Scopes.{Scope, is_type}
 use Rattle.c_tree.specs.declared.words.StorageClass.TheVariants.{Typedef, Extern, Static, Auto, Register}
 use Rattle.c_tree.specs.declared.words.BasicType.TheVariants.{Void, Char, Short, Int, Long, Signed, Unsigned, Bool as Boolean}
@@ -24,7 +24,6 @@ use Rattle.c_tree.specs.Syntax.{ExprTree, Binary, Logical, Assign, Comma, Declar
 use Rattle.c_tree.specs.Spelling.{Lexeme}
 use Rattle.c_tree.specs.Levels.{rank, tighter, binary_level, logical_level, is_within}
 use Rattle.c_tree.specs.Height.{expr_height, declarator_height}
-use Rattle.c_exprs.specs.Readers.{Reader, one}
 use Rattle.c_exprs.specs.declared.words.Start.{Start}
 use Rattle.c_exprs.specs.declared.words.Start.TheVariants.{Name as NameStart, Integer as IntegerStart, Character as CharacterStart, Literal as LiteralStart, Parenthesis as ParenthesisStart, Step as StepStart, Unary as UnaryStart, Sizeof as SizeofStart, Alignof as AlignofStart}
 use Rattle.c_exprs.specs.declared.words.Joint.{Joint}
@@ -41,126 +40,11 @@ use Rattle.c_exprs.specs.declared.words.Derivation.{Derivation}
 use Rattle.c_exprs.specs.declared.words.Derivation.TheVariants.{Array as ArrayOf, Function as FunctionOf}
 use Rattle.c_exprs.specs.declared.words.Designation.{Designation}
 use Rattle.c_exprs.specs.declared.words.Designation.TheVariants.{Index as ByIndex, Member as ByMember}
-
--- a number for each punctuator, in the order of their declaration
-abbrev pub sign_number : Punctuator → ℕ
-sign_number LeftBracket = 0
-sign_number RightBracket = 1
-sign_number LeftParen = 2
-sign_number RightParen = 3
-sign_number LeftBrace = 4
-sign_number RightBrace = 5
-sign_number Dot = 6
-sign_number ArrowSign = 7
-sign_number PlusPlus = 8
-sign_number MinusMinus = 9
-sign_number Ampersand = 10
-sign_number StarSign = 11
-sign_number Plus = 12
-sign_number Minus = 13
-sign_number Tilde = 14
-sign_number Exclamation = 15
-sign_number Slash = 16
-sign_number Percent = 17
-sign_number LeftShift = 18
-sign_number RightShift = 19
-sign_number Less = 20
-sign_number Greater = 21
-sign_number LessEqual = 22
-sign_number GreaterEqual = 23
-sign_number EqualEqual = 24
-sign_number ExclamationEqual = 25
-sign_number Caret = 26
-sign_number Bar = 27
-sign_number AmpersandAmpersand = 28
-sign_number BarBar = 29
-sign_number Question = 30
-sign_number Colon = 31
-sign_number Semicolon = 32
-sign_number Ellipsis = 33
-sign_number Equal = 34
-sign_number StarEqual = 35
-sign_number SlashEqual = 36
-sign_number PercentEqual = 37
-sign_number PlusEqual = 38
-sign_number MinusEqual = 39
-sign_number LeftShiftEqual = 40
-sign_number RightShiftEqual = 41
-sign_number AmpersandEqual = 42
-sign_number CaretEqual = 43
-sign_number BarEqual = 44
-sign_number CommaSign = 45
-
--- that punctuator
-abbrev pub is_sign : Punctuator → TokenKind → Bool
-is_sign p (IsName n) = false
-is_sign p (IsKeyword k) = false
-is_sign p IsInteger = false
-is_sign p IsCharacter = false
-is_sign p IsLiteral = false
-is_sign p (IsPunctuator q) = nat_eq (sign_number p) (sign_number q)
-
-abbrev pub is_static_word : TokenKind → Bool
-is_static_word (IsKeyword StaticWord) = true
-is_static_word _ = false
-
-abbrev pub is_assert_word : TokenKind → Bool
-is_assert_word (IsKeyword StaticAssertWord) = true
-is_assert_word _ = false
-
-abbrev pub is_name : TokenKind → Bool
-is_name (IsName n) = true
-is_name _ = false
-
-abbrev pub is_literal : TokenKind → Bool
-is_literal IsLiteral = true
-is_literal _ = false
-
--- the next token is of the class
-abbrev pub next_is : (TokenKind → Bool) → Option Lexeme → Bool
-next_is test None = false
-next_is test (Some u) = test u.kind
-
--- there is a next token, and it is not that punctuator
-abbrev pub next_is_not : Punctuator → Option Lexeme → Bool
-next_is_not p None = false
-next_is_not p (Some u) = not (is_sign p u.kind)
-
--- keywords, punctuators and identifiers have no text of their own
-abbrev pub of_kind : {A : Type 0} → (TokenKind → Option A) → List ℕ → TokenKind → Option A
-of_kind f [] k = f k
-of_kind f (v ∷ vs) k = None
-
-abbrev pub plain : {A : Type 0} → (TokenKind → Option A) → Lexeme → Option A
-plain f u = of_kind f u.value u.kind
-
-abbrev pub if_so : {A : Type 0} → Bool → A → Option A
-if_so true a = Some a
-if_so false a = None
-
--- one of the class, where it fits
-abbrev pub fitting : {A : Type 0} → (A → Bool) → Option A → Option A
-fitting fits None = None
-fitting fits (Some a) = if_so (fits a) a
-
-abbrev pub take : (TokenKind → Bool) → Reader (Unit {0})
-take test = one (plain (λ k. if_so (test k) tt))
-
-abbrev pub name_kind : TokenKind → Option NameId
-name_kind (IsName n) = Some n
-name_kind _ = None
-
--- an identifier
-abbrev pub a_name : Lexeme → Option NameId
-a_name u = plain name_kind u
+use Rattle.c_cursor.specs.Classes.{plain, if_so, fitting, a_name, has_text}
 
 -- an identifier that is no typedef name in scope
 abbrev pub an_identifier : List Scope → Lexeme → Option NameId
 an_identifier ds u = fitting (λ n. not (is_type ds n)) (a_name u)
-
--- a string literal
-abbrev pub a_literal : Lexeme → Option (List ℕ)
-a_literal u = if_so (is_literal u.kind) u.value
 
 -- the first token of an expression, and the text of a constant or literal
 
@@ -188,13 +72,6 @@ start_kind ds IsInteger = Some IntegerStart
 start_kind ds IsCharacter = Some CharacterStart
 start_kind ds IsLiteral = Some LiteralStart
 start_kind ds (IsPunctuator p) = step_sign_kind p
-
--- constants and literals alone have a text
-abbrev pub has_text : TokenKind → Bool
-has_text IsInteger = true
-has_text IsCharacter = true
-has_text IsLiteral = true
-has_text _ = false
 
 abbrev pub is_empty : List ℕ → Bool
 is_empty [] = true

@@ -14,8 +14,9 @@ use Rattle.c_exprs.specs.declared.words.DeclaratorForm.{DeclaratorForm}
 use Rattle.c_exprs.specs.declared.words.DeclaratorForm.TheVariants.{Parameter as InParameter}
 use Rattle.c_exprs.specs.declared.words.Derivation.{Derivation}
 use Rattle.c_exprs.specs.declared.words.Derivation.TheVariants.{Array as ArrayOf, Function as FunctionOf}
-use Rattle.c_exprs.specs.Readers.{Reader, pure, here, one, bind, when, guard, many}
-use Rattle.c_exprs.specs.Classes.{is_sign, is_name, is_static_word, is_qualifier, next_is, take, name_kind, a_name, an_identifier, a_qualifier, is_some_of, begins_parameter, derivation_for, may_be_absent, may_be_named, may_have_identifiers}
+use Rattle.c_cursor.specs.Readers.{Reader, pure, here, one, bind, when, guard, many}
+use Rattle.c_cursor.specs.Classes.{is_sign, is_name, is_static_word, next_is, take, name_kind, a_name}
+use Rattle.c_exprs.specs.Classes.{is_qualifier, an_identifier, a_qualifier, is_some_of, begins_parameter, derivation_for, may_be_absent, may_be_named, may_have_identifiers}
 use Rattle.c_exprs.specs.GoesOn.{goes_on_declarator}
 use Rattle.c_exprs.specs.Subs.{In, Subs, comma_ahead, listed_to}
 

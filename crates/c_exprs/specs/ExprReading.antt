@@ -19,10 +19,12 @@ use Rattle.c_exprs.specs.declared.words.Operator.{Operator}
 use Rattle.c_exprs.specs.declared.words.Operator.TheVariants.{Index as ToIndex, Call as ToCall, Member as ToMember, Arrow as ToArrow, Step as ToStep, Conditional as ToChoose, Join as ToJoin}
 use Rattle.c_exprs.specs.declared.words.SpecifierForm.TheVariants.{TypeName as InTypeName}
 use Rattle.c_exprs.specs.declared.words.DeclaratorForm.TheVariants.{Abstract as InAbstract}
-use Rattle.c_exprs.specs.Readers.{Reader, pure, here, one, bind, when, guard, many}
-use Rattle.c_exprs.specs.Classes.{is_sign, next_is, take, a_name, start_of, joint_right, joint_node, operator_for, begins_type_name}
+use Rattle.c_cursor.specs.Readers.{Reader, pure, here, one, bind, when, guard, many}
+use Rattle.c_cursor.specs.Classes.{is_sign, next_is, take, a_name}
+use Rattle.c_exprs.specs.Classes.{start_of, joint_right, joint_node, operator_for, begins_type_name}
 use Rattle.c_exprs.specs.GoesOn.{goes_on_expr, goes_on_type_name}
-use Rattle.c_exprs.specs.Subs.{In, Subs, stopped, listed, more_literals}
+use Rattle.c_cursor.specs.Literals.{more_literals}
+use Rattle.c_exprs.specs.Subs.{In, Subs, stopped, listed}
 
 -- specifiers and qualifiers, and an abstract declarator (6.7.7)
 

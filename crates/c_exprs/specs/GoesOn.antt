@@ -11,7 +11,8 @@ use Rattle.c_tree.specs.Spelling.{Lexeme}
 use Rattle.c_exprs.specs.declared.words.Operator.{Operator}
 use Rattle.c_exprs.specs.declared.words.DeclaratorForm.{DeclaratorForm}
 use Rattle.c_exprs.specs.declared.words.DeclaratorForm.TheVariants.{Definition as InDefinition, Member as InMember, Abstract as InAbstract, Parameter as InParameter}
-use Rattle.c_exprs.specs.Classes.{is_sign, is_name, is_some_of, next_is, operator_level, operator_sign, piece_word}
+use Rattle.c_cursor.specs.Classes.{is_sign, is_name, next_is}
+use Rattle.c_exprs.specs.Classes.{is_some_of, operator_level, operator_sign, piece_word}
 
 -- an operator of 6.5.2, or one that the level or a tighter one has
 abbrev pub goes_on_by : Level → Option Operator → Bool

@@ -6,8 +6,9 @@ use Rattle.c_tree.specs.declared.level.Level.TheVariants.{Conditional as Conditi
 use Rattle.c_tree.specs.Syntax.{InitTree, Single, Braces, ItemTree, Item, ItemTrees, NoItems, MoreItems, DesignatorTree, AtIndex, AtMember, DesignatorTrees, NoDesignators, MoreDesignators}
 use Rattle.c_exprs.specs.declared.words.Designation.{Designation}
 use Rattle.c_exprs.specs.declared.words.Designation.TheVariants.{Index as ByIndex, Member as ByMember}
-use Rattle.c_exprs.specs.Readers.{Reader, pure, here, one, bind, when, guard, many}
-use Rattle.c_exprs.specs.Classes.{is_sign, is_designation, next_is, take, a_name, a_designation}
+use Rattle.c_cursor.specs.Readers.{Reader, pure, here, one, bind, when, guard, many}
+use Rattle.c_cursor.specs.Classes.{is_sign, next_is, take, a_name}
+use Rattle.c_exprs.specs.Classes.{is_designation, a_designation}
 use Rattle.c_exprs.specs.GoesOn.{goes_on_expr}
 use Rattle.c_exprs.specs.Subs.{In, Subs, stopped, grow, listed_to}
 use Rattle.c_exprs.specs.ExprReading.{expression, braced}

@@ -1,6 +1,4 @@
-pub mod Readers
 pub mod Classes
-pub mod Lexemes
 pub mod Given
 pub mod Steps
 pub mod ListSteps
@@ -13,4 +11,3 @@ pub mod InitReading
 pub mod Reading
 pub mod Answers
 pub mod Forms
-pub mod Telling

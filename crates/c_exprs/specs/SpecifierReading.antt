@@ -16,10 +16,12 @@ use Rattle.c_exprs.specs.declared.words.Piece.TheVariants.{Storage as StoragePie
 use Rattle.c_exprs.specs.declared.words.SpecifierForm.{SpecifierForm}
 use Rattle.c_exprs.specs.declared.words.SpecifierForm.TheVariants.{TypeName as InTypeName}
 use Rattle.c_exprs.specs.declared.words.DeclaratorForm.TheVariants.{Member as InMember}
-use Rattle.c_exprs.specs.Readers.{Reader, pure, here, one, bind, when, guard, many}
-use Rattle.c_exprs.specs.Classes.{is_sign, is_name, is_assert_word, next_is, next_is_not, take, a_name, piece_for}
+use Rattle.c_cursor.specs.Readers.{Reader, pure, here, one, bind, when, guard, many}
+use Rattle.c_cursor.specs.Classes.{is_sign, is_name, is_assert_word, next_is, next_is_not, take, a_name}
+use Rattle.c_exprs.specs.Classes.{piece_for}
 use Rattle.c_exprs.specs.GoesOn.{goes_on_specifiers}
-use Rattle.c_exprs.specs.Subs.{In, Subs, grow, listed, listed_to, some_literals}
+use Rattle.c_cursor.specs.Literals.{some_literals}
+use Rattle.c_exprs.specs.Subs.{In, Subs, grow, listed, listed_to}
 
 -- members (6.7.2.1)
 

@@ -1,19 +1,16 @@
 -- Device: what a loop of the code has done, against a whole.
-use Rattle.std.specs.Prelude.{◌≡◌, ℕ, ◌≤◌, Bool, false, not, ◌&&◌, ◌||◌, List, [], ◌∷◌, drop, Option, Some, None, Result}
+use Rattle.std.specs.Prelude.{◌≡◌, ℕ, Bool, false, not, ◌&&◌, ◌||◌, List, [], ◌∷◌, drop, Option, Some, None}
 use Rattle.c_tree.specs.Spelling.{Lexeme}
 use Rattle.cil_base.specs.declared.tokens.Punctuator.TheVariants.{Comma as CommaSign}
 use Rattle.cil_base.specs.declared.numbers.NameId.{NameId}
 use Rattle.typedef_scopes.specs.Scopes.{Scope}
-use Rattle.c_exprs.specs.Readers.{Input, Reader, chain, bind, pure, one, when}
-use Rattle.c_exprs.specs.Classes.{is_sign, take, an_identifier}
+use Rattle.c_cursor.specs.Readers.{Reader, bind, pure, one, when}
+use Rattle.c_cursor.specs.Classes.{is_sign, take}
+use Rattle.c_exprs.specs.Classes.{an_identifier}
 use Rattle.c_tree.specs.Syntax.{SpecifierTree}
 use Rattle.c_exprs.specs.GoesOn.{goes_on_specifiers}
 use Rattle.c_exprs.specs.Subs.{In, comma_ahead}
 use Rattle.c_exprs.specs.SpecifierReading.{some_typed}
-
--- the steps of a chain that are left, from what was read so far, give the whole; at least m of them may still come
-unfoldable pub Going : {A : Type 0} → (A → Option Lexeme → Bool) → (A → Reader A) → ℕ → A → Input → Result (A × Input) Input → Type 0
-Going goes step m x i whole = (n : ℕ) × (m ≤ n) × (chain goes step n x i ≡ whole)
 
 -- the test holds of some element
 abbrev pub any_of : {A : Type 0} → (A → Bool) → List A → Bool

@@ -7,8 +7,8 @@ use Rattle.c_tree.specs.Spelling.{Lexeme}
 use Rattle.cil_base.specs.declared.tokens.Punctuator.TheVariants.{Comma as CommaSign}
 use Rattle.c_exprs.specs.declared.words.SpecifierForm.{SpecifierForm}
 use Rattle.c_exprs.specs.declared.words.DeclaratorForm.{DeclaratorForm}
-use Rattle.c_exprs.specs.Readers.{Reader, pure, fail, bind, one, when, many}
-use Rattle.c_exprs.specs.Classes.{is_sign, next_is, take, a_literal, is_literal}
+use Rattle.c_cursor.specs.Readers.{Reader, pure, fail, bind, one, when, many}
+use Rattle.c_cursor.specs.Classes.{is_sign, next_is, take}
 
 -- what was read, and the scopes behind it
 abbrev pub In : Type 0 → Type 0
@@ -75,14 +75,3 @@ more_listed_to ends final item x = many (λ y o. not y.0.1 && comma_ahead o) (mo
 
 abbrev pub listed_to : {A : Type 0} → (Option Lexeme → Bool) → Reader (Unit {0}) → (List Scope → Reader (In A)) → List Scope → Reader (In (List A × Bool))
 listed_to ends final item ds = bind (item ds) (λ y. more_listed_to ends final item ((y.0 ∷ [], false), y.1))
-
--- string literals, one behind the other (6.4.5)
-
-abbrev pub one_literal : List (List ℕ) → Reader (List (List ℕ))
-one_literal texts = bind (one a_literal) (λ t. pure (texts ++ t ∷ []))
-
-abbrev pub more_literals : List (List ℕ) → Reader (List (List ℕ))
-more_literals texts = many (λ ts o. next_is is_literal o) one_literal texts
-
-abbrev pub some_literals : Reader (List (List ℕ))
-some_literals = bind (one a_literal) (λ t. more_literals (t ∷ []))

@@ -1,33 +1,30 @@
-ghost use Rattle.std.specs.Prelude.{◌≡◌, ◌<◌, ◌≤◌, IfOk};
+ghost use Rattle.std.specs.Prelude.{◌≡◌};
 ghost use Rattle.c_tree.specs.View.{bound_of};
-ghost use Rattle.c_tree.specs.Height.{bound_height};
 ghost use Rattle.c_tree.specs.Levels.{has_some};
-ghost use Rattle.c_exprs.specs.Lexemes.{ahead};
-ghost use Rattle.c_exprs.specs.Given.{Gives};
+ghost use Rattle.c_cursor.specs.Lexemes.{Onward, ahead};
+ghost use Rattle.c_cursor.specs.Given.{Gives};
 ghost use Rattle.c_exprs.specs.Reading.{below};
 ghost use Rattle.c_exprs.specs.DeclaratorReading.{qualifiers, star_bound, qualified_bound, bound};
 
 use crate::below::{expr_below, starred_below};
-use crate::cursor::Cursor;
-use crate::declarator_builders::{size_of, size_static_of, static_size_of};
-use crate::nexts::{at_qualifier, at_sign, at_static};
-use crate::stops::ParseStop;
-use crate::takes::{take_qualifier, take_sign, take_static};
+use crate::nexts::at_qualifier;
+use crate::takes::take_qualifier;
+use c_cursor::{Cursor, ParseStop, at_sign, at_static, take_sign, take_static};
 use c_lexer::TokenList;
-use c_tree::{ArrayBound, Level, Qualifier};
+use c_nodes::{BoundNode, size_of, size_static_of, star_of, static_size_of, unspecified_of};
+use c_tree::{Level, Qualifier};
 use cil_base::Punctuator;
 use std::alloc::Global;
 use typedef_scopes::Scopes;
 
 /// Any number of type qualifiers (C11 6.7.3).
-#[tactic(auto, using(crate::proofs::ListLoops::collecting_from, crate::proofs::ListLoops::collecting_next, crate::proofs::ListLoops::collecting_stops, crate::proofs::ListLoops::collecting_ends))]
+#[tactic(auto, using(c_cursor::proofs::ListLoops::collecting_from, c_cursor::proofs::ListLoops::collecting_next, c_cursor::proofs::ListLoops::collecting_stops, c_cursor::proofs::ListLoops::collecting_ends))]
 pub(crate) fn qualifiers<L: TokenList>(
     alloc: Global,
     c: &mut Cursor<L>,
 ) -> Result<Vec<Qualifier>, ParseStop>
     ensures gives { Gives (λ qs. qs.items) result (qualifiers (ahead c.old)) (ahead c.new) }
-    ensures same { c.new.all ≡ c.old.all }
-    ensures onward { c.old.at ≤ c.new.at }
+    ensures onward { Onward c.old c.new }
 {
     let mut qs = Vec::new(alloc);
     while at_qualifier(c) {
@@ -55,24 +52,20 @@ pub(crate) fn star_bound<L: TokenList>(
     named: bool,
     b: u32,
     qs: Vec<Qualifier>,
-) -> Result<(ArrayBound, u32), ParseStop>
-    requires some { 0 < height }
-    ensures gives { Gives (λ x. (bound_of x.0, s.new)) result (star_bound (below height) named b qs.items s.old (ahead c.old)) (ahead c.new) }
-    ensures same { c.new.all ≡ c.old.all }
-    ensures onward { c.old.at ≤ c.new.at }
-    ensures tall { IfOk result (λ x. x.1 ≡ bound_height (bound_of x.0)) }
-    ensures low { IfOk result (λ x. x.1 < height) }
+) -> Result<BoundNode, ParseStop>
+    ensures gives { Gives (λ x. (bound_of x, s.new)) result (star_bound (below height) named b qs.items s.old (ahead c.old)) (ahead c.new) }
+    ensures onward { Onward c.old c.new }
 {
     let at = c.position();
     take_sign(c, Punctuator::Star)?;
     if !at_sign(c, Punctuator::RightBracket) {
-        let (e, e_height) = starred_below(alloc, c, s, height, at)?;
-        return Ok((size_of(alloc, b, qs, e)?, e_height));
+        let e = starred_below(alloc, c, s, height, at)?;
+        return Ok(size_of(b, qs, e));
     }
     if !named && has_some(&qs) {
         return Err(ParseStop::At(c.position()));
     }
-    Ok((ArrayBound::Star(b, qs), 0))
+    Ok(star_of(b, qs))
 }
 
 /// A bound, or nothing, behind qualifiers. `named`: the declarator declares a name.
@@ -85,30 +78,26 @@ pub(crate) fn qualified_bound<L: TokenList>(
     named: bool,
     b: u32,
     qs: Vec<Qualifier>,
-) -> Result<(ArrayBound, u32), ParseStop>
-    requires some { 0 < height }
-    ensures gives { Gives (λ x. (bound_of x.0, s.new)) result (qualified_bound (below height) named b qs.items s.old (ahead c.old)) (ahead c.new) }
-    ensures same { c.new.all ≡ c.old.all }
-    ensures onward { c.old.at ≤ c.new.at }
-    ensures tall { IfOk result (λ x. x.1 ≡ bound_height (bound_of x.0)) }
-    ensures low { IfOk result (λ x. x.1 < height) }
+) -> Result<BoundNode, ParseStop>
+    ensures gives { Gives (λ x. (bound_of x, s.new)) result (qualified_bound (below height) named b qs.items s.old (ahead c.old)) (ahead c.new) }
+    ensures onward { Onward c.old c.new }
 {
     if at_sign(c, Punctuator::RightBracket) {
-        return Ok((ArrayBound::Unspecified(b, qs), 0));
+        return Ok(unspecified_of(b, qs));
     }
     if at_static(c) {
         if !has_some(&qs) {
             return Err(ParseStop::At(c.position()));
         }
         take_static(c)?;
-        let (e, e_height) = expr_below(alloc, c, s, height, Level::Assignment)?;
-        return Ok((size_static_of(alloc, b, qs, e)?, e_height));
+        let e = expr_below(alloc, c, s, height, Level::Assignment)?;
+        return Ok(size_static_of(b, qs, e));
     }
     if at_sign(c, Punctuator::Star) {
         return star_bound(alloc, c, s, height, named, b, qs);
     }
-    let (e, e_height) = expr_below(alloc, c, s, height, Level::Assignment)?;
-    Ok((size_of(alloc, b, qs, e)?, e_height))
+    let e = expr_below(alloc, c, s, height, Level::Assignment)?;
+    Ok(size_of(b, qs, e))
 }
 
 /// What stands between the brackets of an array, of which the first has the number `b` (C11 6.7.6.2). `named`: the declarator declares a name.
@@ -120,19 +109,15 @@ pub(crate) fn bound<L: TokenList>(
     height: u32,
     named: bool,
     b: u32,
-) -> Result<(ArrayBound, u32), ParseStop>
-    requires some { 0 < height }
-    ensures gives { Gives (λ x. (bound_of x.0, s.new)) result (bound (below height) named b s.old (ahead c.old)) (ahead c.new) }
-    ensures same { c.new.all ≡ c.old.all }
-    ensures onward { c.old.at ≤ c.new.at }
-    ensures tall { IfOk result (λ x. x.1 ≡ bound_height (bound_of x.0)) }
-    ensures low { IfOk result (λ x. x.1 < height) }
+) -> Result<BoundNode, ParseStop>
+    ensures gives { Gives (λ x. (bound_of x, s.new)) result (bound (below height) named b s.old (ahead c.old)) (ahead c.new) }
+    ensures onward { Onward c.old c.new }
 {
     if at_static(c) {
         take_static(c)?;
         let qs = qualifiers(alloc, c)?;
-        let (e, e_height) = expr_below(alloc, c, s, height, Level::Assignment)?;
-        return Ok((static_size_of(alloc, b, qs, e)?, e_height));
+        let e = expr_below(alloc, c, s, height, Level::Assignment)?;
+        return Ok(static_size_of(b, qs, e));
     }
     let qs = qualifiers(alloc, c)?;
     qualified_bound(alloc, c, s, height, named, b, qs)

@@ -1,26 +1,26 @@
-ghost use Rattle.std.specs.Prelude.{◌≡◌, ◌≤◌, drop, IfOk, IfErr};
+ghost use Rattle.std.specs.Prelude.{drop, IfOk, IfErr};
 ghost use Rattle.c_tree.specs.View.{expr_of, specifiers_of, declarator_of, init_of};
 ghost use Rattle.c_exprs.specs.declared.words.SpecifierForm.TheVariants.{Declaration as InDeclaration};
 ghost use Rattle.c_exprs.specs.declared.words.DeclaratorForm.TheVariants.{Definition as InDefinition, Member as InMember};
-ghost use Rattle.c_exprs.specs.Lexemes.{ahead};
-ghost use Rattle.c_exprs.specs.Given.{Gives};
+ghost use Rattle.c_cursor.specs.Lexemes.{Onward, ahead};
+ghost use Rattle.c_cursor.specs.Given.{Gives};
 ghost use Rattle.c_exprs.specs.Reading.{readings, below};
 ghost use Rattle.c_exprs.specs.Answers.{Reads, Refuses};
 ghost use Rattle.c_exprs.specs.Forms.{IsExpr, expr_goes, IsTypeName, type_name_goes, IsSpecifiers, specifiers_goes, IsDeclarator, declarator_goes, IsNamedDeclarator, named_declarator_goes, IsInit, init_goes};
-ghost use Rattle.c_exprs.specs.Telling.{Tells};
+ghost use Rattle.c_cursor.specs.Telling.{Tells};
 ghost use Rattle.c_exprs.specs.ExprReading.{type_name as reading_of_type};
 ghost use Rattle.c_exprs.specs.InitReading.{initialiser as reading_of_initialiser};
 
-use crate::cursor::Cursor;
 use crate::declarators::declarator as declarator_within;
 use crate::expressions::expression;
 use crate::goes_on::goes_on_type_name;
 use crate::initialisers::initialiser_within;
 use crate::specifier_lists::specifiers as specifiers_within;
-use crate::stops::ParseStop;
 use crate::told::has_type_specifier;
 use crate::words::{DeclaratorForm, SpecifierForm};
+use c_cursor::{Cursor, ParseStop};
 use c_lexer::TokenList;
+use c_nodes::{TypeNameNode, type_name_of};
 use c_tree::{Declarator, Expr, Init, Level, Specifiers, TypeName};
 use std::alloc::Global;
 use typedef_scopes::Scopes;
@@ -37,14 +37,13 @@ pub fn expr<L: TokenList>(
     s: &mut Scopes,
     height: u32,
     level: Level,
-) -> Result<Expr, ParseStop>
-    ensures gives { Gives (λ x. (expr_of x, s.new)) result ((readings height (below height)).expr level s.old (ahead c.old)) (ahead c.new) }
-    ensures reads { IfOk result (λ x. Reads (IsExpr s.old level height) (expr_goes level) c.old.at (drop c.old.at c.old.all) (expr_of x, s.new) c.new.at (drop c.new.at c.new.all)) }
+) -> Result<Box<Expr>, ParseStop>
+    ensures gives { Gives (λ x. (expr_of x.value, s.new)) result ((readings height (below height)).expr level s.old (ahead c.old)) (ahead c.new) }
+    ensures reads { IfOk result (λ x. Reads (IsExpr s.old level height) (expr_goes level) c.old.at (drop c.old.at c.old.all) (expr_of x.value, s.new) c.new.at (drop c.new.at c.new.all)) }
     ensures refused { IfErr result (λ stop. Tells (λ i. Refuses (IsExpr s.old level height) (expr_goes level) c.old.at (drop c.old.at c.old.all) i (drop i c.old.all)) stop) }
-    ensures same { c.new.all ≡ c.old.all }
-    ensures onward { c.old.at ≤ c.new.at }
+    ensures onward { Onward c.old c.new }
 {
-    Ok(expression(alloc, c, s, height, level)?.0)
+    Ok(expression(alloc, c, s, height, level)?.into_tree())
 }
 
 /// A type name of at most that height.
@@ -53,20 +52,16 @@ fn type_name_within<L: TokenList>(
     c: &mut Cursor<L>,
     s: &mut Scopes,
     height: u32,
-) -> Result<TypeName, ParseStop>
+) -> Result<TypeNameNode, ParseStop>
     ensures gives { Gives (λ x. ((specifiers_of x.specifiers.items, declarator_of x.declarator), s.new)) result (reading_of_type (readings height (below height)) s.old (ahead c.old)) (ahead c.new) }
-    ensures same { c.new.all ≡ c.old.all }
-    ensures onward { c.old.at ≤ c.new.at }
+    ensures onward { Onward c.old c.new }
 {
-    let (specifiers, _) = specifiers_within(alloc, c, s, height, SpecifierForm::TypeName)?;
-    let (declarator, _) = declarator_within(alloc, c, s, height, DeclaratorForm::Abstract)?;
-    if goes_on_type_name(c, has_type_specifier(&specifiers), s) {
+    let specifiers = specifiers_within(alloc, c, s, height, SpecifierForm::TypeName)?;
+    let declarator = declarator_within(alloc, c, s, height, DeclaratorForm::Abstract)?;
+    if goes_on_type_name(c, has_type_specifier(specifiers.as_slice()), s) {
         return Err(ParseStop::At(c.position()));
     }
-    Ok(TypeName {
-        specifiers,
-        declarator,
-    })
+    Ok(type_name_of(alloc, specifiers, declarator)?)
 }
 
 /// Reads a type name of at most that height from the cursor on (C11 6.7.7).
@@ -80,14 +75,13 @@ pub fn type_name<L: TokenList>(
     c: &mut Cursor<L>,
     s: &mut Scopes,
     height: u32,
-) -> Result<TypeName, ParseStop>
-    ensures gives { Gives (λ x. ((specifiers_of x.specifiers.items, declarator_of x.declarator), s.new)) result (reading_of_type (readings height (below height)) s.old (ahead c.old)) (ahead c.new) }
-    ensures reads { IfOk result (λ x. Reads (IsTypeName s.old height) (type_name_goes) c.old.at (drop c.old.at c.old.all) ((specifiers_of x.specifiers.items, declarator_of x.declarator), s.new) c.new.at (drop c.new.at c.new.all)) }
+) -> Result<Box<TypeName>, ParseStop>
+    ensures gives { Gives (λ x. ((specifiers_of x.value.specifiers.items, declarator_of x.value.declarator), s.new)) result (reading_of_type (readings height (below height)) s.old (ahead c.old)) (ahead c.new) }
+    ensures reads { IfOk result (λ x. Reads (IsTypeName s.old height) (type_name_goes) c.old.at (drop c.old.at c.old.all) ((specifiers_of x.value.specifiers.items, declarator_of x.value.declarator), s.new) c.new.at (drop c.new.at c.new.all)) }
     ensures refused { IfErr result (λ stop. Tells (λ i. Refuses (IsTypeName s.old height) (type_name_goes) c.old.at (drop c.old.at c.old.all) i (drop i c.old.all)) stop) }
-    ensures same { c.new.all ≡ c.old.all }
-    ensures onward { c.old.at ≤ c.new.at }
+    ensures onward { Onward c.old c.new }
 {
-    type_name_within(alloc, c, s, height)
+    Ok(type_name_within(alloc, c, s, height)?.into_tree())
 }
 
 /// Reads the specifiers of a declaration, at least one, of at most that height from the cursor on (C11 6.7).
@@ -105,10 +99,9 @@ pub fn specifiers<L: TokenList>(
     ensures gives { Gives (λ x. (specifiers_of x.items, s.new)) result ((readings height (below height)).specifiers InDeclaration s.old (ahead c.old)) (ahead c.new) }
     ensures reads { IfOk result (λ x. Reads (IsSpecifiers s.old height) (specifiers_goes) c.old.at (drop c.old.at c.old.all) (specifiers_of x.items, s.new) c.new.at (drop c.new.at c.new.all)) }
     ensures refused { IfErr result (λ stop. Tells (λ i. Refuses (IsSpecifiers s.old height) (specifiers_goes) c.old.at (drop c.old.at c.old.all) i (drop i c.old.all)) stop) }
-    ensures same { c.new.all ≡ c.old.all }
-    ensures onward { c.old.at ≤ c.new.at }
+    ensures onward { Onward c.old c.new }
 {
-    Ok(specifiers_within(alloc, c, s, height, SpecifierForm::Declaration)?.0)
+    Ok(specifiers_within(alloc, c, s, height, SpecifierForm::Declaration)?.into_vec())
 }
 
 /// Reads a declarator of a declaration or of a function's definition, of at most that height from the cursor on (C11 6.7.6, 6.9.1).
@@ -123,14 +116,13 @@ pub fn declarator<L: TokenList>(
     c: &mut Cursor<L>,
     s: &mut Scopes,
     height: u32,
-) -> Result<Declarator, ParseStop>
-    ensures gives { Gives (λ x. (declarator_of x, s.new)) result ((readings height (below height)).declarator InDefinition s.old (ahead c.old)) (ahead c.new) }
-    ensures reads { IfOk result (λ x. Reads (IsDeclarator s.old height) (declarator_goes) c.old.at (drop c.old.at c.old.all) (declarator_of x, s.new) c.new.at (drop c.new.at c.new.all)) }
+) -> Result<Box<Declarator>, ParseStop>
+    ensures gives { Gives (λ x. (declarator_of x.value, s.new)) result ((readings height (below height)).declarator InDefinition s.old (ahead c.old)) (ahead c.new) }
+    ensures reads { IfOk result (λ x. Reads (IsDeclarator s.old height) (declarator_goes) c.old.at (drop c.old.at c.old.all) (declarator_of x.value, s.new) c.new.at (drop c.new.at c.new.all)) }
     ensures refused { IfErr result (λ stop. Tells (λ i. Refuses (IsDeclarator s.old height) (declarator_goes) c.old.at (drop c.old.at c.old.all) i (drop i c.old.all)) stop) }
-    ensures same { c.new.all ≡ c.old.all }
-    ensures onward { c.old.at ≤ c.new.at }
+    ensures onward { Onward c.old c.new }
 {
-    Ok(declarator_within(alloc, c, s, height, DeclaratorForm::Definition)?.0)
+    Ok(declarator_within(alloc, c, s, height, DeclaratorForm::Definition)?.into_tree())
 }
 
 /// Reads a declarator that declares a name and has no identifier list, of at most that height from the cursor on (C11 6.7.6, 6.7.6.3p3): what stands
@@ -146,14 +138,13 @@ pub fn named_declarator<L: TokenList>(
     c: &mut Cursor<L>,
     s: &mut Scopes,
     height: u32,
-) -> Result<Declarator, ParseStop>
-    ensures gives { Gives (λ x. (declarator_of x, s.new)) result ((readings height (below height)).declarator InMember s.old (ahead c.old)) (ahead c.new) }
-    ensures reads { IfOk result (λ x. Reads (IsNamedDeclarator s.old height) (named_declarator_goes) c.old.at (drop c.old.at c.old.all) (declarator_of x, s.new) c.new.at (drop c.new.at c.new.all)) }
+) -> Result<Box<Declarator>, ParseStop>
+    ensures gives { Gives (λ x. (declarator_of x.value, s.new)) result ((readings height (below height)).declarator InMember s.old (ahead c.old)) (ahead c.new) }
+    ensures reads { IfOk result (λ x. Reads (IsNamedDeclarator s.old height) (named_declarator_goes) c.old.at (drop c.old.at c.old.all) (declarator_of x.value, s.new) c.new.at (drop c.new.at c.new.all)) }
     ensures refused { IfErr result (λ stop. Tells (λ i. Refuses (IsNamedDeclarator s.old height) (named_declarator_goes) c.old.at (drop c.old.at c.old.all) i (drop i c.old.all)) stop) }
-    ensures same { c.new.all ≡ c.old.all }
-    ensures onward { c.old.at ≤ c.new.at }
+    ensures onward { Onward c.old c.new }
 {
-    Ok(declarator_within(alloc, c, s, height, DeclaratorForm::Member)?.0)
+    Ok(declarator_within(alloc, c, s, height, DeclaratorForm::Member)?.into_tree())
 }
 
 /// Reads an initialiser of at most that height from the cursor on (C11 6.7.9).
@@ -171,8 +162,7 @@ pub fn initialiser<L: TokenList>(
     ensures gives { Gives (λ x. (init_of x, s.new)) result (reading_of_initialiser height (below height) s.old (ahead c.old)) (ahead c.new) }
     ensures reads { IfOk result (λ x. Reads (IsInit s.old height) (init_goes) c.old.at (drop c.old.at c.old.all) (init_of x, s.new) c.new.at (drop c.new.at c.new.all)) }
     ensures refused { IfErr result (λ stop. Tells (λ i. Refuses (IsInit s.old height) (init_goes) c.old.at (drop c.old.at c.old.all) i (drop i c.old.all)) stop) }
-    ensures same { c.new.all ≡ c.old.all }
-    ensures onward { c.old.at ≤ c.new.at }
+    ensures onward { Onward c.old c.new }
 {
-    Ok(initialiser_within(alloc, c, s, height)?.0)
+    Ok(initialiser_within(alloc, c, s, height)?.into_tree())
 }

@@ -1,25 +1,23 @@
-ghost use Rattle.std.specs.Prelude.{◌≡◌, ◌<◌, ◌≤◌, IfOk};
+ghost use Rattle.std.specs.Prelude.{◌≡◌, ◌<◌, IfOk};
 ghost use Rattle.c_tree.specs.View.{declarator_of};
-ghost use Rattle.c_tree.specs.Height.{declarator_height};
-ghost use Rattle.c_exprs.specs.Lexemes.{ahead};
-ghost use Rattle.c_exprs.specs.Given.{Gives};
-ghost use Rattle.c_exprs.specs.Readers.{head};
+ghost use Rattle.c_cursor.specs.Lexemes.{Onward, ahead};
+ghost use Rattle.c_cursor.specs.Given.{Gives};
+ghost use Rattle.c_cursor.specs.Readers.{head};
 ghost use Rattle.c_exprs.specs.Reading.{below};
 ghost use Rattle.c_exprs.specs.DeclaratorReading.{array_of, derivation, derivations, group_closed, begins_function, name_or_none, inner, direct, pointer, declarator};
 
 use crate::below::declarator_below;
 use crate::bounds::{bound, qualifiers};
-use crate::cursor::Cursor;
-use crate::declarator_builders::{array_of, group_of, pointer_of};
 use crate::derivations::{may_be_absent, may_be_named};
 use crate::goes_on::goes_on_declarator;
-use crate::nexts::{at_function, at_name, at_sign};
+use crate::nexts::at_function;
 use crate::parameters::function_behind;
-use crate::stops::ParseStop;
-use crate::takes::{take_derivation, take_name, take_sign};
+use crate::takes::take_derivation;
 use crate::words::{DeclaratorForm, Derivation};
+use c_cursor::{Cursor, ParseStop, at_name, at_sign, take_name, take_sign};
 use c_lexer::TokenList;
-use c_tree::{Declarator, declares, is_absent};
+use c_nodes::{DeclaratorNode, absent_of, array_of, declared_of, group_of, pointer_of};
+use c_tree::{declares, is_absent};
 use cil_base::Punctuator;
 use std::alloc::Global;
 use typedef_scopes::Scopes;
@@ -33,23 +31,14 @@ pub(crate) fn array_behind<L: TokenList>(
     height: u32,
     at: u32,
     b: u32,
-    d: Declarator,
-    d_height: u32,
-) -> Result<(Declarator, u32), ParseStop>
-    requires tall { d_height ≡ declarator_height (declarator_of d) }
-    requires low { d_height < height }
-    ensures gives { Gives (λ x. (declarator_of x.0, s.new)) result (array_of (below height) at b (declarator_of d, s.old) (ahead c.old)) (ahead c.new) }
-    ensures same { c.new.all ≡ c.old.all }
-    ensures onward { c.old.at ≤ c.new.at }
-    ensures tall { IfOk result (λ x. x.1 ≡ declarator_height (declarator_of x.0)) }
-    ensures low { IfOk result (λ x. x.1 ≤ height) }
+    d: DeclaratorNode,
+) -> Result<DeclaratorNode, ParseStop>
+    ensures gives { Gives (λ x. (declarator_of x, s.new)) result (array_of (below height) at b (declarator_of d, s.old) (ahead c.old)) (ahead c.new) }
+    ensures onward { Onward c.old c.new }
 {
-    let (bound, bound_height) = bound(alloc, c, s, height, declares(&d), b)?;
+    let bound = bound(alloc, c, s, height, declares(d.tree()), b)?;
     take_sign(c, Punctuator::RightBracket)?;
-    Ok((
-        array_of(alloc, at, d, bound)?,
-        d_height.max(bound_height) + 1,
-    ))
+    Ok(array_of(alloc, at, d, bound)?)
 }
 
 /// A derivation behind a declarator, which begins with the token of that number (C11 6.7.6).
@@ -61,21 +50,16 @@ pub(crate) fn derivation<L: TokenList>(
     height: u32,
     form: DeclaratorForm,
     at: u32,
-    d: Declarator,
-    d_height: u32,
-) -> Result<(Declarator, u32), ParseStop>
-    requires tall { d_height ≡ declarator_height (declarator_of d) }
-    ensures gives { Gives (λ x. (declarator_of x.0, s.new)) result (derivation height (below height) form at (declarator_of d, s.old) (ahead c.old)) (ahead c.new) }
-    ensures same { c.new.all ≡ c.old.all }
-    ensures onward { c.old.at ≤ c.new.at }
+    d: DeclaratorNode,
+) -> Result<DeclaratorNode, ParseStop>
+    ensures gives { Gives (λ x. (declarator_of x, s.new)) result (derivation height (below height) form at (declarator_of d, s.old) (ahead c.old)) (ahead c.new) }
+    ensures onward { Onward c.old c.new }
     ensures further { IfOk result (λ _. c.old.at < c.new.at) }
-    ensures tall { IfOk result (λ x. x.1 ≡ declarator_height (declarator_of x.0)) }
-    ensures low { IfOk result (λ x. x.1 ≤ height) }
 {
     let b = c.position();
-    match take_derivation(c, height, &d, d_height)? {
-        Derivation::Array => array_behind(alloc, c, s, height, at, b, d, d_height),
-        Derivation::Function => function_behind(alloc, c, s, height, form, at, d, d_height),
+    match take_derivation(c, height, &d)? {
+        Derivation::Array => array_behind(alloc, c, s, height, at, b, d),
+        Derivation::Function => function_behind(alloc, c, s, height, form, at, d),
     }
 }
 
@@ -89,23 +73,16 @@ pub(crate) fn derivations<L: TokenList>(
     height: u32,
     form: DeclaratorForm,
     at: u32,
-    first: Declarator,
-    first_height: u32,
-) -> Result<(Declarator, u32), ParseStop>
-    requires tall { first_height ≡ declarator_height (declarator_of first) }
-    requires low { first_height ≤ height }
-    ensures gives { Gives (λ x. (declarator_of x.0, s.new)) result (derivations height (below height) form at (declarator_of first, s.old) (ahead c.old)) (ahead c.new) }
-    ensures same { c.new.all ≡ c.old.all }
-    ensures onward { c.old.at ≤ c.new.at }
-    ensures tall { IfOk result (λ x. x.1 ≡ declarator_height (declarator_of x.0)) }
-    ensures low { IfOk result (λ x. x.1 ≤ height) }
+    first: DeclaratorNode,
+) -> Result<DeclaratorNode, ParseStop>
+    ensures gives { Gives (λ x. (declarator_of x, s.new)) result (derivations height (below height) form at (declarator_of first, s.old) (ahead c.old)) (ahead c.new) }
+    ensures onward { Onward c.old c.new }
 {
     let mut d = first;
-    let mut d_height = first_height;
     while goes_on_declarator(c, form) {
-        (d, d_height) = derivation(alloc, c, s, height, form, at, d, d_height)?;
+        d = derivation(alloc, c, s, height, form, at, d)?;
     }
-    Ok((d, d_height))
+    Ok(d)
 }
 
 /// Whether the `(` before the next token is that of a function, in a declarator that may declare no name (C11 6.7.6.3p11).
@@ -117,26 +94,23 @@ fn begins_function<L: TokenList>(c: &Cursor<L>, s: &Scopes, form: DeclaratorForm
 
 /// The declared name, or nothing.
 pub(crate) fn name_or_none<L: TokenList>(
+    alloc: Global,
     c: &mut Cursor<L>,
     s: &Scopes,
-    height: u32,
     form: DeclaratorForm,
     at: u32,
-) -> Result<(Declarator, u32), ParseStop>
-    requires some { 1 ≤ height }
-    ensures gives { Gives (λ x. (declarator_of x.0, s.now)) result (name_or_none form at s.now (ahead c.old)) (ahead c.new) }
-    ensures same { c.new.all ≡ c.old.all }
-    ensures onward { c.old.at ≤ c.new.at }
-    ensures tall { IfOk result (λ x. x.1 ≡ declarator_height (declarator_of x.0)) }
-    ensures low { IfOk result (λ x. x.1 ≤ height) }
+) -> Result<DeclaratorNode, ParseStop>
+    ensures gives { Gives (λ x. (declarator_of x, s.now)) result (name_or_none form at s.now (ahead c.old)) (ahead c.new) }
+    ensures onward { Onward c.old c.new }
 {
     if may_be_named(form) && at_name(c) {
-        return Ok((Declarator::Name(at, take_name(c)?), 1));
+        let n = take_name(c)?;
+        return Ok(declared_of(alloc, at, n)?);
     }
     if !may_be_absent(form) {
         return Err(ParseStop::At(c.position()));
     }
-    Ok((Declarator::Absent(at), 1))
+    Ok(absent_of(alloc, at)?)
 }
 
 /// `)` behind a declarator in parentheses, which is more than an absent name
@@ -144,24 +118,17 @@ fn group_closed<L: TokenList>(
     alloc: Global,
     c: &mut Cursor<L>,
     s: &Scopes,
-    height: u32,
     at: u32,
-    d: Declarator,
-    d_height: u32,
-) -> Result<(Declarator, u32), ParseStop>
-    requires tall { d_height ≡ declarator_height (declarator_of d) }
-    requires low { d_height < height }
-    ensures gives { Gives (λ x. (declarator_of x.0, s.now)) result (group_closed at (declarator_of d, s.now) (ahead c.old)) (ahead c.new) }
-    ensures same { c.new.all ≡ c.old.all }
-    ensures onward { c.old.at ≤ c.new.at }
-    ensures tall { IfOk result (λ x. x.1 ≡ declarator_height (declarator_of x.0)) }
-    ensures low { IfOk result (λ x. x.1 ≤ height) }
+    d: DeclaratorNode,
+) -> Result<DeclaratorNode, ParseStop>
+    ensures gives { Gives (λ x. (declarator_of x, s.now)) result (group_closed at (declarator_of d, s.now) (ahead c.old)) (ahead c.new) }
+    ensures onward { Onward c.old c.new }
 {
-    if is_absent(&d) {
+    if is_absent(d.tree()) {
         return Err(ParseStop::At(c.position()));
     }
     take_sign(c, Punctuator::RightParen)?;
-    Ok((group_of(alloc, at, d)?, d_height + 1))
+    Ok(group_of(alloc, at, d)?)
 }
 
 /// What derivations stand behind: a name or none; behind `(` a declarator, or the list of a function without a name (C11 6.7.6.3p11).
@@ -173,26 +140,23 @@ pub(crate) fn inner<L: TokenList>(
     height: u32,
     form: DeclaratorForm,
     at: u32,
-) -> Result<(Declarator, u32), ParseStop>
-    requires some { 1 ≤ height }
-    ensures gives { Gives (λ x. (declarator_of x.0, s.new)) result (inner height (below height) form at s.old (ahead c.old)) (ahead c.new) }
-    ensures same { c.new.all ≡ c.old.all }
-    ensures onward { c.old.at ≤ c.new.at }
-    ensures tall { IfOk result (λ x. x.1 ≡ declarator_height (declarator_of x.0)) }
-    ensures low { IfOk result (λ x. x.1 ≤ height) }
+) -> Result<DeclaratorNode, ParseStop>
+    ensures gives { Gives (λ x. (declarator_of x, s.new)) result (inner height (below height) form at s.old (ahead c.old)) (ahead c.new) }
+    ensures onward { Onward c.old c.new }
 {
     if !at_sign(c, Punctuator::LeftParen) {
-        return name_or_none(c, s, height, form, at);
+        return name_or_none(alloc, c, s, form, at);
     }
     take_sign(c, Punctuator::LeftParen)?;
     if !begins_function(c, s, form) {
-        let (d, d_height) = declarator_below(alloc, c, s, height, form)?;
-        return group_closed(alloc, c, s, height, at, d, d_height);
+        let d = declarator_below(alloc, c, s, height, form)?;
+        return group_closed(alloc, c, s, at, d);
     }
     if height < 2 {
         return Err(ParseStop::At(c.position()));
     }
-    function_behind(alloc, c, s, height, form, at, Declarator::Absent(at), 1)
+    let d = absent_of(alloc, at)?;
+    function_behind(alloc, c, s, height, form, at, d)
 }
 
 /// A declarator that is no pointer (C11 6.7.6).
@@ -204,16 +168,12 @@ pub(crate) fn direct<L: TokenList>(
     height: u32,
     form: DeclaratorForm,
     at: u32,
-) -> Result<(Declarator, u32), ParseStop>
-    requires some { 1 ≤ height }
-    ensures gives { Gives (λ x. (declarator_of x.0, s.new)) result (direct height (below height) form at s.old (ahead c.old)) (ahead c.new) }
-    ensures same { c.new.all ≡ c.old.all }
-    ensures onward { c.old.at ≤ c.new.at }
-    ensures tall { IfOk result (λ x. x.1 ≡ declarator_height (declarator_of x.0)) }
-    ensures low { IfOk result (λ x. x.1 ≤ height) }
+) -> Result<DeclaratorNode, ParseStop>
+    ensures gives { Gives (λ x. (declarator_of x, s.new)) result (direct height (below height) form at s.old (ahead c.old)) (ahead c.new) }
+    ensures onward { Onward c.old c.new }
 {
-    let (d, d_height) = inner(alloc, c, s, height, form, at)?;
-    derivations(alloc, c, s, height, form, at, d, d_height)
+    let d = inner(alloc, c, s, height, form, at)?;
+    derivations(alloc, c, s, height, form, at, d)
 }
 
 /// `* qualifiers declarator`
@@ -225,17 +185,14 @@ pub(crate) fn pointer<L: TokenList>(
     height: u32,
     form: DeclaratorForm,
     at: u32,
-) -> Result<(Declarator, u32), ParseStop>
-    ensures gives { Gives (λ x. (declarator_of x.0, s.new)) result (pointer (below height) form at s.old (ahead c.old)) (ahead c.new) }
-    ensures same { c.new.all ≡ c.old.all }
-    ensures onward { c.old.at ≤ c.new.at }
-    ensures tall { IfOk result (λ x. x.1 ≡ declarator_height (declarator_of x.0)) }
-    ensures low { IfOk result (λ x. x.1 ≤ height) }
+) -> Result<DeclaratorNode, ParseStop>
+    ensures gives { Gives (λ x. (declarator_of x, s.new)) result (pointer (below height) form at s.old (ahead c.old)) (ahead c.new) }
+    ensures onward { Onward c.old c.new }
 {
     take_sign(c, Punctuator::Star)?;
     let qs = qualifiers(alloc, c)?;
-    let (d, d_height) = declarator_below(alloc, c, s, height, form)?;
-    Ok((pointer_of(alloc, at, qs, d)?, d_height + 1))
+    let d = declarator_below(alloc, c, s, height, form)?;
+    Ok(pointer_of(alloc, at, qs, d)?)
 }
 
 /// A declarator of that form and at most that height (C11 6.7.6, 6.7.7).
@@ -246,12 +203,9 @@ pub(crate) fn declarator<L: TokenList>(
     s: &mut Scopes,
     height: u32,
     form: DeclaratorForm,
-) -> Result<(Declarator, u32), ParseStop>
-    ensures gives { Gives (λ x. (declarator_of x.0, s.new)) result (declarator height (below height) form s.old (ahead c.old)) (ahead c.new) }
-    ensures same { c.new.all ≡ c.old.all }
-    ensures onward { c.old.at ≤ c.new.at }
-    ensures tall { IfOk result (λ x. x.1 ≡ declarator_height (declarator_of x.0)) }
-    ensures low { IfOk result (λ x. x.1 ≤ height) }
+) -> Result<DeclaratorNode, ParseStop>
+    ensures gives { Gives (λ x. (declarator_of x, s.new)) result (declarator height (below height) form s.old (ahead c.old)) (ahead c.new) }
+    ensures onward { Onward c.old c.new }
 {
     if height < 1 {
         return Err(ParseStop::At(c.position()));

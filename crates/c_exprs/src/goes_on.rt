@@ -1,13 +1,12 @@
 ghost use Rattle.std.specs.Prelude.{◌≡◌, ◌<◌, true, [], length};
-ghost use Rattle.c_exprs.specs.Lexemes.{ahead};
-ghost use Rattle.c_exprs.specs.Readers.{head};
+ghost use Rattle.c_cursor.specs.Lexemes.{ahead};
+ghost use Rattle.c_cursor.specs.Readers.{head};
 ghost use Rattle.c_exprs.specs.GoesOn.{goes_on_by, goes_on_level, goes_on_expr, goes_on_typed, goes_on_specifiers, goes_on_name, goes_on_absent, goes_on_kind, goes_on_declarator, goes_on_type, goes_on_type_name};
 
-use crate::cursor::Cursor;
 use crate::operators::{operator_level, operator_sign};
 use crate::pieces::piece_word;
-use crate::signs::{is_name, is_sign};
 use crate::words::{DeclaratorForm, Operator};
+use c_cursor::{Cursor, is_name, is_sign};
 use c_lexer::TokenList;
 use c_tree::{Level, rank};
 use cil_base::{Punctuator, TokenKind};
@@ -42,7 +41,7 @@ fn goes_on_level(level: Level, kind: TokenKind) -> bool
 
 /// Whether the next token goes on behind an expression of that level: operators that its level or a tighter one has, those of
 /// 6.5.2, and `{` and string literals, which no production takes there.
-#[tactic(auto, using(crate::proofs::NextLemmas::next_told, crate::proofs::NextLemmas::none_told))]
+#[tactic(auto, using(c_cursor::proofs::NextLemmas::next_told, c_cursor::proofs::NextLemmas::none_told))]
 pub(crate) fn goes_on_expr<L: TokenList>(c: &Cursor<L>, level: Level) -> bool
     ensures is { result ≡ goes_on_expr level (head (ahead c.now).rest) }
     ensures room { result ≡ true → c.now.at < length c.now.all }
@@ -67,7 +66,7 @@ fn goes_on_typed(typed: bool, s: &Scopes, kind: TokenKind) -> bool
 }
 
 /// Whether the next token goes on behind specifiers, of which some is a type specifier where `typed` says so.
-#[tactic(auto, using(crate::proofs::NextLemmas::next_told, crate::proofs::NextLemmas::none_told))]
+#[tactic(auto, using(c_cursor::proofs::NextLemmas::next_told, c_cursor::proofs::NextLemmas::none_told))]
 pub(crate) fn goes_on_specifiers<L: TokenList>(c: &Cursor<L>, typed: bool, s: &Scopes) -> bool
     ensures is { result ≡ goes_on_specifiers typed s.now (head (ahead c.now).rest) }
     ensures room { result ≡ true → c.now.at < length c.now.all }
@@ -116,7 +115,7 @@ fn goes_on_kind(form: DeclaratorForm, kind: TokenKind) -> bool
 }
 
 /// Whether the next token goes on behind a declarator of that form.
-#[tactic(auto, using(crate::proofs::NextLemmas::next_told, crate::proofs::NextLemmas::none_told))]
+#[tactic(auto, using(c_cursor::proofs::NextLemmas::next_told, c_cursor::proofs::NextLemmas::none_told))]
 pub(crate) fn goes_on_declarator<L: TokenList>(c: &Cursor<L>, form: DeclaratorForm) -> bool
     ensures is { result ≡ goes_on_declarator form (head (ahead c.now).rest) }
     ensures room { result ≡ true → c.now.at < length c.now.all }
@@ -134,7 +133,7 @@ fn goes_on_type(typed: bool, s: &Scopes, kind: TokenKind) -> bool
 }
 
 /// Whether the next token goes on behind a type name, of whose specifiers some is a type specifier where `typed` says so.
-#[tactic(auto, using(crate::proofs::NextLemmas::next_told, crate::proofs::NextLemmas::none_told))]
+#[tactic(auto, using(c_cursor::proofs::NextLemmas::next_told, c_cursor::proofs::NextLemmas::none_told))]
 pub(crate) fn goes_on_type_name<L: TokenList>(c: &Cursor<L>, typed: bool, s: &Scopes) -> bool
     ensures { result ≡ goes_on_type_name typed s.now (head (ahead c.now).rest) }
 {

@@ -1,48 +1,39 @@
-ghost use Rattle.std.specs.Prelude.{◌≡◌, ◌<◌, ◌≤◌, ◌⊎◌, map, IfOk};
-ghost use Rattle.c_tree.specs.View.{expr_of, declarator_of, member_of, member_declarator_of, member_declarators_of};
-ghost use Rattle.c_tree.specs.Height.{expr_height, declarator_height, member_height, member_declarator_height, member_declarators_height};
-ghost use Rattle.c_exprs.specs.Lexemes.{ahead};
-ghost use Rattle.c_exprs.specs.Given.{Gives};
+ghost use Rattle.std.specs.Prelude.{◌<◌, map, IfOk};
+ghost use Rattle.c_tree.specs.View.{expr_of, declarator_of, member_of, member_declarator_of};
+ghost use Rattle.c_cursor.specs.Lexemes.{Onward, ahead};
+ghost use Rattle.c_cursor.specs.Given.{Gives};
 ghost use Rattle.c_exprs.specs.Subs.{behind_comma, more_listed};
 ghost use Rattle.c_exprs.specs.Reading.{below};
 ghost use Rattle.c_exprs.specs.SpecifierReading.{bit_field, member_declarator, member_declarators, member_line, assert_end, member};
 
 use crate::below::{declarator_below, expr_below, specifiers_below};
-use crate::cursor::Cursor;
-use crate::list_builders::{assert_of, bit_field_of, member_line_of};
-use crate::literals::some_literals;
-use crate::nexts::{at_assert, at_sign};
-use crate::stops::ParseStop;
-use crate::takes::{take_assert, take_sign};
 use crate::words::{DeclaratorForm, SpecifierForm};
+use c_cursor::{Cursor, ParseStop, at_assert, at_sign, some_literals, take_assert, take_sign};
 use c_lexer::TokenList;
-use c_tree::{Declarator, Expr, Level, MemberDeclaration, MemberDeclarator};
+use c_nodes::{
+    DeclaratorNode, ExprNode, MemberDeclaratorList, MemberDeclaratorNode, MemberNode, absent_of,
+    bit_field_of, member_assert_of, member_line_of, plain_of,
+};
+use c_tree::{Level, TypeName};
 use cil_base::Punctuator;
 use std::alloc::Global;
 use typedef_scopes::Scopes;
 
 /// `: width`
 #[cycle(reading)]
-#[tactic(auto, using(crate::proofs::TreeHeights::some_height, crate::proofs::TreeHeights::least_width))]
 pub(crate) fn bit_field<L: TokenList>(
     alloc: Global,
     c: &mut Cursor<L>,
     s: &mut Scopes,
     height: u32,
-    d: Declarator,
-    d_height: u32,
-) -> Result<(MemberDeclarator, u32), ParseStop>
-    requires tall { d_height ≡ declarator_height (declarator_of d) }
-    requires low { d_height ≤ 1 ⊎ d_height < height }
-    ensures gives { Gives (λ x. (member_declarator_of x.0, s.new)) result (bit_field (below height) (declarator_of d) s.old (ahead c.old)) (ahead c.new) }
-    ensures same { c.new.all ≡ c.old.all }
-    ensures onward { c.old.at ≤ c.new.at }
-    ensures tall { IfOk result (λ x. x.1 ≡ member_declarator_height (member_declarator_of x.0)) }
-    ensures low { IfOk result (λ x. x.1 < height) }
+    d: DeclaratorNode,
+) -> Result<MemberDeclaratorNode, ParseStop>
+    ensures gives { Gives (λ x. (member_declarator_of x, s.new)) result (bit_field (below height) (declarator_of d) s.old (ahead c.old)) (ahead c.new) }
+    ensures onward { Onward c.old c.new }
 {
     take_sign(c, Punctuator::Colon)?;
-    let (width, width_height) = expr_below(alloc, c, s, height, Level::Conditional)?;
-    Ok((bit_field_of(alloc, d, width)?, d_height.max(width_height)))
+    let width = expr_below(alloc, c, s, height, Level::Conditional)?;
+    Ok(bit_field_of(d, width))
 }
 
 /// A declarator of a member, or a bit-field without one (C11 6.7.2.1).
@@ -52,22 +43,19 @@ pub(crate) fn member_declarator<L: TokenList>(
     c: &mut Cursor<L>,
     s: &mut Scopes,
     height: u32,
-) -> Result<(MemberDeclarator, u32), ParseStop>
-    ensures gives { Gives (λ x. (member_declarator_of x.0, s.new)) result (member_declarator (below height) s.old (ahead c.old)) (ahead c.new) }
-    ensures same { c.new.all ≡ c.old.all }
-    ensures onward { c.old.at ≤ c.new.at }
-    ensures tall { IfOk result (λ x. x.1 ≡ member_declarator_height (member_declarator_of x.0)) }
-    ensures low { IfOk result (λ x. x.1 < height) }
+) -> Result<MemberDeclaratorNode, ParseStop>
+    ensures gives { Gives (λ x. (member_declarator_of x, s.new)) result (member_declarator (below height) s.old (ahead c.old)) (ahead c.new) }
+    ensures onward { Onward c.old c.new }
 {
     if at_sign(c, Punctuator::Colon) {
-        let at = c.position();
-        return bit_field(alloc, c, s, height, Declarator::Absent(at), 1);
+        let d = absent_of(alloc, c.position())?;
+        return bit_field(alloc, c, s, height, d);
     }
-    let (d, d_height) = declarator_below(alloc, c, s, height, DeclaratorForm::Member)?;
+    let d = declarator_below(alloc, c, s, height, DeclaratorForm::Member)?;
     if at_sign(c, Punctuator::Colon) {
-        return bit_field(alloc, c, s, height, d, d_height);
+        return bit_field(alloc, c, s, height, d);
     }
-    Ok((MemberDeclarator::Plain(d), d_height))
+    Ok(plain_of(d))
 }
 
 /// A declarator of a member behind a comma.
@@ -77,13 +65,10 @@ pub(crate) fn next_member_declarator<L: TokenList>(
     c: &mut Cursor<L>,
     s: &mut Scopes,
     height: u32,
-) -> Result<(MemberDeclarator, u32), ParseStop>
-    ensures gives { Gives (λ x. (member_declarator_of x.0, s.new)) result (behind_comma (member_declarator (below height)) s.old (ahead c.old)) (ahead c.new) }
-    ensures same { c.new.all ≡ c.old.all }
-    ensures onward { c.old.at ≤ c.new.at }
+) -> Result<MemberDeclaratorNode, ParseStop>
+    ensures gives { Gives (λ x. (member_declarator_of x, s.new)) result (behind_comma (member_declarator (below height)) s.old (ahead c.old)) (ahead c.new) }
+    ensures onward { Onward c.old c.new }
     ensures further { IfOk result (λ _. c.old.at < c.new.at) }
-    ensures tall { IfOk result (λ x. x.1 ≡ member_declarator_height (member_declarator_of x.0)) }
-    ensures low { IfOk result (λ x. x.1 < height) }
 {
     take_sign(c, Punctuator::Comma)?;
     member_declarator(alloc, c, s, height)
@@ -91,31 +76,23 @@ pub(crate) fn next_member_declarator<L: TokenList>(
 
 /// All declarators of members behind some.
 #[cycle(reading)]
-#[tactic(auto, using(crate::proofs::ListLoops::growing_from, crate::proofs::ListLoops::growing_next, crate::proofs::ListLoops::growing_stops, crate::proofs::ListLoops::growing_ends, crate::proofs::TreeLists::tall_member_declarators))]
+#[tactic(auto, using(crate::proofs::ListLoops::growing_from, crate::proofs::ListLoops::growing_next, crate::proofs::ListLoops::growing_stops, crate::proofs::ListLoops::growing_ends))]
 pub(crate) fn more_member_declarators<L: TokenList>(
     alloc: Global,
     c: &mut Cursor<L>,
     s: &mut Scopes,
     height: u32,
-    first: Vec<MemberDeclarator>,
-    first_height: u32,
-) -> Result<(Vec<MemberDeclarator>, u32), ParseStop>
-    requires tall { first_height ≡ member_declarators_height (member_declarators_of first.items) }
-    requires low { first_height < height }
-    ensures gives { Gives (λ x. (map member_declarator_of x.0.items, s.new)) result (more_listed (member_declarator (below height)) (map member_declarator_of first.items, s.old) (ahead c.old)) (ahead c.new) }
-    ensures same { c.new.all ≡ c.old.all }
-    ensures onward { c.old.at ≤ c.new.at }
-    ensures tall { IfOk result (λ x. x.1 ≡ member_declarators_height (member_declarators_of x.0.items)) }
-    ensures low { IfOk result (λ x. x.1 < height) }
+    first: MemberDeclaratorList,
+) -> Result<MemberDeclaratorList, ParseStop>
+    ensures gives { Gives (λ x. (map member_declarator_of x, s.new)) result (more_listed (member_declarator (below height)) (map member_declarator_of first, s.old) (ahead c.old)) (ahead c.new) }
+    ensures onward { Onward c.old c.new }
 {
     let mut ds = first;
-    let mut ds_height = first_height;
     while at_sign(c, Punctuator::Comma) {
-        let (d, d_height) = next_member_declarator(alloc, c, s, height)?;
+        let d = next_member_declarator(alloc, c, s, height)?;
         ds.push(d)?;
-        ds_height = ds_height.max(d_height);
     }
-    Ok((ds, ds_height))
+    Ok(ds)
 }
 
 /// The declarators of a line of members, of which there may be none (C11 6.7.2.1).
@@ -125,21 +102,17 @@ pub(crate) fn member_declarators<L: TokenList>(
     c: &mut Cursor<L>,
     s: &mut Scopes,
     height: u32,
-) -> Result<(Vec<MemberDeclarator>, u32), ParseStop>
-    requires some { 0 < height }
-    ensures gives { Gives (λ x. (map member_declarator_of x.0.items, s.new)) result (member_declarators (below height) s.old (ahead c.old)) (ahead c.new) }
-    ensures same { c.new.all ≡ c.old.all }
-    ensures onward { c.old.at ≤ c.new.at }
-    ensures tall { IfOk result (λ x. x.1 ≡ member_declarators_height (member_declarators_of x.0.items)) }
-    ensures low { IfOk result (λ x. x.1 < height) }
+) -> Result<MemberDeclaratorList, ParseStop>
+    ensures gives { Gives (λ x. (map member_declarator_of x, s.new)) result (member_declarators (below height) s.old (ahead c.old)) (ahead c.new) }
+    ensures onward { Onward c.old c.new }
 {
     if at_sign(c, Punctuator::Semicolon) {
-        return Ok((Vec::new(alloc), 0));
+        return Ok(MemberDeclaratorList::new(alloc));
     }
-    let (d, d_height) = member_declarator(alloc, c, s, height)?;
-    let mut ds = Vec::new(alloc);
+    let d = member_declarator(alloc, c, s, height)?;
+    let mut ds = MemberDeclaratorList::new(alloc);
     ds.push(d)?;
-    more_member_declarators(alloc, c, s, height, ds, d_height)
+    more_member_declarators(alloc, c, s, height, ds)
 }
 
 /// A line of members (C11 6.7.2.1).
@@ -150,57 +123,34 @@ pub(crate) fn member_line<L: TokenList>(
     c: &mut Cursor<L>,
     s: &mut Scopes,
     height: u32,
-) -> Result<(MemberDeclaration, u32), ParseStop>
-    ensures gives { Gives (λ x. (member_of x.0, s.new)) result (member_line (below height) s.old (ahead c.old)) (ahead c.new) }
-    ensures same { c.new.all ≡ c.old.all }
-    ensures onward { c.old.at ≤ c.new.at }
+) -> Result<MemberNode, ParseStop>
+    ensures gives { Gives (λ x. (member_of x, s.new)) result (member_line (below height) s.old (ahead c.old)) (ahead c.new) }
+    ensures onward { Onward c.old c.new }
     ensures further { IfOk result (λ _. c.old.at < c.new.at) }
-    ensures tall { IfOk result (λ x. x.1 ≡ member_height (member_of x.0)) }
-    ensures low { IfOk result (λ x. x.1 < height) }
 {
-    let (specifiers, specifiers_height) = specifiers_below(
-        alloc,
-        c,
-        s,
-        height,
-        SpecifierForm::TypeName,
-    )?;
-    let (ds, ds_height) = member_declarators(alloc, c, s, height)?;
+    let specifiers = specifiers_below(alloc, c, s, height, SpecifierForm::TypeName)?;
+    let ds = member_declarators(alloc, c, s, height)?;
     take_sign(c, Punctuator::Semicolon)?;
-    Ok((
-        member_line_of(specifiers, ds),
-        specifiers_height.max(ds_height),
-    ))
+    Ok(member_line_of(specifiers, ds))
 }
 
 /// `, message ) ;`
-#[tactic(auto, using(crate::proofs::TreeHeights::some_height))]
 pub(crate) fn assert_end<L: TokenList>(
     alloc: Global,
     c: &mut Cursor<L>,
     s: &Scopes,
-    height: u32,
     at: u32,
-    condition: Expr,
-    condition_height: u32,
-) -> Result<(MemberDeclaration, u32), ParseStop>
-    requires tall { condition_height ≡ expr_height (expr_of condition) }
-    requires low { condition_height < height }
-    ensures gives { Gives (λ x. (member_of x.0, s.now)) result (assert_end at (expr_of condition, s.now) (ahead c.old)) (ahead c.new) }
-    ensures same { c.new.all ≡ c.old.all }
-    ensures onward { c.old.at ≤ c.new.at }
-    ensures tall { IfOk result (λ x. x.1 ≡ member_height (member_of x.0)) }
-    ensures low { IfOk result (λ x. x.1 < height) }
+    condition: ExprNode,
+) -> Result<MemberNode, ParseStop>
+    ensures gives { Gives (λ x. (member_of x, s.now)) result (assert_end at (expr_of condition, s.now) (ahead c.old)) (ahead c.new) }
+    ensures onward { Onward c.old c.new }
 {
     take_sign(c, Punctuator::Comma)?;
     let message_at = c.position();
     let message = some_literals(alloc, c)?;
     take_sign(c, Punctuator::RightParen)?;
     take_sign(c, Punctuator::Semicolon)?;
-    Ok((
-        assert_of(alloc, at, condition, message_at, message)?,
-        condition_height.max(1),
-    ))
+    Ok(member_assert_of(at, condition, message_at, message))
 }
 
 /// A declaration among members: a line of members, or a static assertion (C11 6.7.2.1, 6.7.10).
@@ -210,13 +160,10 @@ pub(crate) fn member<L: TokenList>(
     c: &mut Cursor<L>,
     s: &mut Scopes,
     height: u32,
-) -> Result<(MemberDeclaration, u32), ParseStop>
-    ensures gives { Gives (λ x. (member_of x.0, s.new)) result (member (below height) s.old (ahead c.old)) (ahead c.new) }
-    ensures same { c.new.all ≡ c.old.all }
-    ensures onward { c.old.at ≤ c.new.at }
+) -> Result<MemberNode, ParseStop>
+    ensures gives { Gives (λ x. (member_of x, s.new)) result (member (below height) s.old (ahead c.old)) (ahead c.new) }
+    ensures onward { Onward c.old c.new }
     ensures further { IfOk result (λ _. c.old.at < c.new.at) }
-    ensures tall { IfOk result (λ x. x.1 ≡ member_height (member_of x.0)) }
-    ensures low { IfOk result (λ x. x.1 < height) }
 {
     if !at_assert(c) {
         return member_line(alloc, c, s, height);
@@ -224,6 +171,6 @@ pub(crate) fn member<L: TokenList>(
     let at = c.position();
     take_assert(c)?;
     take_sign(c, Punctuator::LeftParen)?;
-    let (condition, condition_height) = expr_below(alloc, c, s, height, Level::Conditional)?;
-    assert_end(alloc, c, s, height, at, condition, condition_height)
+    let condition = expr_below(alloc, c, s, height, Level::Conditional)?;
+    assert_end(alloc, c, s, at, condition)
 }

@@ -1,12 +1,11 @@
-ghost use Rattle.std.specs.Prelude.{◌≡◌, ◌<◌, true, IfSome};
+ghost use Rattle.std.specs.Prelude.{◌≡◌};
 ghost use Rattle.c_tree.specs.View.{expr_of};
-ghost use Rattle.c_tree.specs.Height.{expr_height};
-ghost use Rattle.c_exprs.specs.Classes.{fitting, joint_level, joint_left, joint_right, operator_level, operator_left, operator_sign, operator_kind, operator_fits};
+ghost use Rattle.c_cursor.specs.Classes.{fitting};
+ghost use Rattle.c_exprs.specs.Classes.{joint_level, joint_left, joint_right, operator_level, operator_left, operator_sign, operator_kind, operator_fits};
 
 use crate::words::{Joint, Operator};
-use c_tree::{
-    Expr, Level, LogicalOp, StepOp, binary_level, is_within, logical_level, rank, tighter,
-};
+use c_nodes::ExprNode;
+use c_tree::{Level, LogicalOp, StepOp, binary_level, is_within, logical_level, rank, tighter};
 use cil_base::{BinOp, Punctuator, TokenKind};
 
 fn joint_level(joint: Joint) -> Level
@@ -128,12 +127,12 @@ fn operator_kind(kind: TokenKind) -> Option<Operator>
 }
 
 /// Whether an operator can stand behind an operand, whose height is told, in an expression of that level and height.
-fn operator_fits(height: u32, level: Level, e: &Expr, e_height: u32, op: Operator) -> bool
-    requires { e_height ≡ expr_height (expr_of e.now) }
+fn operator_fits(height: u32, level: Level, e: &ExprNode, op: Operator) -> bool
     ensures is { result ≡ operator_fits height level (expr_of e.now) op }
-    ensures fits { result ≡ true → e_height < height }
 {
-    rank(operator_level(op)) <= rank(level) && is_within(operator_left(op), e) && e_height < height
+    rank(operator_level(op)) <= rank(level)
+        && is_within(operator_left(op), e.tree())
+        && e.height() < height
 }
 
 /// The operator that a token of that kind is behind an operand, whose height is told, in an expression of that level and height (C11 6.5.2,
@@ -141,16 +140,13 @@ fn operator_fits(height: u32, level: Level, e: &Expr, e_height: u32, op: Operato
 pub(crate) fn operator_for(
     height: u32,
     level: Level,
-    e: &Expr,
-    e_height: u32,
+    e: &ExprNode,
     kind: TokenKind,
 ) -> Option<Operator>
-    requires { e_height ≡ expr_height (expr_of e.now) }
     ensures is { result ≡ fitting (operator_fits height level (expr_of e.now)) (operator_kind kind) }
-    ensures fits { IfSome result (λ _. e_height < height) }
 {
     match operator_kind(kind) {
-        Some(op) if operator_fits(height, level, e, e_height, op) => Some(op),
+        Some(op) if operator_fits(height, level, e, op) => Some(op),
         _ => None,
     }
 }

@@ -1,29 +1,29 @@
-ghost use Rattle.std.specs.Prelude.{◌≡◌, ◌<◌, ◌≤◌, false, map, IfOk, IfSome, MatchResult};
+ghost use Rattle.std.specs.Prelude.{◌≡◌, ◌<◌, false, map, IfOk, MatchResult};
 ghost use Rattle.std.specs.Option.{option_map};
 ghost use Rattle.cil_base.specs.declared.tokens.Punctuator.TheVariants.{Ellipsis};
-ghost use Rattle.c_tree.specs.View.{specifiers_of, declarator_of, parameter_of, parameters_of};
-ghost use Rattle.c_tree.specs.Height.{declarator_height, parameter_height, parameters_height};
+ghost use Rattle.c_tree.specs.View.{specifiers_of, declarator_of, parameter_of};
 ghost use Rattle.c_tree.specs.Scoped.{name_of, has_typedef, declared_if};
-ghost use Rattle.c_exprs.specs.declared.stops.ParseStop.TheVariants.{Memory as WantOfMemory};
-ghost use Rattle.c_exprs.specs.Lexemes.{ahead};
-ghost use Rattle.c_exprs.specs.Given.{Gives};
-ghost use Rattle.c_exprs.specs.Readers.{head};
-ghost use Rattle.c_exprs.specs.Classes.{next_is, is_sign, take};
+ghost use Rattle.c_cursor.specs.declared.stops.ParseStop.TheVariants.{Memory as WantOfMemory};
+ghost use Rattle.c_cursor.specs.Lexemes.{Onward, ahead};
+ghost use Rattle.c_cursor.specs.Given.{Gives};
+ghost use Rattle.c_cursor.specs.Readers.{head};
+ghost use Rattle.c_cursor.specs.Classes.{next_is, is_sign, take};
 ghost use Rattle.c_exprs.specs.Subs.{more_listed_to};
 ghost use Rattle.c_exprs.specs.Steps.{item_or_end, comma_identifier};
 ghost use Rattle.c_exprs.specs.Reading.{below};
 ghost use Rattle.c_exprs.specs.DeclaratorReading.{parameter, parameters, prototyped, more_identifiers, identifiers, unprototyped, without_parameters, begins_identifiers, function_of};
 
 use crate::below::{declarator_below, specifiers_below};
-use crate::cursor::Cursor;
-use crate::declarator_builders::{function_of, unprototyped_of};
 use crate::derivations::may_have_identifiers;
-use crate::nexts::{at_identifier, at_sign};
-use crate::stops::ParseStop;
-use crate::takes::{take_identifier, take_sign};
+use crate::nexts::at_identifier;
+use crate::takes::take_identifier;
 use crate::told::{has_typedef, name_of};
 use crate::words::{DeclaratorForm, SpecifierForm};
+use c_cursor::{Cursor, ParseStop, at_sign, take_sign};
 use c_lexer::TokenList;
+use c_nodes::{
+    DeclaratorNode, ParameterList, ParameterNode, function_of, parameter_of, unprototyped_of,
+};
 use c_tree::{Declarator, Parameter, Specifier, is_underived};
 use cil_base::{NameId, Punctuator};
 use std::alloc::Global;
@@ -50,35 +50,14 @@ pub(crate) fn parameter<L: TokenList>(
     c: &mut Cursor<L>,
     s: &mut Scopes,
     height: u32,
-) -> Result<(Parameter, u32), ParseStop>
-    ensures gives { Gives (λ x. (parameter_of x.0, s.new)) result (parameter (below height) s.old (ahead c.old)) (ahead c.new) }
-    ensures same { c.new.all ≡ c.old.all }
-    ensures onward { c.old.at ≤ c.new.at }
-    ensures tall { IfOk result (λ x. x.1 ≡ parameter_height (parameter_of x.0)) }
-    ensures low { IfOk result (λ x. x.1 < height) }
+) -> Result<ParameterNode, ParseStop>
+    ensures gives { Gives (λ x. (parameter_of x, s.new)) result (parameter (below height) s.old (ahead c.old)) (ahead c.new) }
+    ensures onward { Onward c.old c.new }
 {
-    let (specifiers, specifiers_height) = specifiers_below(
-        alloc,
-        c,
-        s,
-        height,
-        SpecifierForm::Declaration,
-    )?;
-    let (declarator, declarator_height) = declarator_below(
-        alloc,
-        c,
-        s,
-        height,
-        DeclaratorForm::Parameter,
-    )?;
-    declare_parameter(s, &declarator, &specifiers)?;
-    Ok((
-        Parameter {
-            specifiers,
-            declarator,
-        },
-        specifiers_height.max(declarator_height),
-    ))
+    let specifiers = specifiers_below(alloc, c, s, height, SpecifierForm::Declaration)?;
+    let declarator = declarator_below(alloc, c, s, height, DeclaratorForm::Parameter)?;
+    declare_parameter(s, declarator.tree(), specifiers.as_slice())?;
+    Ok(parameter_of(specifiers, declarator))
 }
 
 /// A parameter behind a comma, or nothing behind `...`
@@ -88,13 +67,10 @@ pub(crate) fn next_parameter<L: TokenList>(
     c: &mut Cursor<L>,
     s: &mut Scopes,
     height: u32,
-) -> Result<Option<(Parameter, u32)>, ParseStop>
-    ensures gives { Gives (λ x. (option_map (λ y. parameter_of y.0) x, s.new)) result (item_or_end (next_is (is_sign Ellipsis)) (take (is_sign Ellipsis)) (parameter (below height)) s.old (ahead c.old)) (ahead c.new) }
-    ensures same { c.new.all ≡ c.old.all }
-    ensures onward { c.old.at ≤ c.new.at }
+) -> Result<Option<ParameterNode>, ParseStop>
+    ensures gives { Gives (λ x. (option_map parameter_of x, s.new)) result (item_or_end (next_is (is_sign Ellipsis)) (take (is_sign Ellipsis)) (parameter (below height)) s.old (ahead c.old)) (ahead c.new) }
+    ensures onward { Onward c.old c.new }
     ensures further { IfOk result (λ _. c.old.at < c.new.at) }
-    ensures tall { IfOk result (λ x. IfSome x (λ y. y.1 ≡ parameter_height (parameter_of y.0))) }
-    ensures low { IfOk result (λ x. IfSome x (λ y. y.1 < height)) }
 {
     take_sign(c, Punctuator::Comma)?;
     if at_sign(c, Punctuator::Ellipsis) {
@@ -106,35 +82,25 @@ pub(crate) fn next_parameter<L: TokenList>(
 
 /// All parameters behind some, and whether `, ...` ends them.
 #[cycle(reading)]
-#[tactic(auto, using(crate::proofs::ListLoops::ending_from, crate::proofs::ListLoops::ending_next, crate::proofs::ListLoops::ending_stops, crate::proofs::ListLoops::ending_last, crate::proofs::ListLoops::ending_ends, crate::proofs::TreeLists::tall_parameters))]
+#[tactic(auto, using(crate::proofs::ListLoops::ending_from, crate::proofs::ListLoops::ending_next, crate::proofs::ListLoops::ending_stops, crate::proofs::ListLoops::ending_last, crate::proofs::ListLoops::ending_ends))]
 pub(crate) fn more_parameters<L: TokenList>(
     alloc: Global,
     c: &mut Cursor<L>,
     s: &mut Scopes,
     height: u32,
-    first: Vec<Parameter>,
-    first_height: u32,
-) -> Result<(Vec<Parameter>, bool, u32), ParseStop>
-    requires tall { first_height ≡ parameters_height (parameters_of first.items) }
-    requires low { first_height < height }
-    ensures gives { Gives (λ x. ((map parameter_of x.0.items, x.1), s.new)) result (more_listed_to (next_is (is_sign Ellipsis)) (take (is_sign Ellipsis)) (parameter (below height)) ((map parameter_of first.items, false), s.old) (ahead c.old)) (ahead c.new) }
-    ensures same { c.new.all ≡ c.old.all }
-    ensures onward { c.old.at ≤ c.new.at }
-    ensures tall { IfOk result (λ x. x.2 ≡ parameters_height (parameters_of x.0.items)) }
-    ensures low { IfOk result (λ x. x.2 < height) }
+    first: ParameterList,
+) -> Result<(ParameterList, bool), ParseStop>
+    ensures gives { Gives (λ x. ((map parameter_of x.0, x.1), s.new)) result (more_listed_to (next_is (is_sign Ellipsis)) (take (is_sign Ellipsis)) (parameter (below height)) ((map parameter_of first, false), s.old) (ahead c.old)) (ahead c.new) }
+    ensures onward { Onward c.old c.new }
 {
     let mut ps = first;
-    let mut ps_height = first_height;
     while at_sign(c, Punctuator::Comma) {
         match next_parameter(alloc, c, s, height)? {
-            Some((p, p_height)) => {
-                ps.push(p)?;
-                ps_height = ps_height.max(p_height);
-            }
-            None => return Ok((ps, true, ps_height)),
+            Some(p) => ps.push(p)?,
+            None => return Ok((ps, true)),
         }
     }
-    Ok((ps, false, ps_height))
+    Ok((ps, false))
 }
 
 /// Parameters: at least one, and whether `, ...` ends them (C11 6.7.6).
@@ -144,17 +110,14 @@ pub(crate) fn parameters<L: TokenList>(
     c: &mut Cursor<L>,
     s: &mut Scopes,
     height: u32,
-) -> Result<(Vec<Parameter>, bool, u32), ParseStop>
-    ensures gives { Gives (λ x. ((map parameter_of x.0.items, x.1), s.new)) result (parameters (below height) s.old (ahead c.old)) (ahead c.new) }
-    ensures same { c.new.all ≡ c.old.all }
-    ensures onward { c.old.at ≤ c.new.at }
-    ensures tall { IfOk result (λ x. x.2 ≡ parameters_height (parameters_of x.0.items)) }
-    ensures low { IfOk result (λ x. x.2 < height) }
+) -> Result<(ParameterList, bool), ParseStop>
+    ensures gives { Gives (λ x. ((map parameter_of x.0, x.1), s.new)) result (parameters (below height) s.old (ahead c.old)) (ahead c.new) }
+    ensures onward { Onward c.old c.new }
 {
-    let (p, p_height) = parameter(alloc, c, s, height)?;
-    let mut ps = Vec::new(alloc);
+    let p = parameter(alloc, c, s, height)?;
+    let mut ps = ParameterList::new(alloc);
     ps.push(p)?;
-    more_parameters(alloc, c, s, height, ps, p_height)
+    more_parameters(alloc, c, s, height, ps)
 }
 
 /// `parameters )`, in a scope of their own (C11 6.2.1p4).
@@ -166,25 +129,16 @@ pub(crate) fn prototyped<L: TokenList>(
     s: &mut Scopes,
     height: u32,
     at: u32,
-    d: Declarator,
-    d_height: u32,
-) -> Result<(Declarator, u32), ParseStop>
-    requires tall { d_height ≡ declarator_height (declarator_of d) }
-    requires low { d_height < height }
-    ensures gives { Gives (λ x. (declarator_of x.0, s.new)) result (prototyped (below height) at (declarator_of d, s.old) (ahead c.old)) (ahead c.new) }
-    ensures same { c.new.all ≡ c.old.all }
-    ensures onward { c.old.at ≤ c.new.at }
-    ensures tall { IfOk result (λ x. x.1 ≡ declarator_height (declarator_of x.0)) }
-    ensures low { IfOk result (λ x. x.1 ≤ height) }
+    d: DeclaratorNode,
+) -> Result<DeclaratorNode, ParseStop>
+    ensures gives { Gives (λ x. (declarator_of x, s.new)) result (prototyped (below height) at (declarator_of d, s.old) (ahead c.old)) (ahead c.new) }
+    ensures onward { Onward c.old c.new }
 {
     s.enter()?;
-    let (ps, variadic, ps_height) = parameters(alloc, c, s, height)?;
+    let (ps, variadic) = parameters(alloc, c, s, height)?;
     take_sign(c, Punctuator::RightParen)?;
     s.leave();
-    Ok((
-        function_of(alloc, at, d, ps, variadic)?,
-        d_height.max(ps_height) + 1,
-    ))
+    Ok(function_of(alloc, at, d, ps, variadic)?)
 }
 
 /// All identifiers of a list behind some.
@@ -195,8 +149,7 @@ fn more_identifiers<L: TokenList>(
     first: Vec<NameId>,
 ) -> Result<Vec<NameId>, ParseStop>
     ensures gives { Gives (λ ns. ns.items) result (more_identifiers s.now first.items (ahead c.old)) (ahead c.new) }
-    ensures same { c.new.all ≡ c.old.all }
-    ensures onward { c.old.at ≤ c.new.at }
+    ensures onward { Onward c.old c.new }
 {
     let mut ns = first;
     while at_sign(c, Punctuator::Comma) {
@@ -209,8 +162,7 @@ fn more_identifiers<L: TokenList>(
 /// An identifier behind a comma.
 fn next_identifier<L: TokenList>(c: &mut Cursor<L>, s: &Scopes) -> Result<NameId, ParseStop>
     ensures gives { Gives (λ n. n) result (comma_identifier s.now (ahead c.old)) (ahead c.new) }
-    ensures same { c.new.all ≡ c.old.all }
-    ensures onward { c.old.at ≤ c.new.at }
+    ensures onward { Onward c.old c.new }
     ensures further { IfOk result (λ _. c.old.at < c.new.at) }
 {
     take_sign(c, Punctuator::Comma)?;
@@ -224,8 +176,7 @@ fn identifiers<L: TokenList>(
     s: &Scopes,
 ) -> Result<Vec<NameId>, ParseStop>
     ensures gives { Gives (λ ns. ns.items) result (identifiers s.now (ahead c.old)) (ahead c.new) }
-    ensures same { c.new.all ≡ c.old.all }
-    ensures onward { c.old.at ≤ c.new.at }
+    ensures onward { Onward c.old c.new }
 {
     let n = take_identifier(c, s)?;
     let mut ns = Vec::new(alloc);
@@ -238,22 +189,15 @@ pub(crate) fn unprototyped<L: TokenList>(
     alloc: Global,
     c: &mut Cursor<L>,
     s: &Scopes,
-    height: u32,
     at: u32,
-    d: Declarator,
-    d_height: u32,
-) -> Result<(Declarator, u32), ParseStop>
-    requires tall { d_height ≡ declarator_height (declarator_of d) }
-    requires low { d_height < height }
-    ensures gives { Gives (λ x. (declarator_of x.0, s.now)) result (unprototyped at (declarator_of d, s.now) (ahead c.old)) (ahead c.new) }
-    ensures same { c.new.all ≡ c.old.all }
-    ensures onward { c.old.at ≤ c.new.at }
-    ensures tall { IfOk result (λ x. x.1 ≡ declarator_height (declarator_of x.0)) }
-    ensures low { IfOk result (λ x. x.1 ≤ height) }
+    d: DeclaratorNode,
+) -> Result<DeclaratorNode, ParseStop>
+    ensures gives { Gives (λ x. (declarator_of x, s.now)) result (unprototyped at (declarator_of d, s.now) (ahead c.old)) (ahead c.new) }
+    ensures onward { Onward c.old c.new }
 {
     let ns = identifiers(alloc, c, s)?;
     take_sign(c, Punctuator::RightParen)?;
-    Ok((unprototyped_of(alloc, at, d, ns)?, d_height + 1))
+    Ok(unprototyped_of(alloc, at, d, ns)?)
 }
 
 /// `)`
@@ -261,24 +205,14 @@ pub(crate) fn without_parameters<L: TokenList>(
     alloc: Global,
     c: &mut Cursor<L>,
     s: &Scopes,
-    height: u32,
     at: u32,
-    d: Declarator,
-    d_height: u32,
-) -> Result<(Declarator, u32), ParseStop>
-    requires tall { d_height ≡ declarator_height (declarator_of d) }
-    requires low { d_height < height }
-    ensures gives { Gives (λ x. (declarator_of x.0, s.now)) result (without_parameters at (declarator_of d, s.now) (ahead c.old)) (ahead c.new) }
-    ensures same { c.new.all ≡ c.old.all }
-    ensures onward { c.old.at ≤ c.new.at }
-    ensures tall { IfOk result (λ x. x.1 ≡ declarator_height (declarator_of x.0)) }
-    ensures low { IfOk result (λ x. x.1 ≤ height) }
+    d: DeclaratorNode,
+) -> Result<DeclaratorNode, ParseStop>
+    ensures gives { Gives (λ x. (declarator_of x, s.now)) result (without_parameters at (declarator_of d, s.now) (ahead c.old)) (ahead c.new) }
+    ensures onward { Onward c.old c.new }
 {
     take_sign(c, Punctuator::RightParen)?;
-    Ok((
-        unprototyped_of(alloc, at, d, Vec::new(alloc))?,
-        d_height + 1,
-    ))
+    Ok(unprototyped_of(alloc, at, d, Vec::new(alloc))?)
 }
 
 /// Whether identifiers stand here: the declarator may be that of a definition, and nothing was derived yet (C11 6.7.6.3p3, 6.9.1p5).
@@ -302,22 +236,16 @@ pub(crate) fn function_behind<L: TokenList>(
     height: u32,
     form: DeclaratorForm,
     at: u32,
-    d: Declarator,
-    d_height: u32,
-) -> Result<(Declarator, u32), ParseStop>
-    requires tall { d_height ≡ declarator_height (declarator_of d) }
-    requires low { d_height < height }
-    ensures gives { Gives (λ x. (declarator_of x.0, s.new)) result (function_of (below height) form at (declarator_of d, s.old) (ahead c.old)) (ahead c.new) }
-    ensures same { c.new.all ≡ c.old.all }
-    ensures onward { c.old.at ≤ c.new.at }
-    ensures tall { IfOk result (λ x. x.1 ≡ declarator_height (declarator_of x.0)) }
-    ensures low { IfOk result (λ x. x.1 ≤ height) }
+    d: DeclaratorNode,
+) -> Result<DeclaratorNode, ParseStop>
+    ensures gives { Gives (λ x. (declarator_of x, s.new)) result (function_of (below height) form at (declarator_of d, s.old) (ahead c.old)) (ahead c.new) }
+    ensures onward { Onward c.old c.new }
 {
     if at_sign(c, Punctuator::RightParen) {
-        return without_parameters(alloc, c, s, height, at, d, d_height);
+        return without_parameters(alloc, c, s, at, d);
     }
-    if begins_identifiers(c, s, form, &d) {
-        return unprototyped(alloc, c, s, height, at, d, d_height);
+    if begins_identifiers(c, s, form, d.tree()) {
+        return unprototyped(alloc, c, s, at, d);
     }
-    prototyped(alloc, c, s, height, at, d, d_height)
+    prototyped(alloc, c, s, height, at, d)
 }

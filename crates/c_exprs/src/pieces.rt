@@ -1,8 +1,8 @@
-ghost use Rattle.std.specs.Prelude.{◌≡◌, ◌≤◌, true, not, ◌&&◌, IfSome};
-ghost use Rattle.c_exprs.specs.Given.{least_height};
+ghost use Rattle.std.specs.Prelude.{◌≡◌, not, ◌&&◌};
 ghost use Rattle.typedef_scopes.specs.Scopes.{is_type};
 ghost use Rattle.c_exprs.specs.declared.words.Piece.TheVariants.{Name as NamePiece};
-ghost use Rattle.c_exprs.specs.Classes.{if_so, fitting, piece_word, piece_kind, in_type_name, piece_fits, qualifier_word_kind, qualifier_kind, begins_type_name, begins_parameter};
+ghost use Rattle.c_cursor.specs.Classes.{if_so, fitting};
+ghost use Rattle.c_exprs.specs.Classes.{piece_word, piece_kind, in_type_name, piece_fits, qualifier_word_kind, qualifier_kind, begins_type_name, begins_parameter};
 
 use crate::words::{Piece, SpecifierForm};
 use c_tree::{BasicType, FunctionSpecifier, Qualifier, StorageClass, StructKind};
@@ -72,7 +72,6 @@ fn in_type_name(form: SpecifierForm) -> bool
 /// Whether specifiers of that form and height may have one that begins so.
 fn piece_fits(height: u32, form: SpecifierForm, piece: Piece) -> bool
     ensures is { result ≡ piece_fits height form piece }
-    ensures fits { result ≡ true → least_height piece ≤ height }
 {
     match piece {
         Piece::Storage(_) => !in_type_name(form),
@@ -95,7 +94,6 @@ pub(crate) fn piece_for(
     kind: TokenKind,
 ) -> Option<Piece>
     ensures is { result ≡ fitting (piece_fits height form) (piece_kind typed s.now kind) }
-    ensures fits { IfSome result (λ k. least_height k ≤ height) }
 {
     match piece_kind(typed, s, kind) {
         Some(piece) if piece_fits(height, form, piece) => Some(piece),

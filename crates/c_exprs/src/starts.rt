@@ -1,7 +1,8 @@
 ghost use Rattle.std.specs.Prelude.{◌≡◌, ◌≤◌, true, not, IfSome};
 ghost use Rattle.typedef_scopes.specs.Scopes.{is_type};
 ghost use Rattle.c_exprs.specs.declared.words.Start.TheVariants.{Name as NameStart};
-ghost use Rattle.c_exprs.specs.Classes.{if_so, fitting, step_sign_kind, start_word_kind, start_kind, start_fits};
+ghost use Rattle.c_cursor.specs.Classes.{if_so, fitting};
+ghost use Rattle.c_exprs.specs.Classes.{step_sign_kind, start_word_kind, start_kind, start_fits};
 
 use crate::words::Start;
 use c_tree::{Level, StepOp, UnaryOp, rank};

@@ -12,11 +12,13 @@ use Rattle.c_tree.specs.Height.{declaration_height, stmt_height, item_of_block_h
 use Rattle.c_tree.specs.Levels.{takes_else, levelled_declaration, levelled_stmt, levelled_block_item, levelled_block}
 use Rattle.c_tree.specs.Placed.{placed_block_item, placed_block}
 use Rattle.c_tree.specs.Scoped.{entered, scoped_declaration, scoped_stmt, scoped_block_item, scoped_block, after_block_item}
-use Rattle.c_exprs.specs.Readers.{Input, head}
-use Rattle.c_exprs.specs.Classes.{is_sign, next_is, next_is_not, is_some_of, if_so}
+use Rattle.c_cursor.specs.Readers.{Input, head}
+use Rattle.c_cursor.specs.Classes.{is_sign, next_is, next_is_not, if_so}
+use Rattle.c_exprs.specs.Classes.{is_some_of}
 use Rattle.c_exprs.specs.Subs.{In, grow}
 use Rattle.c_exprs.proofs.Laws.{Lawful, Faults, Any, Anywhere, And, At, Steps, Mapped, Behind, Before, Both, Either, Met, Unmet, Under, There, Opens, bare, mapped_lawful, behind_lawful, before_lawful, when_lawful, guard_lawful, guard_known, many_lawful, opens_lawful, there_lawful, said, known}
-use Rattle.c_exprs.proofs.Tokens.{eq_true, true_eq, both, le_true, true_le, sign_tells}
+use Rattle.c_cursor.proofs.Tokens.{eq_true, true_eq}
+use Rattle.c_exprs.proofs.Tokens.{both, le_true, true_le, sign_tells}
 use Rattle.c_exprs.proofs.Relations.{Below}
 use Rattle.c_exprs.proofs.Lists.{grown, Grows, Over, Rest, rest_of_steps, steps_of_rest, Last, last_of, of_last, all_last}
 use Rattle.c_parser.specs.declared.words.StatementWord.TheVariants.{Block as BlockStart}

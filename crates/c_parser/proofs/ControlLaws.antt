@@ -17,13 +17,15 @@ use Rattle.c_tree.specs.Height.{expr_height, maybe_height, start_height, stmt_he
 use Rattle.c_tree.specs.Levels.{rank, binary_level, logical_level, is_within, levelled, levelled_maybe, levelled_start, levelled_stmt, takes_else}
 use Rattle.c_tree.specs.Placed.{placed_expr, placed_maybe, placed_start, placed_stmt}
 use Rattle.c_tree.specs.Scoped.{entered, scoped_expr, scoped_maybe, scoped_start, scoped_stmt, after_expr, after_maybe, after_start, after_stmt}
-use Rattle.c_exprs.specs.Readers.{head}
-use Rattle.c_exprs.specs.Classes.{is_sign, next_is, a_name, is_some_of, step_sign_kind}
+use Rattle.c_cursor.specs.Readers.{head}
+use Rattle.c_cursor.specs.Classes.{is_sign, next_is, a_name}
+use Rattle.c_exprs.specs.Classes.{is_some_of, step_sign_kind}
 use Rattle.c_exprs.specs.GoesOn.{goes_on_expr}
 use Rattle.c_exprs.specs.Subs.{In}
 use Rattle.c_exprs.proofs.Laws
 use Rattle.c_exprs.proofs.Laws.{Lawful, Any, Anywhere, Next, And, At, Token, Mapped, Behind, Before, Both, Either, Met, Unmet, Under, There, Gives, bare, bind_lawful, mapped_lawful, behind_lawful, before_lawful, pure_lawful, when_lawful, guard_lawful, one_lawful, there_lawful, fact_lawful, said, known, ended}
-use Rattle.c_exprs.proofs.Tokens.{eq_true, true_eq, both, not_true, le_true, true_le, sign_tells, a_name_is}
+use Rattle.c_cursor.proofs.Tokens.{eq_true, true_eq}
+use Rattle.c_exprs.proofs.Tokens.{both, not_true, le_true, true_le, sign_tells, a_name_is}
 use Rattle.c_exprs.proofs.Heads.{expr_starts, no_sign_starts}
 use Rattle.c_exprs.proofs.Relations.{Below, ExprIs}
 use Rattle.c_exprs.proofs.Arguments.{tall}

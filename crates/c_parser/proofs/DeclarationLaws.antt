@@ -17,13 +17,16 @@ use Rattle.c_tree.specs.Placed.{placed_expr, placed_specifiers, placed_declarato
 use Rattle.c_tree.specs.Scoped.{name_of, first_name, first_init_name, has_typedef, has_type_specifier, stands_behind, declared_if, scoped_specifiers, scoped_declarator, scoped_maybe_init, scoped_init_declarator, scoped_init_declarators, after_expr, after_specifiers, after_declarator, after_named, after_maybe_init, after_init_declarator, after_init_declarators}
 use Rattle.c_exprs.specs.declared.words.SpecifierForm.TheVariants.{Declaration as InDeclaration}
 use Rattle.c_exprs.specs.declared.words.DeclaratorForm.TheVariants.{Member as InMember}
-use Rattle.c_exprs.specs.Readers.{head}
-use Rattle.c_exprs.specs.Classes.{is_sign, is_assert_word, is_literal, next_is, a_literal, begins_parameter}
+use Rattle.c_cursor.specs.Readers.{head}
+use Rattle.c_cursor.specs.Classes.{is_sign, is_assert_word, is_literal, next_is, a_literal}
+use Rattle.c_exprs.specs.Classes.{begins_parameter}
 use Rattle.c_exprs.specs.GoesOn.{goes_on_typed, goes_on_specifiers, goes_on_declarator}
-use Rattle.c_exprs.specs.Subs.{In, comma_ahead, some_literals}
+use Rattle.c_exprs.specs.Subs.{In, comma_ahead}
+use Rattle.c_cursor.specs.Literals.{some_literals}
 use Rattle.c_exprs.proofs.Laws
 use Rattle.c_exprs.proofs.Laws.{Lawful, Any, Anywhere, And, At, Steps, Token, Mapped, Behind, Before, Both, Either, Met, Unmet, There, Opens, Gives, Numbers, bare, bind_lawful, mapped_lawful, behind_lawful, before_lawful, pure_lawful, when_lawful, one_lawful, here_lawful, opens_lawful, opens_begins, there_lawful, said, known, ended}
-use Rattle.c_exprs.proofs.Tokens.{eq_true, true_eq, both, not_true, or_true, sign_tells, assert_tells, a_literal_is}
+use Rattle.c_cursor.proofs.Tokens.{eq_true, true_eq}
+use Rattle.c_exprs.proofs.Tokens.{both, not_true, or_true, sign_tells, assert_tells, a_literal_is}
 use Rattle.c_exprs.proofs.Heads.{apart, declarator_begins}
 use Rattle.c_exprs.proofs.Relations.{Below, ExprIs, SpecifiersIs, DeclaratorIs, EndsDeclarator}
 use Rattle.c_exprs.proofs.Lists.{Over, Rest, AfterComma, Listed, listed_lawful, Last, all_last}

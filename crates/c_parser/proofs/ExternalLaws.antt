@@ -16,12 +16,13 @@ use Rattle.c_tree.specs.Placed.{placed_specifiers, placed_declarator, placed_may
 use Rattle.c_tree.specs.Scoped.{entered, name_of, first_name, has_typedef, has_type_specifier, stands_behind, declared_if, scoped_specifiers, scoped_declarator, scoped_init_declarator, scoped_init_declarators, scoped_declaration, scoped_declarations, scoped_block, scoped_body, scoped_external, after_specifiers, after_declarator, after_named, after_init_declarator, after_init_declarators, after_declaration, after_declarations, after_own_list, after_external}
 use Rattle.c_exprs.specs.declared.words.SpecifierForm.TheVariants.{Declaration as InDeclaration}
 use Rattle.c_exprs.specs.declared.words.DeclaratorForm.TheVariants.{Definition as InDefinition, Member as InMember}
-use Rattle.c_exprs.specs.Readers.{head, pick}
-use Rattle.c_exprs.specs.Classes.{is_sign, is_assert_word, next_is}
+use Rattle.c_cursor.specs.Readers.{head, pick}
+use Rattle.c_cursor.specs.Classes.{is_sign, is_assert_word, next_is}
 use Rattle.c_exprs.specs.GoesOn.{goes_on_specifiers, goes_on_name, goes_on_declarator}
 use Rattle.c_exprs.specs.Subs.{In, grow, comma_ahead}
 use Rattle.c_exprs.proofs.Laws.{Lawful, Any, Anywhere, Next, And, At, Steps, Mapped, Behind, Before, Both, Either, Met, Unmet, Under, There, Opens, Gives, Numbers, bare, bind_lawful, mapped_lawful, behind_lawful, before_lawful, pure_lawful, when_lawful, many_lawful, here_lawful, opens_lawful, opens_begins, there_lawful, fact_lawful, said, known, ended}
-use Rattle.c_exprs.proofs.Tokens.{eq_true, true_eq, both, none_of, not_true, or_true, sign_tells}
+use Rattle.c_cursor.proofs.Tokens.{eq_true, true_eq}
+use Rattle.c_exprs.proofs.Tokens.{both, none_of, not_true, or_true, sign_tells}
 use Rattle.c_exprs.proofs.Heads.{apart}
 use Rattle.c_exprs.proofs.Relations.{Below, SpecifiersIs, DeclaratorIs, EndsDeclarator}
 use Rattle.c_exprs.proofs.Lists.{grown, Grows, Over, Rest, rest_of_steps, steps_of_rest, AfterComma, more_listed_lawful, Last, all_last}

@@ -7,11 +7,11 @@ use Rattle.c_tree.specs.Syntax.{DeclaratorTree, InitTree}
 use Rattle.c_tree.specs.Units.{Declares, ExternalTree, External}
 use Rattle.c_tree.specs.View.{specifiers_of}
 use Rattle.c_tree.specs.Scoped.{name_of, has_typedef, declared_if}
-use Rattle.c_exprs.specs.declared.stops.ParseStop.{ParseStop}
+use Rattle.c_cursor.specs.declared.stops.ParseStop.{ParseStop}
 use Rattle.c_exprs.specs.declared.words.DeclaratorForm.TheVariants.{Definition as InDefinition}
-use Rattle.c_exprs.specs.Readers.{Input, and_then, bind, pure}
-use Rattle.c_exprs.specs.Classes.{is_sign, take}
-use Rattle.c_exprs.specs.Given.{Gives}
+use Rattle.c_cursor.specs.Readers.{Input, and_then, bind, pure}
+use Rattle.c_cursor.specs.Classes.{is_sign, take}
+use Rattle.c_cursor.specs.Given.{Gives}
 use Rattle.c_exprs.specs.Subs.{In, more_listed}
 use Rattle.c_parser.specs.Parts.{Parts}
 use Rattle.c_parser.specs.DeclarationReading.{init_declarator, naming}

@@ -13,9 +13,9 @@ use Rattle.c_tree.specs.Units.{DeclarationTree, Declares, Asserts, StmtTree, Lab
 use Rattle.c_tree.specs.View.{expr_of}
 use Rattle.c_tree.specs.UnitView.{declaration_of, stmt_of}
 use Rattle.c_tree.specs.Scoped.{name_of, has_typedef, after_expr, after_specifiers, after_declarator, after_maybe, after_maybe_init, after_named, after_init_declarator, after_init_declarators, after_declaration, after_stmt, after_parameters, declared_all, after_own_list}
-use Rattle.c_exprs.specs.declared.stops.ParseStop.{ParseStop}
-use Rattle.c_exprs.specs.Readers.{Input}
-use Rattle.c_exprs.specs.Given.{Gives}
+use Rattle.c_cursor.specs.declared.stops.ParseStop.{ParseStop}
+use Rattle.c_cursor.specs.Readers.{Input}
+use Rattle.c_cursor.specs.Given.{Gives}
 use Rattle.c_exprs.specs.DeclaratorReading.{outer_of}
 use Rattle.c_exprs.proofs.LeaveLemmas.{left_outer, two_of_outer}
 use Rattle.c_exprs.proofs.ScopeLemmas.{outer_declared, outer_declared_if, outer_expr, outer_specifiers, outer_declarator, outer_init, outer_parameters}
@@ -23,7 +23,7 @@ use Rattle.c_exprs.specs.Reading.{readings, below}
 use Rattle.c_parser.specs.DeclarationReading.{declaration}
 use Rattle.c_parser.specs.StatementReading.{statement}
 use Rattle.c_parser.specs.UnitReading.{lower}
-use Rattle.c_parser.proofs.Lower.{lower_expr, lower_declaration, lower_statement}
+use Rattle.c_parser.proofs.Lower.{expr_same, lower_declaration, lower_statement}
 use Rattle.c_parser.proofs.UnitLaws.{lower_lawful}
 
 outer_maybe : (ds : List Scope) (e : Option ExprTree) → outer_of (after_maybe ds e) ≡ outer_of ds
@@ -64,13 +64,9 @@ outer_stmt ds (Return at e) = outer_maybe ds e
 expr_read : (h : ℕ) (level : Level) (ds es : List Scope) (e : ExprTree) (i j : Input) → (lower h).trees.expr level ds i ≡ Ok ((e, es), j) → outer_of es ≡ outer_of ds
 expr_read h level ds es e i j read = let t = ((lower_lawful h).trees.expr level ds).takes i.at i.rest (e, es) j tt read in ap outer_of t.holds.good.after ∙ outer_expr ds e
 
-expr_kept : (r : Result Expr ParseStop) (h : ℕ) (level : Level) (ds es : List Scope) (i j : Input) → Gives (λ x. (expr_of x, es)) r ((lower h).trees.expr level ds i) j → IfOk r (λ _. outer_of es ≡ outer_of ds)
-expr_kept (Ok x) h level ds es i j g = expr_read h level ds es (expr_of x) i j g
-expr_kept (Err e) h level ds es i j g = tt
-
 -- the same of what the code reads, which is of one height less
-pub expr_kept_below : (r : Result Expr ParseStop) (h : ℕ) (level : Level) (ds es : List Scope) (i j : Input) → 1 ≤ h → Gives (λ x. (expr_of x, es)) r ((readings (h - 1) (below (h - 1))).expr level ds i) j → IfOk r (λ _. outer_of es ≡ outer_of ds)
-expr_kept_below r h level ds es i j le g = expr_kept r h level ds es i j (lower_expr (λ x. (expr_of x, es)) r h level ds i j le g)
+pub expr_kept_below : (h : ℕ) (level : Level) (ds es : List Scope) (e : ExprTree) (i j : Input) → 1 ≤ h → (readings (h - 1) (below (h - 1))).expr level ds i ≡ Ok ((e, es), j) → outer_of es ≡ outer_of ds
+expr_kept_below h level ds es e i j le read = expr_read h level ds es e i j (expr_same h level ds i le ∙ read)
 
 declaration_read : (h : ℕ) (ds es : List Scope) (d : DeclarationTree) (i j : Input) → (lower h).declaration ds i ≡ Ok ((d, es), j) → outer_of es ≡ outer_of ds
 declaration_read h ds es d i j read = let t = ((lower_lawful h).declaration ds).takes i.at i.rest (d, es) j tt read in ap outer_of t.holds.after ∙ outer_declaration ds d

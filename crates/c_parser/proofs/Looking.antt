@@ -4,8 +4,9 @@ use Rattle.cil_base.specs.declared.numbers.NameId.{NameId}
 use Rattle.cil_base.specs.declared.tokens.Punctuator.TheVariants.{Colon}
 use Rattle.c_tree.specs.Spelling.{Lexeme, named}
 use Rattle.typedef_scopes.specs.Scopes.{Scope, is_type}
-use Rattle.c_exprs.specs.Readers.{Input, input, Reader, head, here, bind, pick}
-use Rattle.c_exprs.specs.Classes.{is_sign, next_is, a_name, is_some_of, fitting}
+use Rattle.c_cursor.specs.Readers.{Input, input, Reader, head, here, bind, pick}
+use Rattle.c_cursor.specs.Classes.{is_sign, next_is, a_name, fitting}
+use Rattle.c_exprs.specs.Classes.{is_some_of}
 use Rattle.c_exprs.proofs.Laws.{Lawful, Faults, Taken, Any, Next, At, There, Numbers, Both, Either, Met, Unmet, bind_lawful, here_lawful, said, known, same_fault, not_both, fitting_is, none_is_no}
 use Rattle.c_exprs.proofs.Tokens.{a_name_is}
 use Rattle.c_parser.specs.StatementWords.{name_ahead, type_ahead, label_ahead, when_label}

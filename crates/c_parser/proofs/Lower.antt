@@ -1,14 +1,14 @@
 -- The readings of parts below a height: none below 0, and otherwise those of one height less.
-use Rattle.std.proofs.Common.{◌≡◌, refl, subst, ℕ, zero, suc, ◌-◌, ◌<◌, ◌≤◌, arith, List, Result, Err}
+use Rattle.std.proofs.Common.{◌≡◌, refl, sym, subst, ℕ, zero, suc, ◌-◌, ◌<◌, ◌≤◌, arith, List, Result, Err}
 use Rattle.typedef_scopes.specs.Scopes.{Scope}
 use Rattle.c_tree.specs.declared.level.Level.{Level}
 use Rattle.c_tree.specs.Syntax.{ExprTree, SpecifierTrees, DeclaratorTree, InitTree}
 use Rattle.c_tree.specs.Units.{DeclarationTree, StmtTree, BlockItems}
-use Rattle.c_exprs.specs.declared.stops.ParseStop.{ParseStop}
+use Rattle.c_cursor.specs.declared.stops.ParseStop.{ParseStop}
 use Rattle.c_exprs.specs.declared.words.SpecifierForm.{SpecifierForm}
 use Rattle.c_exprs.specs.declared.words.DeclaratorForm.{DeclaratorForm}
-use Rattle.c_exprs.specs.Readers.{Input}
-use Rattle.c_exprs.specs.Given.{Gives}
+use Rattle.c_cursor.specs.Readers.{Input}
+use Rattle.c_cursor.specs.Given.{Gives, Fails}
 use Rattle.c_exprs.specs.Subs.{In}
 use Rattle.c_exprs.specs.InitReading.{initialiser}
 use Rattle.c_exprs.specs.Reading.{readings, below}
@@ -85,3 +85,35 @@ pub lower_body : {A : Type 0} (seen : A → BlockItems) (r : Result A ParseStop)
 unfolding lower below
 lower_body seen r zero ds i j le g = absurd (omega (arith, le))
 lower_body seen r (suc k) ds i j le g = let e : suc k - 1 ≡ k = omega arith in subst (λ m. Gives seen r (body m (lower m) ds i) j) e g
+
+pub expr_same : (h : ℕ) (level : Level) (ds : List Scope) (i : Input) → 1 ≤ h → (lower h).trees.expr level ds i ≡ (readings (h - 1) (below (h - 1))).expr level ds i
+unfolding lower below
+expr_same zero level ds i le = absurd (omega (arith, le))
+expr_same (suc k) level ds i le = let e : suc k - 1 ≡ k = omega arith in subst (λ m. (lower (suc k)).trees.expr level ds i ≡ (readings m (below m)).expr level ds i) (sym e) refl
+
+pub expr_fails : (e : ParseStop) (h : ℕ) (level : Level) (ds : List Scope) (i j : Input) → 1 ≤ h → Fails e ((readings (h - 1) (below (h - 1))).expr level ds i) j → Fails e ((lower h).trees.expr level ds i) j
+expr_fails e h level ds i j le f = lower_expr (λ (x : In ExprTree). x) (Err e) h level ds i j le f
+
+pub specifiers_same : (h : ℕ) (form : SpecifierForm) (ds : List Scope) (i : Input) → 1 ≤ h → (lower h).trees.specifiers form ds i ≡ (readings (h - 1) (below (h - 1))).specifiers form ds i
+unfolding lower below
+specifiers_same zero form ds i le = absurd (omega (arith, le))
+specifiers_same (suc k) form ds i le = let e : suc k - 1 ≡ k = omega arith in subst (λ m. (lower (suc k)).trees.specifiers form ds i ≡ (readings m (below m)).specifiers form ds i) (sym e) refl
+
+pub specifiers_fails : (e : ParseStop) (h : ℕ) (form : SpecifierForm) (ds : List Scope) (i j : Input) → 1 ≤ h → Fails e ((readings (h - 1) (below (h - 1))).specifiers form ds i) j → Fails e ((lower h).trees.specifiers form ds i) j
+specifiers_fails e h form ds i j le f = lower_specifiers (λ (x : In SpecifierTrees). x) (Err e) h form ds i j le f
+
+pub declarator_same : (h : ℕ) (form : DeclaratorForm) (ds : List Scope) (i : Input) → 1 ≤ h → (lower h).trees.declarator form ds i ≡ (readings (h - 1) (below (h - 1))).declarator form ds i
+unfolding lower below
+declarator_same zero form ds i le = absurd (omega (arith, le))
+declarator_same (suc k) form ds i le = let e : suc k - 1 ≡ k = omega arith in subst (λ m. (lower (suc k)).trees.declarator form ds i ≡ (readings m (below m)).declarator form ds i) (sym e) refl
+
+pub declarator_fails : (e : ParseStop) (h : ℕ) (form : DeclaratorForm) (ds : List Scope) (i j : Input) → 1 ≤ h → Fails e ((readings (h - 1) (below (h - 1))).declarator form ds i) j → Fails e ((lower h).trees.declarator form ds i) j
+declarator_fails e h form ds i j le f = lower_declarator (λ (x : In DeclaratorTree). x) (Err e) h form ds i j le f
+
+pub init_same : (h : ℕ) (ds : List Scope) (i : Input) → 1 ≤ h → (lower h).init ds i ≡ initialiser (h - 1) (below (h - 1)) ds i
+unfolding lower below
+init_same zero ds i le = absurd (omega (arith, le))
+init_same (suc k) ds i le = let e : suc k - 1 ≡ k = omega arith in subst (λ m. (lower (suc k)).init ds i ≡ initialiser m (below m) ds i) (sym e) refl
+
+pub init_fails : (e : ParseStop) (h : ℕ) (ds : List Scope) (i j : Input) → 1 ≤ h → Fails e (initialiser (h - 1) (below (h - 1)) ds i) j → Fails e ((lower h).init ds i) j
+init_fails e h ds i j le f = lower_init (λ (x : In InitTree). x) (Err e) h ds i j le f

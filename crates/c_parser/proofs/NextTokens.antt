@@ -6,10 +6,11 @@ use Rattle.cil_base.specs.declared.tokens.TokenKind.TheVariants.{Name as IsName,
 use Rattle.cil_base.specs.declared.tokens.Punctuator.TheVariants.{Colon}
 use Rattle.typedef_scopes.specs.Scopes.{Scope, is_type}
 use Rattle.c_tree.specs.Spelling.{Lexeme}
-use Rattle.c_exprs.specs.Readers.{head}
-use Rattle.c_exprs.specs.Classes.{is_sign, next_is, is_some_of, fitting, plain, if_so, name_kind, has_text}
-use Rattle.c_exprs.specs.Given.{IsNext, next_of}
-use Rattle.c_exprs.proofs.NextLemmas.{IsWordless, next_plain, names_plain}
+use Rattle.c_cursor.specs.Readers.{head}
+use Rattle.c_cursor.specs.Classes.{is_sign, next_is, fitting, plain, if_so, name_kind, has_text}
+use Rattle.c_exprs.specs.Classes.{is_some_of}
+use Rattle.c_cursor.specs.Given.{IsNext, next_of}
+use Rattle.c_cursor.proofs.NextLemmas.{IsWordless, next_plain, names_plain}
 use Rattle.c_parser.specs.StatementWords.{statement_kind, is_while_word, name_ahead, type_ahead, token_ahead, label_ahead}
 use Rattle.c_parser.specs.UnitForms.{is_else_word}
 

@@ -16,8 +16,9 @@ use Rattle.c_tree.specs.Height.{declaration_height, stmt_height}
 use Rattle.c_tree.specs.Levels.{has_specifier, has_names, declares, levelled, levelled_specifiers, levelled_declarator, levelled_maybe_init, levelled_init_declarator, levelled_init_declarators, levelled_declaration, levelled_stmt}
 use Rattle.c_tree.specs.Scoped.{scoped_expr, scoped_specifier, scoped_specifiers, scoped_declaration, scoped_stmt}
 use Rattle.c_exprs.specs.declared.words.Piece.TheVariants.{Name as NamePiece}
-use Rattle.c_exprs.specs.Readers.{head}
-use Rattle.c_exprs.specs.Classes.{is_sign, is_assert_word, next_is, next_is_not, plain, if_so, fitting, a_name, is_some_of, start_kind, start_word_kind, step_sign_kind, begins_parameter, piece_word}
+use Rattle.c_cursor.specs.Readers.{head}
+use Rattle.c_cursor.specs.Classes.{is_sign, is_assert_word, next_is, next_is_not, plain, if_so, fitting, a_name}
+use Rattle.c_exprs.specs.Classes.{is_some_of, start_kind, start_word_kind, step_sign_kind, begins_parameter, piece_word}
 use Rattle.c_exprs.proofs.Laws.{Tells, bare, if_so_is, plain_is, some_is, none_is_no}
 use Rattle.c_exprs.proofs.Tokens.{both, sign_tells, assert_tells, or_true}
 use Rattle.c_exprs.proofs.Heads.{Starts, expr_starts, apart, declarator_begins}

@@ -14,13 +14,15 @@ use Rattle.c_tree.specs.Height.{expr_height, stmt_height}
 use Rattle.c_tree.specs.Levels.{takes_else, levelled, levelled_stmt}
 use Rattle.c_tree.specs.Placed.{placed_expr, placed_maybe, placed_stmt}
 use Rattle.c_tree.specs.Scoped.{scoped_expr, scoped_stmt, after_expr}
-use Rattle.c_exprs.specs.Readers.{Input, input, head}
-use Rattle.c_exprs.specs.Classes.{is_sign, next_is, a_name, is_some_of}
+use Rattle.c_cursor.specs.Readers.{Input, input, head}
+use Rattle.c_cursor.specs.Classes.{is_sign, next_is, a_name}
+use Rattle.c_exprs.specs.Classes.{is_some_of}
 use Rattle.c_exprs.specs.GoesOn.{goes_on_expr, goes_on_level}
 use Rattle.c_exprs.specs.Subs.{In}
 use Rattle.c_exprs.proofs.Laws
 use Rattle.c_exprs.proofs.Laws.{Lawful, Faults, Any, Anywhere, And, At, Token, Mapped, Behind, Both, Either, Met, Unmet, Under, There, Opens, bare, bind_lawful, mapped_lawful, when_lawful, guard_known, one_lawful, fail_lawful, opens_lawful, there_lawful, said, known, either_right, same_value, same_fault, not_both}
-use Rattle.c_exprs.proofs.Tokens.{eq_true, true_eq, both, le_true, true_le, sign_tells, a_name_is}
+use Rattle.c_cursor.proofs.Tokens.{eq_true, true_eq}
+use Rattle.c_exprs.proofs.Tokens.{both, le_true, true_le, sign_tells, a_name_is}
 use Rattle.c_exprs.proofs.Heads.{Starts, expr_starts}
 use Rattle.c_exprs.proofs.Relations.{Below, ExprIs}
 use Rattle.c_exprs.proofs.Arguments.{tall}

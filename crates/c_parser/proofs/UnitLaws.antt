@@ -9,7 +9,7 @@ use Rattle.c_tree.specs.Levels.{has_some, levelled_declaration, levelled_stmt, l
 use Rattle.c_tree.specs.Placed.{placed_declaration, placed_stmt, placed_external, placed_unit}
 use Rattle.c_tree.specs.Scoped.{scoped_declaration, scoped_stmt, scoped_external, scoped_externals, after_external}
 use Rattle.c_tree.specs.Grammatical.{low_unit, is_grammatical}
-use Rattle.c_exprs.specs.Readers.{Input, input, Reader, head, fail, bind}
+use Rattle.c_cursor.specs.Readers.{Input, input, Reader, head, fail, bind}
 use Rattle.c_exprs.specs.Subs.{In, grow}
 use Rattle.c_exprs.specs.Reading.{below}
 use Rattle.c_exprs.specs.Answers.{Reads, Refuses}

@@ -11,7 +11,7 @@ use Rattle.c_tree.specs.Height.{maybe_height, declaration_height, stmt_height, i
 use Rattle.c_tree.specs.Levels.{levelled_maybe, levelled_declaration, levelled_stmt, levelled_block_item, levelled_block, levelled_external, takes_else}
 use Rattle.c_tree.specs.Placed.{placed_maybe, placed_declaration, placed_stmt, placed_block_item, placed_block, placed_external}
 use Rattle.c_tree.specs.Scoped.{scoped_maybe, scoped_declaration, scoped_stmt, scoped_block_item, scoped_block, scoped_external, after_maybe, after_declaration, after_stmt, after_block_item, after_external}
-use Rattle.c_exprs.specs.Classes.{next_is}
+use Rattle.c_cursor.specs.Classes.{next_is}
 use Rattle.c_exprs.specs.Subs.{In}
 use Rattle.c_exprs.proofs.Laws.{Lawful, Any, Anywhere}
 use Rattle.c_exprs.proofs.Relations.{LawfulSubs, Below}

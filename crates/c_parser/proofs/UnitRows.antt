@@ -12,7 +12,7 @@ use Rattle.c_tree.specs.declared.words.StepOp.TheVariants.{Increment}
 use Rattle.c_tree.specs.Syntax as t
 use Rattle.c_tree.specs.Units as u
 use Rattle.c_tree.specs.Spelling.{Lexeme, word, sign, named, integer}
-use Rattle.c_exprs.specs.Readers.{Input, input}
+use Rattle.c_cursor.specs.Readers.{Input, input}
 use Rattle.c_exprs.specs.Subs.{In}
 use Rattle.c_exprs.specs.Reading.{below}
 use Rattle.c_parser.specs.Externals.{file_scope}

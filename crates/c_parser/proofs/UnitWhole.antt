@@ -11,9 +11,9 @@ use Rattle.c_tree.specs.Units.{ExternalTree}
 use Rattle.c_tree.specs.UnitView.{external_of as tree_of}
 use Rattle.c_tree.specs.Spelling.{Lexeme}
 use Rattle.c_tree.specs.Levels.{has_some}
-use Rattle.c_exprs.specs.Readers.{Input, input, head, pure, bind, and_then, chain}
+use Rattle.c_cursor.specs.Readers.{Input, input, head, pure, bind, and_then, chain}
 use Rattle.c_exprs.specs.Subs.{In, grow}
-use Rattle.c_exprs.specs.Lexemes.{lexemes, lexeme_of}
+use Rattle.c_cursor.specs.Lexemes.{lexemes, lexeme_of}
 use Rattle.c_parser.specs.StatementWords.{token_ahead}
 use Rattle.c_parser.specs.Externals.{file_scope, greatest_height}
 use Rattle.c_parser.specs.UnitForms.{IsExternal}

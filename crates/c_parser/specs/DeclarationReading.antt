@@ -8,9 +8,10 @@ use Rattle.c_tree.specs.Units.{DeclarationTree, Declares, Asserts}
 use Rattle.c_tree.specs.Scoped.{name_of, has_typedef, declared_if}
 use Rattle.c_exprs.specs.declared.words.SpecifierForm.TheVariants.{Declaration as InDeclaration}
 use Rattle.c_exprs.specs.declared.words.DeclaratorForm.TheVariants.{Member as InMember}
-use Rattle.c_exprs.specs.Readers.{Reader, pure, here, bind, when}
-use Rattle.c_exprs.specs.Classes.{is_sign, is_assert_word, next_is, take}
-use Rattle.c_exprs.specs.Subs.{In, listed, some_literals}
+use Rattle.c_cursor.specs.Readers.{Reader, pure, here, bind, when}
+use Rattle.c_cursor.specs.Classes.{is_sign, is_assert_word, next_is, take}
+use Rattle.c_exprs.specs.Subs.{In, listed}
+use Rattle.c_cursor.specs.Literals.{some_literals}
 use Rattle.c_parser.specs.Parts.{Parts}
 
 -- `, message ) ;`

@@ -9,8 +9,8 @@ use Rattle.c_tree.specs.Levels.{has_own_names}
 use Rattle.c_tree.specs.Scoped.{entered, has_typedef, after_own_list}
 use Rattle.c_exprs.specs.declared.words.SpecifierForm.TheVariants.{Declaration as InDeclaration}
 use Rattle.c_exprs.specs.declared.words.DeclaratorForm.TheVariants.{Definition as InDefinition}
-use Rattle.c_exprs.specs.Readers.{Reader, pure, here, bind, when, pick, many}
-use Rattle.c_exprs.specs.Classes.{is_sign, is_assert_word, next_is, take}
+use Rattle.c_cursor.specs.Readers.{Reader, pure, here, bind, when, pick, many}
+use Rattle.c_cursor.specs.Classes.{is_sign, is_assert_word, next_is, take}
 use Rattle.c_exprs.specs.Subs.{In, grow, more_listed}
 use Rattle.c_parser.specs.StatementWords.{begins_declaration}
 use Rattle.c_parser.specs.Parts.{Parts}

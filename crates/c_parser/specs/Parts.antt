@@ -3,7 +3,7 @@ use Rattle.std.specs.Prelude.{List}
 use Rattle.typedef_scopes.specs.Scopes.{Scope}
 use Rattle.c_tree.specs.Syntax.{InitTree}
 use Rattle.c_tree.specs.Units.{DeclarationTree, StmtTree, BlockItems}
-use Rattle.c_exprs.specs.Readers.{Reader, fail}
+use Rattle.c_cursor.specs.Readers.{Reader, fail}
 use Rattle.c_exprs.specs.Subs.{In, Subs, nothing}
 
 pub record Parts : Type 0 where

@@ -7,8 +7,8 @@ use Rattle.c_tree.specs.declared.level.Level.TheVariants.{Conditional as Conditi
 use Rattle.c_tree.specs.Syntax.{ExprTree}
 use Rattle.c_tree.specs.Units.{ForStart, StartExpr, StartDeclaration, StmtTree, Labelled, Case, Default, Compound, Expression, If, IfElse, Switch, While, Do, For, Goto, Continue, Break, Return, BlockItem, Declaring, Doing, BlockItems, NoItems, MoreItems}
 use Rattle.c_tree.specs.Scoped.{entered}
-use Rattle.c_exprs.specs.Readers.{Reader, pure, fail, here, one, bind, when, guard, many}
-use Rattle.c_exprs.specs.Classes.{is_sign, next_is, next_is_not, take, a_name}
+use Rattle.c_cursor.specs.Readers.{Reader, pure, fail, here, one, bind, when, guard, many}
+use Rattle.c_cursor.specs.Classes.{is_sign, next_is, next_is_not, take, a_name}
 use Rattle.c_exprs.specs.Subs.{In, grow}
 use Rattle.c_parser.specs.declared.words.StatementWord.{StatementWord}
 use Rattle.c_parser.specs.declared.words.StatementWord.TheVariants.{Case as CaseStart, Default as DefaultStart, Block as BlockStart, If as IfStart, Switch as SwitchStart, While as WhileStart, Do as DoStart, For as ForBegin, Goto as GotoStart, Continue as ContinueStart, Break as BreakStart, Return as ReturnStart}

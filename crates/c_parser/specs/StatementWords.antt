@@ -8,8 +8,9 @@ use Rattle.cil_base.specs.declared.tokens.Punctuator.{Punctuator}
 use Rattle.cil_base.specs.declared.tokens.Punctuator.TheVariants.{LeftBrace, Colon}
 use Rattle.typedef_scopes.specs.Scopes.{Scope, is_type}
 use Rattle.c_tree.specs.Spelling.{Lexeme}
-use Rattle.c_exprs.specs.Readers.{Reader, head, pick}
-use Rattle.c_exprs.specs.Classes.{is_sign, is_assert_word, next_is, plain, if_so, fitting, a_name, is_some_of, begins_parameter}
+use Rattle.c_cursor.specs.Readers.{Reader, head, pick}
+use Rattle.c_cursor.specs.Classes.{is_sign, is_assert_word, next_is, plain, if_so, fitting, a_name}
+use Rattle.c_exprs.specs.Classes.{is_some_of, begins_parameter}
 use Rattle.c_parser.specs.declared.words.StatementWord.{StatementWord}
 use Rattle.c_parser.specs.declared.words.StatementWord.TheVariants.{Case, Default, Block, If, Switch, While, Do, For, Goto, Continue, Break, Return}
 

@@ -10,7 +10,7 @@ use Rattle.c_tree.specs.Spelling.{Lexeme}
 use Rattle.c_tree.specs.UnitSpelling.{spell_unit}
 use Rattle.c_tree.specs.Grammatical.{is_grammatical}
 use Rattle.c_exprs.specs.Answers.{Refuses}
-use Rattle.c_exprs.specs.Lexemes.{lexemes}
+use Rattle.c_cursor.specs.Lexemes.{lexemes}
 use Rattle.c_parser.specs.Externals.{file_scope, greatest_height}
 use Rattle.c_parser.specs.UnitForms.{IsExternal, never_goes}
 

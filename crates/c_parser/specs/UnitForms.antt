@@ -9,7 +9,7 @@ use Rattle.c_tree.specs.Spelling.{Lexeme}
 use Rattle.c_tree.specs.UnitSpelling.{spell_declaration, spell_stmt, spell_external}
 use Rattle.c_tree.specs.Levels.{takes_else}
 use Rattle.c_tree.specs.Scoped.{after_declaration, after_stmt, after_external}
-use Rattle.c_exprs.specs.Classes.{next_is}
+use Rattle.c_cursor.specs.Classes.{next_is}
 use Rattle.c_exprs.specs.Subs.{In}
 use Rattle.c_parser.specs.Externals.{grammatical_declaration, grammatical_statement, grammatical_external}
 

@@ -2,7 +2,7 @@
 use Rattle.std.specs.Prelude.{ℕ, zero, suc, List, [], ◌∷◌}
 use Rattle.typedef_scopes.specs.Scopes.{Scope}
 use Rattle.c_tree.specs.Units.{ExternalTree}
-use Rattle.c_exprs.specs.Readers.{Reader, bind, many}
+use Rattle.c_cursor.specs.Readers.{Reader, bind, many}
 use Rattle.c_exprs.specs.Subs.{In, grow}
 use Rattle.c_exprs.specs.Reading.{below}
 use Rattle.c_exprs.specs.InitReading.{initialiser}

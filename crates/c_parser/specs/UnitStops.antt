@@ -7,9 +7,9 @@ use Rattle.c_lexer.specs.Lexed.{Lexed, place_at}
 use Rattle.typedef_scopes.specs.Scopes.{Scope}
 use Rattle.c_tree.specs.Units.{ExternalTree}
 use Rattle.c_tree.specs.Spelling.{Lexeme}
-use Rattle.c_exprs.specs.Readers.{Input, input}
+use Rattle.c_cursor.specs.Readers.{Input, input}
 use Rattle.c_exprs.specs.Subs.{In}
-use Rattle.c_exprs.specs.Lexemes.{lexemes}
+use Rattle.c_cursor.specs.Lexemes.{lexemes}
 use Rattle.c_parser.specs.declared.stops.UnitStop.{UnitStop}
 use Rattle.c_parser.specs.declared.stops.UnitStop.TheVariants.{Syntax, Memory}
 use Rattle.c_parser.specs.Externals.{file_scope, greatest_height}

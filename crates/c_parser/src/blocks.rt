@@ -1,9 +1,9 @@
 ghost use Rattle.std.specs.Prelude.{◌≡◌, ◌≤◌, length, IfOk, MatchResult};
 ghost use Rattle.c_tree.specs.Scoped.{entered};
-ghost use Rattle.c_exprs.specs.declared.stops.ParseStop.TheVariants.{Memory as WantOfMemory};
+ghost use Rattle.c_cursor.specs.declared.stops.ParseStop.TheVariants.{Memory as WantOfMemory};
 ghost use Rattle.c_exprs.specs.DeclaratorReading.{outer_of};
 
-use c_exprs::ParseStop;
+use c_cursor::ParseStop;
 use typedef_scopes::Scopes;
 
 /// Begins a block (C11 6.2.1p4).

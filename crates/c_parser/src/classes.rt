@@ -1,6 +1,7 @@
 ghost use Rattle.std.specs.Prelude.{◌≡◌, ◌||◌};
 ghost use Rattle.cil_base.specs.declared.tokens.TokenKind.TheVariants.{Keyword as IsKeyword};
-ghost use Rattle.c_exprs.specs.Classes.{is_assert_word, is_some_of, piece_word};
+ghost use Rattle.c_cursor.specs.Classes.{is_assert_word};
+ghost use Rattle.c_exprs.specs.Classes.{is_some_of, piece_word};
 ghost use Rattle.c_parser.specs.StatementWords.{statement_word, statement_sign, statement_kind, is_while_word, begins_declaration};
 ghost use Rattle.c_parser.specs.UnitForms.{is_else_word};
 

@@ -3,13 +3,14 @@ ghost use Rattle.c_tree.specs.View.{specifiers_of, declarator_of};
 ghost use Rattle.c_tree.specs.UnitView.{init_declarator_of, declaration_of, block_of};
 ghost use Rattle.c_tree.specs.UnitView.{external_of as tree_of};
 ghost use Rattle.c_tree.specs.Scoped.{entered, has_typedef, after_own_list};
-ghost use Rattle.c_exprs.specs.declared.stops.ParseStop.TheVariants.{Memory as WantOfMemory};
-ghost use Rattle.c_exprs.specs.Lexemes.{ahead};
+ghost use Rattle.c_cursor.specs.declared.stops.ParseStop.TheVariants.{Memory as WantOfMemory};
+ghost use Rattle.c_cursor.specs.Lexemes.{ahead};
 ghost use Rattle.cil_base.specs.declared.tokens.Punctuator.TheVariants.{Semicolon};
 ghost use Rattle.c_tree.specs.Units as plain;
-ghost use Rattle.c_exprs.specs.Readers.{head, pure, bind};
-ghost use Rattle.c_exprs.specs.Classes.{is_sign, take};
-ghost use Rattle.c_exprs.specs.Given.{Gives};
+ghost use Rattle.c_cursor.specs.Readers.{head, pure, bind};
+ghost use Rattle.c_cursor.specs.Classes.{is_sign, take};
+ghost use Rattle.c_cursor.specs.Lexemes.{Onward};
+ghost use Rattle.c_cursor.specs.Given.{Gives};
 ghost use Rattle.c_exprs.specs.Subs.{In, more_listed};
 ghost use Rattle.c_exprs.specs.DeclaratorReading.{outer_of};
 ghost use Rattle.c_parser.specs.DeclarationReading.{init_declarator};
@@ -24,12 +25,14 @@ use crate::declarations::{
 use crate::nexts::at_declaration;
 use crate::own_list::declare_own_list;
 use crate::statements::body_below;
-use c_exprs::{Cursor, ParseStop, at_assert, at_sign, has_typedef, take_sign};
+use c_cursor::{Cursor, ParseStop, at_assert, at_sign, take_sign};
+use c_exprs::has_typedef;
 use c_lexer::TokenList;
-use c_tree::{
-    Declaration, Declarator, ExtDecl, FunctionDefinition, InitDeclarator, Specifier, Specifiers,
-    has_own_names,
+use c_nodes::{
+    DeclarationNode, DeclarationSpecifiers, Declarations, Declarators, ExternalNode,
+    FullDeclarator, InitDeclaratorNode,
 };
+use c_tree::has_own_names;
 use cil_base::Punctuator;
 use std::alloc::Global;
 use typedef_scopes::Scopes;
@@ -41,13 +44,12 @@ fn declarations<L: TokenList>(
     c: &mut Cursor<L>,
     s: &mut Scopes,
     height: u32,
-) -> Result<Vec<Declaration>, ParseStop>
-    ensures gives { Gives (λ x. (map declaration_of x.items, s.new)) result (declarations (lower height) s.old (ahead c.old)) (ahead c.new) }
-    ensures same { c.new.all ≡ c.old.all }
-    ensures onward { c.old.at ≤ c.new.at }
+) -> Result<Declarations, ParseStop>
+    ensures gives { Gives (λ x. (map declaration_of x, s.new)) result (declarations (lower height) s.old (ahead c.old)) (ahead c.new) }
+    ensures onward { Onward c.old c.new }
     ensures outer { IfOk result (λ _. outer_of s.new ≡ outer_of s.old) }
 {
-    let mut ds = Vec::new(alloc);
+    let mut ds = Declarations::new(alloc);
     while at_declaration(c, s) {
         let d = declaration_below(alloc, c, s, height)?;
         ds.push(d)?;
@@ -62,27 +64,26 @@ fn own_declarations<L: TokenList>(
     s: &mut Scopes,
     height: u32,
     named: bool,
-) -> Result<Vec<Declaration>, ParseStop>
-    ensures gives { Gives (λ x. (map declaration_of x.items, s.new)) result (own_declarations named (lower height) s.old (ahead c.old)) (ahead c.new) }
-    ensures same { c.new.all ≡ c.old.all }
-    ensures onward { c.old.at ≤ c.new.at }
+) -> Result<Declarations, ParseStop>
+    ensures gives { Gives (λ x. (map declaration_of x, s.new)) result (own_declarations named (lower height) s.old (ahead c.old)) (ahead c.new) }
+    ensures onward { Onward c.old c.new }
     ensures outer { IfOk result (λ _. outer_of s.new ≡ outer_of s.old) }
 {
     if named {
         return declarations(alloc, c, s, height);
     }
-    Ok(Vec::new(alloc))
+    Ok(Declarations::new(alloc))
 }
 
 /// Enters the block of a function's body, in which what its own list declares is in scope (C11 6.2.1p4).
 #[tactic(auto, using(crate::proofs::Kept::own_list_kept, crate::proofs::Kept::two_kept))]
-fn enter_function(s: &mut Scopes, d: &Declarator) -> Result<(), ParseStop>
+fn enter_function(s: &mut Scopes, d: &FullDeclarator) -> Result<(), ParseStop>
     ensures entered { MatchResult result (λ _. s.new ≡ after_own_list (entered s.old) (declarator_of d.now)) (λ stop. stop ≡ WantOfMemory) }
     ensures outer { IfOk result (λ _. outer_of s.new ≡ s.old) }
     ensures room { IfOk result (λ _. 2 ≤ length s.new) }
 {
     enter_block(s)?;
-    declare_own_list(d, s)?;
+    declare_own_list(d.tree(), s)?;
     Ok(())
 }
 
@@ -94,28 +95,20 @@ fn definition<L: TokenList>(
     s: &mut Scopes,
     height: u32,
     at: u32,
-    specifiers: Specifiers,
-    declarator: Declarator,
-) -> Result<ExtDecl, ParseStop>
-    ensures gives { Gives (λ x. (tree_of x, s.new)) result (definition (lower height) at (specifiers_of specifiers.items) (declarator_of declarator, s.old) (ahead c.old)) (ahead c.new) }
-    ensures same { c.new.all ≡ c.old.all }
-    ensures onward { c.old.at ≤ c.new.at }
+    specifiers: DeclarationSpecifiers,
+    declarator: FullDeclarator,
+) -> Result<ExternalNode, ParseStop>
+    ensures gives { Gives (λ x. (tree_of x, s.new)) result (definition (lower height) at (specifiers_of specifiers) (declarator_of declarator, s.old) (ahead c.old)) (ahead c.new) }
+    ensures onward { Onward c.old c.new }
     ensures further { IfOk result (λ _. c.old.at < c.new.at) }
 {
     enter_function(s, &declarator)?;
-    let named = has_own_names(&declarator);
+    let named = has_own_names(declarator.tree());
     let declarations = own_declarations(alloc, c, s, height, named)?;
     let body_at = c.position();
     let body = body_below(alloc, c, s, height)?;
     leave_block(s);
-    Ok(ExtDecl::Definition(FunctionDefinition {
-        at,
-        specifiers,
-        declarator,
-        declarations,
-        body_at,
-        body,
-    }))
+    Ok(ExternalNode::definition(at, specifiers, declarator, declarations, body_at, body))
 }
 
 /// All declarators of a declaration, of which the first was read with its initialiser.
@@ -125,13 +118,12 @@ fn all_declarators<L: TokenList>(
     s: &mut Scopes,
     height: u32,
     typedef: bool,
-    first: InitDeclarator,
-) -> Result<Vec<InitDeclarator>, ParseStop>
-    ensures gives { Gives (λ x. (map init_declarator_of x.items, s.new)) result (more_listed (init_declarator (lower height) typedef) (init_declarator_of first ∷ [], s.old) (ahead c.old)) (ahead c.new) }
-    ensures same { c.new.all ≡ c.old.all }
-    ensures onward { c.old.at ≤ c.new.at }
+    first: InitDeclaratorNode,
+) -> Result<Declarators, ParseStop>
+    ensures gives { Gives (λ x. (map init_declarator_of x, s.new)) result (more_listed (init_declarator (lower height) typedef) (init_declarator_of first ∷ [], s.old) (ahead c.old)) (ahead c.new) }
+    ensures onward { Onward c.old c.new }
 {
-    let mut ds = Vec::new(alloc);
+    let mut ds = Declarators::new(alloc);
     ds.push(first)?;
     more_init_declarators(alloc, c, s, height, typedef, ds)
 }
@@ -142,14 +134,13 @@ fn declarators_from<L: TokenList>(
     c: &mut Cursor<L>,
     s: &mut Scopes,
     height: u32,
-    specifiers: &[Specifier],
-    first: InitDeclarator,
-) -> Result<Vec<InitDeclarator>, ParseStop>
-    ensures gives { Gives (λ x. (map init_declarator_of x.items, s.new)) result (more_listed (init_declarator (lower height) (has_typedef (specifiers_of specifiers.now))) (init_declarator_of first ∷ [], s.old) (ahead c.old)) (ahead c.new) }
-    ensures same { c.new.all ≡ c.old.all }
-    ensures onward { c.old.at ≤ c.new.at }
+    specifiers: &DeclarationSpecifiers,
+    first: InitDeclaratorNode,
+) -> Result<Declarators, ParseStop>
+    ensures gives { Gives (λ x. (map init_declarator_of x, s.new)) result (more_listed (init_declarator (lower height) (has_typedef (specifiers_of specifiers.now))) (init_declarator_of first ∷ [], s.old) (ahead c.old)) (ahead c.new) }
+    ensures onward { Onward c.old c.new }
 {
-    all_declarators(alloc, c, s, height, has_typedef(specifiers), first)
+    all_declarators(alloc, c, s, height, has_typedef(specifiers.list()), first)
 }
 
 /// `;` behind the declarators of a declaration
@@ -157,16 +148,16 @@ fn declared_with<L: TokenList>(
     c: &mut Cursor<L>,
     s: &Scopes,
     at: u32,
-    specifiers: Specifiers,
-    ds: Vec<InitDeclarator>,
-) -> Result<ExtDecl, ParseStop>
-    ensures gives { Gives {B = In plain.ExternalTree} (λ x. (tree_of x, s.now)) result (bind (take (is_sign Semicolon)) (λ c. pure (plain.External (plain.Declares at (specifiers_of specifiers.items) (map init_declarator_of ds.items)), s.now)) (ahead c.old)) (ahead c.new) }
-    ensures same { c.new.all ≡ c.old.all }
-    ensures onward { c.old.at ≤ c.new.at }
+    specifiers: DeclarationSpecifiers,
+    ds: Declarators,
+) -> Result<ExternalNode, ParseStop>
+    ensures gives { Gives {B = In plain.ExternalTree} (λ x. (tree_of x, s.now)) result (bind (take (is_sign Semicolon)) (λ c. pure (plain.External (plain.Declares at (specifiers_of specifiers) (map init_declarator_of ds)), s.now)) (ahead c.old)) (ahead c.new) }
+    ensures onward { Onward c.old c.new }
     ensures further { IfOk result (λ _. c.old.at < c.new.at) }
 {
     take_sign(c, Punctuator::Semicolon)?;
-    Ok(ExtDecl::Declaration(Declaration::Declares(at, specifiers, ds)))
+    let declaration = DeclarationNode::declares(at, specifiers, ds);
+    Ok(ExternalNode::declaration(declaration))
 }
 
 /// What stands behind the first declarator of a declaration, with its initialiser.
@@ -176,12 +167,11 @@ fn more_declarators<L: TokenList>(
     s: &mut Scopes,
     height: u32,
     at: u32,
-    specifiers: Specifiers,
-    first: InitDeclarator,
-) -> Result<ExtDecl, ParseStop>
-    ensures gives { Gives (λ x. (tree_of x, s.new)) result (more_declarators (lower height) at (specifiers_of specifiers.items) (init_declarator_of first, s.old) (ahead c.old)) (ahead c.new) }
-    ensures same { c.new.all ≡ c.old.all }
-    ensures onward { c.old.at ≤ c.new.at }
+    specifiers: DeclarationSpecifiers,
+    first: InitDeclaratorNode,
+) -> Result<ExternalNode, ParseStop>
+    ensures gives { Gives (λ x. (tree_of x, s.new)) result (more_declarators (lower height) at (specifiers_of specifiers) (init_declarator_of first, s.old) (ahead c.old)) (ahead c.new) }
+    ensures onward { Onward c.old c.new }
     ensures further { IfOk result (λ _. c.old.at < c.new.at) }
 {
     let ds = declarators_from(alloc, c, s, height, &specifiers, first)?;
@@ -195,12 +185,11 @@ fn declared<L: TokenList>(
     s: &mut Scopes,
     height: u32,
     at: u32,
-    specifiers: Specifiers,
-    declarator: Declarator,
-) -> Result<ExtDecl, ParseStop>
-    ensures gives { Gives (λ x. (tree_of x, s.new)) result (declared (lower height) at (specifiers_of specifiers.items) (declarator_of declarator, s.old) (ahead c.old)) (ahead c.new) }
-    ensures same { c.new.all ≡ c.old.all }
-    ensures onward { c.old.at ≤ c.new.at }
+    specifiers: DeclarationSpecifiers,
+    declarator: FullDeclarator,
+) -> Result<ExternalNode, ParseStop>
+    ensures gives { Gives (λ x. (tree_of x, s.new)) result (declared (lower height) at (specifiers_of specifiers) (declarator_of declarator, s.old) (ahead c.old)) (ahead c.new) }
+    ensures onward { Onward c.old c.new }
     ensures further { IfOk result (λ _. c.old.at < c.new.at) }
 {
     let first = behind_declarator(alloc, c, s, height, declarator)?;
@@ -208,10 +197,10 @@ fn declared<L: TokenList>(
 }
 
 /// Whether a declarator, by the next token, is that of a definition.
-fn defines<L: TokenList>(c: &Cursor<L>, d: &Declarator) -> bool
+fn defines<L: TokenList>(c: &Cursor<L>, d: &FullDeclarator) -> bool
     ensures { result ≡ defines (declarator_of d.now) (head (ahead c.now).rest) }
 {
-    has_own_names(d) || at_sign(c, Punctuator::LeftBrace)
+    has_own_names(d.tree()) || at_sign(c, Punctuator::LeftBrace)
 }
 
 /// An external declaration behind its first declarator, whose name is declared.
@@ -221,12 +210,11 @@ fn defined_or_declared<L: TokenList>(
     s: &mut Scopes,
     height: u32,
     at: u32,
-    specifiers: Specifiers,
-    declarator: Declarator,
-) -> Result<ExtDecl, ParseStop>
-    ensures gives { Gives (λ x. (tree_of x, s.new)) result (defined_or_declared (lower height) at (specifiers_of specifiers.items) (declarator_of declarator, s.old) (ahead c.old)) (ahead c.new) }
-    ensures same { c.new.all ≡ c.old.all }
-    ensures onward { c.old.at ≤ c.new.at }
+    specifiers: DeclarationSpecifiers,
+    declarator: FullDeclarator,
+) -> Result<ExternalNode, ParseStop>
+    ensures gives { Gives (λ x. (tree_of x, s.new)) result (defined_or_declared (lower height) at (specifiers_of specifiers) (declarator_of declarator, s.old) (ahead c.old)) (ahead c.new) }
+    ensures onward { Onward c.old c.new }
     ensures further { IfOk result (λ _. c.old.at < c.new.at) }
 {
     if defines(c, &declarator) {
@@ -242,15 +230,14 @@ fn first_declarator<L: TokenList>(
     s: &mut Scopes,
     height: u32,
     at: u32,
-    specifiers: Specifiers,
-) -> Result<ExtDecl, ParseStop>
-    ensures gives { Gives (λ x. (tree_of x, s.new)) result (first_declarator (lower height) at (specifiers_of specifiers.items, s.old) (ahead c.old)) (ahead c.new) }
-    ensures same { c.new.all ≡ c.old.all }
-    ensures onward { c.old.at ≤ c.new.at }
+    specifiers: DeclarationSpecifiers,
+) -> Result<ExternalNode, ParseStop>
+    ensures gives { Gives (λ x. (tree_of x, s.new)) result (first_declarator (lower height) at (specifiers_of specifiers, s.old) (ahead c.old)) (ahead c.new) }
+    ensures onward { Onward c.old c.new }
     ensures further { IfOk result (λ _. c.old.at < c.new.at) }
 {
     let d = declarator_below(alloc, c, s, height)?;
-    declare_name(s, &d, has_typedef(&specifiers))?;
+    declare_name(s, &d, has_typedef(specifiers.list()))?;
     defined_or_declared(alloc, c, s, height, at, specifiers, d)
 }
 
@@ -260,15 +247,15 @@ fn no_declarator<L: TokenList>(
     c: &mut Cursor<L>,
     s: &Scopes,
     at: u32,
-    specifiers: Specifiers,
-) -> Result<ExtDecl, ParseStop>
-    ensures gives { Gives (λ x. (tree_of x, s.now)) result (no_declarator at (specifiers_of specifiers.items, s.now) (ahead c.old)) (ahead c.new) }
-    ensures same { c.new.all ≡ c.old.all }
-    ensures onward { c.old.at ≤ c.new.at }
+    specifiers: DeclarationSpecifiers,
+) -> Result<ExternalNode, ParseStop>
+    ensures gives { Gives (λ x. (tree_of x, s.now)) result (no_declarator at (specifiers_of specifiers, s.now) (ahead c.old)) (ahead c.new) }
+    ensures onward { Onward c.old c.new }
     ensures further { IfOk result (λ _. c.old.at < c.new.at) }
 {
     take_sign(c, Punctuator::Semicolon)?;
-    Ok(ExtDecl::Declaration(Declaration::Declares(at, specifiers, Vec::new(alloc))))
+    let declaration = DeclarationNode::declares(at, specifiers, Declarators::new(alloc));
+    Ok(ExternalNode::declaration(declaration))
 }
 
 /// An external declaration behind its specifiers.
@@ -278,11 +265,10 @@ fn behind_specifiers<L: TokenList>(
     s: &mut Scopes,
     height: u32,
     at: u32,
-    specifiers: Specifiers,
-) -> Result<ExtDecl, ParseStop>
-    ensures gives { Gives (λ x. (tree_of x, s.new)) result (behind_specifiers (lower height) at (specifiers_of specifiers.items, s.old) (ahead c.old)) (ahead c.new) }
-    ensures same { c.new.all ≡ c.old.all }
-    ensures onward { c.old.at ≤ c.new.at }
+    specifiers: DeclarationSpecifiers,
+) -> Result<ExternalNode, ParseStop>
+    ensures gives { Gives (λ x. (tree_of x, s.new)) result (behind_specifiers (lower height) at (specifiers_of specifiers, s.old) (ahead c.old)) (ahead c.new) }
+    ensures onward { Onward c.old c.new }
     ensures further { IfOk result (λ _. c.old.at < c.new.at) }
 {
     if at_sign(c, Punctuator::Semicolon) {
@@ -298,10 +284,9 @@ fn specified<L: TokenList>(
     s: &mut Scopes,
     height: u32,
     at: u32,
-) -> Result<ExtDecl, ParseStop>
+) -> Result<ExternalNode, ParseStop>
     ensures gives { Gives (λ x. (tree_of x, s.new)) result (specified (lower height) s.old at (ahead c.old)) (ahead c.new) }
-    ensures same { c.new.all ≡ c.old.all }
-    ensures onward { c.old.at ≤ c.new.at }
+    ensures onward { Onward c.old c.new }
     ensures further { IfOk result (λ _. c.old.at < c.new.at) }
 {
     let specifiers = specifiers_below(alloc, c, s, height)?;
@@ -315,13 +300,13 @@ fn asserted<L: TokenList>(
     s: &mut Scopes,
     height: u32,
     at: u32,
-) -> Result<ExtDecl, ParseStop>
+) -> Result<ExternalNode, ParseStop>
     ensures gives { Gives (λ x. (tree_of x, s.new)) result (asserted (lower height) s.old at (ahead c.old)) (ahead c.new) }
-    ensures same { c.new.all ≡ c.old.all }
-    ensures onward { c.old.at ≤ c.new.at }
+    ensures onward { Onward c.old c.new }
     ensures further { IfOk result (λ _. c.old.at < c.new.at) }
 {
-    Ok(ExtDecl::Declaration(static_assert(alloc, c, s, height, at)?))
+    let declaration = static_assert(alloc, c, s, height, at)?;
+    Ok(ExternalNode::declaration(declaration))
 }
 
 /// An external declaration (C11 6.9), of at most that height.
@@ -330,10 +315,9 @@ pub(crate) fn external<L: TokenList>(
     c: &mut Cursor<L>,
     s: &mut Scopes,
     height: u32,
-) -> Result<ExtDecl, ParseStop>
+) -> Result<ExternalNode, ParseStop>
     ensures gives { Gives (λ x. (tree_of x, s.new)) result (external_of height s.old (ahead c.old)) (ahead c.new) }
-    ensures same { c.new.all ≡ c.old.all }
-    ensures onward { c.old.at ≤ c.new.at }
+    ensures onward { Onward c.old c.new }
     ensures further { IfOk result (λ _. c.old.at < c.new.at) }
 {
     let at = c.position();

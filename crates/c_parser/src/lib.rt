@@ -15,7 +15,6 @@ mod declarations;
 mod externals;
 mod nexts;
 mod own_list;
-mod statement_builders;
 mod statement_parts;
 mod statements;
 mod stops;

@@ -1,16 +1,18 @@
-ghost use Rattle.std.specs.Prelude.{◌≡◌, ◌<◌, ◌≤◌, true, length, drop, IfOk, IfSome};
+ghost use Rattle.std.specs.Prelude.{◌≡◌, ◌<◌, true, length, drop, IfOk, IfSome};
 ghost use Rattle.cil_base.specs.declared.tokens.Punctuator.TheVariants.{Colon};
 ghost use Rattle.typedef_scopes.specs.Scopes.{is_type};
-ghost use Rattle.c_exprs.specs.Lexemes.{ahead};
-ghost use Rattle.c_exprs.specs.Readers.{head, one};
-ghost use Rattle.c_exprs.specs.Classes.{next_is, is_sign, is_some_of, name_kind, fitting, if_so, plain, take};
-ghost use Rattle.c_exprs.specs.Given.{Gives, next_of};
+ghost use Rattle.c_cursor.specs.Lexemes.{ahead};
+ghost use Rattle.c_cursor.specs.Readers.{head, one};
+ghost use Rattle.c_cursor.specs.Classes.{next_is, is_sign, name_kind, fitting, if_so, plain, take};
+ghost use Rattle.c_exprs.specs.Classes.{is_some_of};
+ghost use Rattle.c_cursor.specs.Lexemes.{Onward};
+ghost use Rattle.c_cursor.specs.Given.{Gives, next_of};
 ghost use Rattle.c_parser.specs.StatementWords.{begins_declaration, begins_by_word, is_while_word, name_ahead, type_ahead, token_ahead, label_ahead, a_statement_word};
 ghost use Rattle.c_parser.specs.UnitForms.{is_else_word};
 
 use crate::classes::{begins_declaration, is_else_word, is_while_word, statement_kind};
 use crate::words::StatementWord;
-use c_exprs::{Cursor, ParseStop, taken};
+use c_cursor::{Cursor, ParseStop, taken};
 use c_lexer::TokenList;
 use cil_base::{NameId, Punctuator, TokenKind};
 use typedef_scopes::Scopes;
@@ -28,7 +30,7 @@ pub(crate) fn at_token<L: TokenList>(c: &Cursor<L>) -> bool
 }
 
 /// Whether the next token begins a declaration (C11 6.7).
-#[tactic(auto, using(c_exprs::proofs::NextLemmas::next_told, c_exprs::proofs::NextLemmas::none_told))]
+#[tactic(auto, using(c_cursor::proofs::NextLemmas::next_told, c_cursor::proofs::NextLemmas::none_told))]
 pub(crate) fn at_declaration<L: TokenList>(c: &Cursor<L>, s: &Scopes) -> bool
     ensures is { result ≡ next_is (begins_declaration s.now) (head (ahead c.now).rest) }
     ensures room { result ≡ true → c.now.at < length c.now.all }
@@ -47,7 +49,7 @@ fn begins_by_word(kind: TokenKind) -> bool
 }
 
 /// Whether the next token is a word or a brace that begins a statement (C11 6.8).
-#[tactic(auto, using(c_exprs::proofs::NextLemmas::next_told, c_exprs::proofs::NextLemmas::none_told))]
+#[tactic(auto, using(c_cursor::proofs::NextLemmas::next_told, c_cursor::proofs::NextLemmas::none_told))]
 pub(crate) fn at_statement_word<L: TokenList>(c: &Cursor<L>) -> bool
     ensures { result ≡ next_is begins_by_word (head (ahead c.now).rest) }
 {
@@ -58,7 +60,7 @@ pub(crate) fn at_statement_word<L: TokenList>(c: &Cursor<L>) -> bool
 }
 
 /// Whether the next token is `else`.
-#[tactic(auto, using(c_exprs::proofs::NextLemmas::next_told, c_exprs::proofs::NextLemmas::none_told))]
+#[tactic(auto, using(c_cursor::proofs::NextLemmas::next_told, c_cursor::proofs::NextLemmas::none_told))]
 pub(crate) fn at_else<L: TokenList>(c: &Cursor<L>) -> bool
     ensures { result ≡ next_is is_else_word (head (ahead c.now).rest) }
 {
@@ -119,7 +121,7 @@ pub(crate) fn at_type_name<L: TokenList>(c: &Cursor<L>, s: &Scopes) -> bool
 }
 
 /// Whether the token behind the next is a colon.
-#[tactic(auto, using(c_exprs::proofs::NextLemmas::next_told, c_exprs::proofs::NextLemmas::none_told))]
+#[tactic(auto, using(c_cursor::proofs::NextLemmas::next_told, c_cursor::proofs::NextLemmas::none_told))]
 fn at_colon_behind<L: TokenList>(c: &Cursor<L>) -> bool
     ensures { result ≡ next_is (is_sign Colon) (head (drop 1 (ahead c.now).rest)) }
 {
@@ -147,7 +149,7 @@ pub(crate) fn at_label<L: TokenList>(c: &Cursor<L>) -> bool
 }
 
 /// The word or brace that the next token is, if it begins a statement.
-#[tactic(auto, using(c_exprs::proofs::NextLemmas::next_plain, c_exprs::proofs::NextLemmas::none_plain, crate::proofs::NextTokens::words_plain))]
+#[tactic(auto, using(c_cursor::proofs::NextLemmas::next_plain, c_cursor::proofs::NextLemmas::none_plain, crate::proofs::NextTokens::words_plain))]
 fn next_statement_word<L: TokenList>(c: &Cursor<L>) -> Option<StatementWord>
     ensures found { result ≡ next_of a_statement_word (head (ahead c.now).rest) }
     ensures room { IfSome result (λ _. c.now.at < length c.now.all) }
@@ -159,13 +161,12 @@ fn next_statement_word<L: TokenList>(c: &Cursor<L>) -> Option<StatementWord>
 }
 
 /// Takes the word or brace that begins a statement (C11 6.8).
-#[tactic(auto, using(c_exprs::proofs::NextLemmas::taken_one))]
+#[tactic(auto, using(c_cursor::proofs::NextLemmas::taken_one))]
 pub(crate) fn take_statement_word<L: TokenList>(
     c: &mut Cursor<L>,
 ) -> Result<StatementWord, ParseStop>
     ensures gives { Gives (λ w. w) result (one a_statement_word (ahead c.old)) (ahead c.new) }
-    ensures same { c.new.all ≡ c.old.all }
-    ensures onward { c.old.at ≤ c.new.at }
+    ensures onward { Onward c.old c.new }
     ensures further { IfOk result (λ _. c.old.at < c.new.at) }
 {
     let found = next_statement_word(c);
@@ -180,7 +181,7 @@ fn met(holds: bool) -> Option<()>
 }
 
 /// That the next token is `else`, if it is.
-#[tactic(auto, using(crate::proofs::NextTokens::else_plain, c_exprs::proofs::NextLemmas::none_plain))]
+#[tactic(auto, using(crate::proofs::NextTokens::else_plain, c_cursor::proofs::NextLemmas::none_plain))]
 fn next_else<L: TokenList>(c: &Cursor<L>) -> Option<()>
     ensures found { result ≡ next_of (plain (λ k. if_so (is_else_word k) tt)) (head (ahead c.now).rest) }
     ensures room { IfSome result (λ _. c.now.at < length c.now.all) }
@@ -192,18 +193,17 @@ fn next_else<L: TokenList>(c: &Cursor<L>) -> Option<()>
 }
 
 /// Takes `else`.
-#[tactic(auto, using(c_exprs::proofs::NextLemmas::taken_one))]
+#[tactic(auto, using(c_cursor::proofs::NextLemmas::taken_one))]
 pub(crate) fn take_else<L: TokenList>(c: &mut Cursor<L>) -> Result<(), ParseStop>
     ensures gives { Gives (λ u. u) result (take is_else_word (ahead c.old)) (ahead c.new) }
-    ensures same { c.new.all ≡ c.old.all }
-    ensures onward { c.old.at ≤ c.new.at }
+    ensures onward { Onward c.old c.new }
 {
     let found = next_else(c);
     taken(c, found)
 }
 
 /// That the next token is `while`, if it is.
-#[tactic(auto, using(crate::proofs::NextTokens::while_plain, c_exprs::proofs::NextLemmas::none_plain))]
+#[tactic(auto, using(crate::proofs::NextTokens::while_plain, c_cursor::proofs::NextLemmas::none_plain))]
 fn next_while<L: TokenList>(c: &Cursor<L>) -> Option<()>
     ensures found { result ≡ next_of (plain (λ k. if_so (is_while_word k) tt)) (head (ahead c.now).rest) }
     ensures room { IfSome result (λ _. c.now.at < length c.now.all) }
@@ -215,11 +215,10 @@ fn next_while<L: TokenList>(c: &Cursor<L>) -> Option<()>
 }
 
 /// Takes `while`.
-#[tactic(auto, using(c_exprs::proofs::NextLemmas::taken_one))]
+#[tactic(auto, using(c_cursor::proofs::NextLemmas::taken_one))]
 pub(crate) fn take_while<L: TokenList>(c: &mut Cursor<L>) -> Result<(), ParseStop>
     ensures gives { Gives (λ u. u) result (take is_while_word (ahead c.old)) (ahead c.new) }
-    ensures same { c.new.all ≡ c.old.all }
-    ensures onward { c.old.at ≤ c.new.at }
+    ensures onward { Onward c.old c.new }
 {
     let found = next_while(c);
     taken(c, found)

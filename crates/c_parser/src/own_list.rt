@@ -205,7 +205,7 @@ fn declare_designator(x: &Designator, s: &mut Scopes) -> Result<(), Memory>
 
 /// The enumerators of expressions.
 #[cycle(once_more)]
-#[tactic(auto, using(crate::proofs::OwnListLemmas::reaches_start, crate::proofs::OwnListLemmas::reaches_step, crate::proofs::OwnListLemmas::reaches_end, crate::proofs::OwnListLemmas::fold_exprs))]
+#[tactic(auto, using(crate::proofs::OwnListLemmas::reaches_start, crate::proofs::OwnListLemmas::reaches_end, crate::proofs::OwnListLemmas::fold_exprs))]
 fn declare_exprs(xs: &[Expr], s: &mut Scopes) -> Result<(), Memory>
     ensures { OnOk result (s.new ≡ after_exprs s.old (exprs_of xs.now)) }
 {
@@ -217,7 +217,7 @@ fn declare_exprs(xs: &[Expr], s: &mut Scopes) -> Result<(), Memory>
 
 /// The enumerators of specifiers.
 #[cycle(once_more)]
-#[tactic(auto, using(crate::proofs::OwnListLemmas::reaches_start, crate::proofs::OwnListLemmas::reaches_step, crate::proofs::OwnListLemmas::reaches_end, crate::proofs::OwnListLemmas::fold_specifiers))]
+#[tactic(auto, using(crate::proofs::OwnListLemmas::reaches_start, crate::proofs::OwnListLemmas::reaches_end, crate::proofs::OwnListLemmas::fold_specifiers))]
 fn declare_specifiers(xs: &[Specifier], s: &mut Scopes) -> Result<(), Memory>
     ensures { OnOk result (s.new ≡ after_specifiers s.old (specifiers_of xs.now)) }
 {
@@ -229,7 +229,7 @@ fn declare_specifiers(xs: &[Specifier], s: &mut Scopes) -> Result<(), Memory>
 
 /// The enumerators of declarations among members.
 #[cycle(once_more)]
-#[tactic(auto, using(crate::proofs::OwnListLemmas::reaches_start, crate::proofs::OwnListLemmas::reaches_step, crate::proofs::OwnListLemmas::reaches_end, crate::proofs::OwnListLemmas::fold_members))]
+#[tactic(auto, using(crate::proofs::OwnListLemmas::reaches_start, crate::proofs::OwnListLemmas::reaches_end, crate::proofs::OwnListLemmas::fold_members))]
 fn declare_members(xs: &[MemberDeclaration], s: &mut Scopes) -> Result<(), Memory>
     ensures { OnOk result (s.new ≡ after_members s.old (members_of xs.now)) }
 {
@@ -241,7 +241,7 @@ fn declare_members(xs: &[MemberDeclaration], s: &mut Scopes) -> Result<(), Memor
 
 /// The enumerators of declarators of members.
 #[cycle(once_more)]
-#[tactic(auto, using(crate::proofs::OwnListLemmas::reaches_start, crate::proofs::OwnListLemmas::reaches_step, crate::proofs::OwnListLemmas::reaches_end, crate::proofs::OwnListLemmas::fold_member_declarators))]
+#[tactic(auto, using(crate::proofs::OwnListLemmas::reaches_start, crate::proofs::OwnListLemmas::reaches_end, crate::proofs::OwnListLemmas::fold_member_declarators))]
 fn declare_member_declarators(xs: &[MemberDeclarator], s: &mut Scopes) -> Result<(), Memory>
     ensures { OnOk result (s.new ≡ after_member_declarators s.old (member_declarators_of xs.now)) }
 {
@@ -253,7 +253,7 @@ fn declare_member_declarators(xs: &[MemberDeclarator], s: &mut Scopes) -> Result
 
 /// Enumerators.
 #[cycle(once_more)]
-#[tactic(auto, using(crate::proofs::OwnListLemmas::reaches_start, crate::proofs::OwnListLemmas::reaches_step, crate::proofs::OwnListLemmas::reaches_end, crate::proofs::OwnListLemmas::fold_enumerators))]
+#[tactic(auto, using(crate::proofs::OwnListLemmas::reaches_start, crate::proofs::OwnListLemmas::reaches_end, crate::proofs::OwnListLemmas::fold_enumerators))]
 fn declare_enumerators(xs: &[Enumerator], s: &mut Scopes) -> Result<(), Memory>
     ensures { OnOk result (s.new ≡ after_enumerators s.old (enumerators_of xs.now)) }
 {
@@ -265,7 +265,7 @@ fn declare_enumerators(xs: &[Enumerator], s: &mut Scopes) -> Result<(), Memory>
 
 /// The enumerators of initialisers with their designators.
 #[cycle(once_more)]
-#[tactic(auto, using(crate::proofs::OwnListLemmas::reaches_start, crate::proofs::OwnListLemmas::reaches_step, crate::proofs::OwnListLemmas::reaches_end, crate::proofs::OwnListLemmas::fold_items))]
+#[tactic(auto, using(crate::proofs::OwnListLemmas::reaches_start, crate::proofs::OwnListLemmas::reaches_end, crate::proofs::OwnListLemmas::fold_items))]
 fn declare_items(xs: &[InitItem], s: &mut Scopes) -> Result<(), Memory>
     ensures { OnOk result (s.new ≡ after_items s.old (items_of xs.now)) }
 {
@@ -277,7 +277,7 @@ fn declare_items(xs: &[InitItem], s: &mut Scopes) -> Result<(), Memory>
 
 /// The enumerators of designators.
 #[cycle(once_more)]
-#[tactic(auto, using(crate::proofs::OwnListLemmas::reaches_start, crate::proofs::OwnListLemmas::reaches_step, crate::proofs::OwnListLemmas::reaches_end, crate::proofs::OwnListLemmas::fold_designators))]
+#[tactic(auto, using(crate::proofs::OwnListLemmas::reaches_start, crate::proofs::OwnListLemmas::reaches_end, crate::proofs::OwnListLemmas::fold_designators))]
 fn declare_designators(xs: &[Designator], s: &mut Scopes) -> Result<(), Memory>
     ensures { OnOk result (s.new ≡ after_designators s.old (designators_of xs.now)) }
 {

@@ -1,10 +1,11 @@
-ghost use Rattle.std.specs.Prelude.{◌≡◌, ◌<◌, ◌≤◌, IfOk};
+ghost use Rattle.std.specs.Prelude.{◌≡◌, ◌<◌, IfOk};
 ghost use Rattle.std.specs.Option.{option_map};
 ghost use Rattle.c_tree.specs.View.{expr_of};
 ghost use Rattle.c_tree.specs.UnitView.{start_of, stmt_of, block_item_of};
 ghost use Rattle.c_tree.specs.Units as plain;
-ghost use Rattle.c_exprs.specs.Lexemes.{ahead};
-ghost use Rattle.c_exprs.specs.Given.{Gives};
+ghost use Rattle.c_cursor.specs.Lexemes.{ahead};
+ghost use Rattle.c_cursor.specs.Lexemes.{Onward};
+ghost use Rattle.c_cursor.specs.Given.{Gives};
 ghost use Rattle.c_exprs.specs.DeclaratorReading.{outer_of};
 ghost use Rattle.c_parser.specs.StatementReading.{maybe_expr, maybe_closed, condition, for_start, goto_behind, jump_behind, return_behind, declaring, expressing, mistaken, unlabelled};
 ghost use Rattle.c_parser.specs.UnitReading.{lower};
@@ -12,9 +13,10 @@ ghost use Rattle.c_parser.specs.UnitReading.{lower};
 use crate::below::expr_below;
 use crate::declarations::declaration_below;
 use crate::nexts::{at_declaration, at_type_name};
-use c_exprs::{Cursor, ParseStop, at_sign, take_name, take_sign};
+use c_cursor::{Cursor, ParseStop, at_sign, take_name, take_sign};
 use c_lexer::TokenList;
-use c_tree::{BlockItem, Expr, ForStart, Level, Stmt};
+use c_nodes::{BlockItemNode, FullExpr, StartNode, StmtNode};
+use c_tree::Level;
 use cil_base::Punctuator;
 use std::alloc::Global;
 use typedef_scopes::Scopes;
@@ -26,10 +28,9 @@ fn maybe_expr<L: TokenList>(
     s: &mut Scopes,
     height: u32,
     end: Punctuator,
-) -> Result<Option<Expr>, ParseStop>
+) -> Result<Option<FullExpr>, ParseStop>
     ensures gives { Gives (λ x. (option_map expr_of x, s.new)) result (maybe_expr (lower height) end s.old (ahead c.old)) (ahead c.new) }
-    ensures same { c.new.all ≡ c.old.all }
-    ensures onward { c.old.at ≤ c.new.at }
+    ensures onward { Onward c.old c.new }
     ensures outer { IfOk result (λ _. outer_of s.new ≡ outer_of s.old) }
 {
     if at_sign(c, end) {
@@ -45,10 +46,9 @@ pub(crate) fn maybe_closed<L: TokenList>(
     s: &mut Scopes,
     height: u32,
     end: Punctuator,
-) -> Result<Option<Expr>, ParseStop>
+) -> Result<Option<FullExpr>, ParseStop>
     ensures gives { Gives (λ x. (option_map expr_of x, s.new)) result (maybe_closed (lower height) end s.old (ahead c.old)) (ahead c.new) }
-    ensures same { c.new.all ≡ c.old.all }
-    ensures onward { c.old.at ≤ c.new.at }
+    ensures onward { Onward c.old c.new }
     ensures further { IfOk result (λ _. c.old.at < c.new.at) }
     ensures outer { IfOk result (λ _. outer_of s.new ≡ outer_of s.old) }
 {
@@ -63,10 +63,9 @@ pub(crate) fn condition<L: TokenList>(
     c: &mut Cursor<L>,
     s: &mut Scopes,
     height: u32,
-) -> Result<Expr, ParseStop>
+) -> Result<FullExpr, ParseStop>
     ensures gives { Gives (λ x. (expr_of x, s.new)) result (condition (lower height) s.old (ahead c.old)) (ahead c.new) }
-    ensures same { c.new.all ≡ c.old.all }
-    ensures onward { c.old.at ≤ c.new.at }
+    ensures onward { Onward c.old c.new }
     ensures outer { IfOk result (λ _. outer_of s.new ≡ outer_of s.old) }
 {
     take_sign(c, Punctuator::LeftParen)?;
@@ -81,16 +80,17 @@ pub(crate) fn for_start<L: TokenList>(
     c: &mut Cursor<L>,
     s: &mut Scopes,
     height: u32,
-) -> Result<ForStart, ParseStop>
+) -> Result<StartNode, ParseStop>
     ensures gives { Gives (λ x. (start_of x, s.new)) result (for_start (lower height) s.old (ahead c.old)) (ahead c.new) }
-    ensures same { c.new.all ≡ c.old.all }
-    ensures onward { c.old.at ≤ c.new.at }
+    ensures onward { Onward c.old c.new }
     ensures outer { IfOk result (λ _. outer_of s.new ≡ outer_of s.old) }
 {
     if at_declaration(c, s) {
-        return Ok(ForStart::Declaration(declaration_below(alloc, c, s, height)?));
+        let declaration = declaration_below(alloc, c, s, height)?;
+        return Ok(StartNode::declaration(declaration));
     }
-    Ok(ForStart::Expr(maybe_closed(alloc, c, s, height, Punctuator::Semicolon)?))
+    let e = maybe_closed(alloc, c, s, height, Punctuator::Semicolon)?;
+    Ok(StartNode::expr(e))
 }
 
 /// `name ;` behind `goto` (C11 6.8.6.1)
@@ -99,17 +99,16 @@ pub(crate) fn goto_behind<L: TokenList>(
     s: &Scopes,
     height: u32,
     at: u32,
-) -> Result<Stmt, ParseStop>
+) -> Result<StmtNode, ParseStop>
     ensures gives { Gives (λ x. (stmt_of x, s.now)) result (goto_behind height s.now at (ahead c.old)) (ahead c.new) }
-    ensures same { c.new.all ≡ c.old.all }
-    ensures onward { c.old.at ≤ c.new.at }
+    ensures onward { Onward c.old c.new }
 {
     if height < 2 {
         return Err(ParseStop::At(c.position()));
     }
     let label = take_name(c)?;
     take_sign(c, Punctuator::Semicolon)?;
-    Ok(Stmt::Goto(at, label))
+    Ok(StmtNode::goto(at, label))
 }
 
 /// `;` behind `continue` (C11 6.8.6.2)
@@ -117,13 +116,12 @@ pub(crate) fn continue_behind<L: TokenList>(
     c: &mut Cursor<L>,
     s: &Scopes,
     at: u32,
-) -> Result<Stmt, ParseStop>
+) -> Result<StmtNode, ParseStop>
     ensures gives { Gives (λ x. (stmt_of x, s.now)) result (jump_behind (plain.Continue at) s.now (ahead c.old)) (ahead c.new) }
-    ensures same { c.new.all ≡ c.old.all }
-    ensures onward { c.old.at ≤ c.new.at }
+    ensures onward { Onward c.old c.new }
 {
     take_sign(c, Punctuator::Semicolon)?;
-    Ok(Stmt::Continue(at))
+    Ok(StmtNode::continue_at(at))
 }
 
 /// `;` behind `break` (C11 6.8.6.3)
@@ -131,13 +129,12 @@ pub(crate) fn break_behind<L: TokenList>(
     c: &mut Cursor<L>,
     s: &Scopes,
     at: u32,
-) -> Result<Stmt, ParseStop>
+) -> Result<StmtNode, ParseStop>
     ensures gives { Gives (λ x. (stmt_of x, s.now)) result (jump_behind (plain.Break at) s.now (ahead c.old)) (ahead c.new) }
-    ensures same { c.new.all ≡ c.old.all }
-    ensures onward { c.old.at ≤ c.new.at }
+    ensures onward { Onward c.old c.new }
 {
     take_sign(c, Punctuator::Semicolon)?;
-    Ok(Stmt::Break(at))
+    Ok(StmtNode::break_at(at))
 }
 
 /// `e ;` or `;` behind `return` (C11 6.8.6.4)
@@ -147,13 +144,12 @@ pub(crate) fn return_behind<L: TokenList>(
     s: &mut Scopes,
     height: u32,
     at: u32,
-) -> Result<Stmt, ParseStop>
+) -> Result<StmtNode, ParseStop>
     ensures gives { Gives (λ x. (stmt_of x, s.new)) result (return_behind (lower height) s.old at (ahead c.old)) (ahead c.new) }
-    ensures same { c.new.all ≡ c.old.all }
-    ensures onward { c.old.at ≤ c.new.at }
+    ensures onward { Onward c.old c.new }
 {
     let e = maybe_closed(alloc, c, s, height, Punctuator::Semicolon)?;
-    Ok(Stmt::Return(at, e))
+    Ok(StmtNode::return_of(at, e))
 }
 
 /// A declaration as an item of a block (C11 6.8.2).
@@ -162,14 +158,14 @@ pub(crate) fn declaring<L: TokenList>(
     c: &mut Cursor<L>,
     s: &mut Scopes,
     height: u32,
-) -> Result<BlockItem, ParseStop>
+) -> Result<BlockItemNode, ParseStop>
     ensures gives { Gives (λ x. (block_item_of x, s.new)) result (declaring (lower height) s.old (ahead c.old)) (ahead c.new) }
-    ensures same { c.new.all ≡ c.old.all }
-    ensures onward { c.old.at ≤ c.new.at }
+    ensures onward { Onward c.old c.new }
     ensures further { IfOk result (λ _. c.old.at < c.new.at) }
     ensures outer { IfOk result (λ _. outer_of s.new ≡ outer_of s.old) }
 {
-    Ok(BlockItem::Declaration(declaration_below(alloc, c, s, height)?))
+    let declaration = declaration_below(alloc, c, s, height)?;
+    Ok(BlockItemNode::declaration(declaration))
 }
 
 /// `e ;` and `;` (C11 6.8.3)
@@ -179,21 +175,19 @@ pub(crate) fn expressing<L: TokenList>(
     s: &mut Scopes,
     height: u32,
     at: u32,
-) -> Result<Stmt, ParseStop>
+) -> Result<StmtNode, ParseStop>
     ensures gives { Gives (λ x. (stmt_of x, s.new)) result (expressing (lower height) s.old at (ahead c.old)) (ahead c.new) }
-    ensures same { c.new.all ≡ c.old.all }
-    ensures onward { c.old.at ≤ c.new.at }
+    ensures onward { Onward c.old c.new }
     ensures further { IfOk result (λ _. c.old.at < c.new.at) }
 {
     let e = maybe_closed(alloc, c, s, height, Punctuator::Semicolon)?;
-    Ok(Stmt::Expr(at, e))
+    Ok(StmtNode::expr(at, e))
 }
 
 /// A typedef name that is no label, where a statement alone can stand: nothing can follow it.
-fn mistaken<L: TokenList>(c: &mut Cursor<L>, s: &Scopes) -> Result<Stmt, ParseStop>
+fn mistaken<L: TokenList>(c: &mut Cursor<L>, s: &Scopes) -> Result<StmtNode, ParseStop>
     ensures gives { Gives (λ x. (stmt_of x, s.now)) result (mistaken (ahead c.old)) (ahead c.new) }
-    ensures same { c.new.all ≡ c.old.all }
-    ensures onward { c.old.at ≤ c.new.at }
+    ensures onward { Onward c.old c.new }
     ensures further { IfOk result (λ _. c.old.at < c.new.at) }
 {
     take_name(c)?;
@@ -207,10 +201,9 @@ pub(crate) fn unlabelled<L: TokenList>(
     s: &mut Scopes,
     height: u32,
     at: u32,
-) -> Result<Stmt, ParseStop>
+) -> Result<StmtNode, ParseStop>
     ensures gives { Gives (λ x. (stmt_of x, s.new)) result (unlabelled (lower height) s.old at (ahead c.old)) (ahead c.new) }
-    ensures same { c.new.all ≡ c.old.all }
-    ensures onward { c.old.at ≤ c.new.at }
+    ensures onward { Onward c.old c.new }
     ensures further { IfOk result (λ _. c.old.at < c.new.at) }
 {
     if at_type_name(c, s) {

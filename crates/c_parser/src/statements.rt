@@ -5,9 +5,10 @@ ghost use Rattle.c_tree.specs.View.{expr_of};
 ghost use Rattle.c_tree.specs.UnitView.{start_of, stmt_of, block_item_of, block_of};
 ghost use Rattle.c_tree.specs.Units as plain;
 ghost use Rattle.c_tree.specs.Scoped.{entered};
-ghost use Rattle.c_exprs.specs.Lexemes.{ahead};
-ghost use Rattle.c_exprs.specs.Readers.{bind};
-ghost use Rattle.c_exprs.specs.Given.{Gives};
+ghost use Rattle.c_cursor.specs.Lexemes.{ahead};
+ghost use Rattle.c_cursor.specs.Readers.{bind};
+ghost use Rattle.c_cursor.specs.Lexemes.{Onward};
+ghost use Rattle.c_cursor.specs.Given.{Gives};
 ghost use Rattle.c_exprs.specs.DeclaratorReading.{outer_of};
 ghost use Rattle.c_parser.specs.StatementReading.{controlled, behind_colon, labelled, case_behind, else_behind, if_rest, if_behind, switch_behind, while_behind, do_rest, do_behind, for_start, for_body, for_rest, for_behind, doing, typed_item, untyped_item, item, items, items_closed, block_behind, body, behind_word, worded, named, unnamed, statement_at, statement};
 ghost use Rattle.c_parser.specs.UnitReading.{lower};
@@ -18,21 +19,25 @@ use crate::nexts::{
     at_declaration, at_else, at_label, at_name, at_statement_word, at_type_name, take_else,
     take_statement_word, take_while,
 };
-use crate::statement_builders::{
-    case_of, compound_of, default_of, do_of, for_of, if_else_of, if_of, labelled_of, switch_of,
-    while_of,
-};
 use crate::statement_parts::{
     break_behind, condition, continue_behind, declaring, expressing, for_start, goto_behind,
     maybe_closed, return_behind, unlabelled,
 };
 use crate::words::StatementWord;
-use c_exprs::{Cursor, ParseStop, at_other, take_name, take_sign};
+use c_cursor::{Cursor, ParseStop, at_other, take_name, take_sign};
 use c_lexer::TokenList;
-use c_tree::{BlockItem, Expr, ForStart, Level, Stmt};
+use c_nodes::{Block, BlockItemNode, FullExpr, InnerStmt, StartNode, StmtNode};
+use c_tree::Level;
 use cil_base::Punctuator;
 use std::alloc::Global;
 use typedef_scopes::Scopes;
+
+/// What stands behind the word of a statement that a condition governs: `( e ) s`.
+#[derive(Drop)]
+struct ControlledStmt {
+    condition: FullExpr,
+    body: InnerStmt,
+}
 
 /// A statement that is lower than that height.
 #[cycle(reading)]
@@ -42,10 +47,9 @@ pub(crate) fn statement_below<L: TokenList>(
     c: &mut Cursor<L>,
     s: &mut Scopes,
     height: u32,
-) -> Result<Stmt, ParseStop>
+) -> Result<StmtNode, ParseStop>
     ensures gives { Gives (λ x. (stmt_of x, s.new)) result ((lower height).statement s.old (ahead c.old)) (ahead c.new) }
-    ensures same { c.new.all ≡ c.old.all }
-    ensures onward { c.old.at ≤ c.new.at }
+    ensures onward { Onward c.old c.new }
     ensures further { IfOk result (λ _. c.old.at < c.new.at) }
     ensures outer { IfOk result (λ _. outer_of s.new ≡ outer_of s.old) }
 {
@@ -53,6 +57,23 @@ pub(crate) fn statement_below<L: TokenList>(
         return Err(ParseStop::At(c.position()));
     }
     statement(alloc, c, s, height - 1)
+}
+
+/// Such a statement as part of another one.
+#[cycle(reading)]
+fn inner_below<L: TokenList>(
+    alloc: Global,
+    c: &mut Cursor<L>,
+    s: &mut Scopes,
+    height: u32,
+) -> Result<InnerStmt, ParseStop>
+    ensures gives { Gives (λ x. (stmt_of x, s.new)) result ((lower height).statement s.old (ahead c.old)) (ahead c.new) }
+    ensures onward { Onward c.old c.new }
+    ensures further { IfOk result (λ _. c.old.at < c.new.at) }
+    ensures outer { IfOk result (λ _. outer_of s.new ≡ outer_of s.old) }
+{
+    let statement = statement_below(alloc, c, s, height)?;
+    Ok(InnerStmt::of(alloc, statement)?)
 }
 
 /// `( e ) s`, of which the statement is a block (C11 6.8.4p3, 6.8.5p5); the block that both stand in is entered and not left.
@@ -63,19 +84,18 @@ fn controlled<L: TokenList>(
     c: &mut Cursor<L>,
     s: &mut Scopes,
     height: u32,
-) -> Result<(Expr, Stmt), ParseStop>
-    ensures gives { Gives (λ x. ((expr_of x.0, s.new), stmt_of x.1)) result (controlled (lower height) s.old (ahead c.old)) (ahead c.new) }
-    ensures same { c.new.all ≡ c.old.all }
-    ensures onward { c.old.at ≤ c.new.at }
+) -> Result<ControlledStmt, ParseStop>
+    ensures gives { Gives (λ x. ((expr_of x.condition, s.new), stmt_of x.body)) result (controlled (lower height) s.old (ahead c.old)) (ahead c.new) }
+    ensures onward { Onward c.old c.new }
     ensures outer { IfOk result (λ _. outer_of s.new ≡ s.old) }
     ensures room { IfOk result (λ _. 2 ≤ length s.new) }
 {
     enter_block(s)?;
-    let e = condition(alloc, c, s, height)?;
+    let condition = condition(alloc, c, s, height)?;
     enter_block(s)?;
-    let body = statement_below(alloc, c, s, height)?;
+    let body = inner_below(alloc, c, s, height)?;
     leave_block(s);
-    Ok((e, body))
+    Ok(ControlledStmt { condition, body })
 }
 
 /// `: s` behind a label
@@ -86,16 +106,15 @@ fn labelled<L: TokenList>(
     s: &mut Scopes,
     height: u32,
     at: u32,
-) -> Result<Stmt, ParseStop>
+) -> Result<StmtNode, ParseStop>
     ensures gives { Gives (λ x. (stmt_of x, s.new)) result (labelled (lower height) s.old at (ahead c.old)) (ahead c.new) }
-    ensures same { c.new.all ≡ c.old.all }
-    ensures onward { c.old.at ≤ c.new.at }
+    ensures onward { Onward c.old c.new }
     ensures further { IfOk result (λ _. c.old.at < c.new.at) }
 {
     let label = take_name(c)?;
     take_sign(c, Punctuator::Colon)?;
-    let body = statement_below(alloc, c, s, height)?;
-    labelled_of(alloc, at, label, body)
+    let body = inner_below(alloc, c, s, height)?;
+    Ok(StmtNode::labelled(at, label, body))
 }
 
 /// `e : s` behind `case`
@@ -106,15 +125,14 @@ fn case_behind<L: TokenList>(
     s: &mut Scopes,
     height: u32,
     at: u32,
-) -> Result<Stmt, ParseStop>
+) -> Result<StmtNode, ParseStop>
     ensures gives { Gives (λ x. (stmt_of x, s.new)) result (case_behind (lower height) s.old at (ahead c.old)) (ahead c.new) }
-    ensures same { c.new.all ≡ c.old.all }
-    ensures onward { c.old.at ≤ c.new.at }
+    ensures onward { Onward c.old c.new }
 {
     let value = expr_below(alloc, c, s, height, Level::Conditional)?;
     take_sign(c, Punctuator::Colon)?;
-    let body = statement_below(alloc, c, s, height)?;
-    case_of(alloc, at, value, body)
+    let body = inner_below(alloc, c, s, height)?;
+    Ok(StmtNode::case(at, value, body))
 }
 
 /// `: s` behind `default`
@@ -125,14 +143,13 @@ fn default_behind<L: TokenList>(
     s: &mut Scopes,
     height: u32,
     at: u32,
-) -> Result<Stmt, ParseStop>
+) -> Result<StmtNode, ParseStop>
     ensures gives { Gives (λ x. (stmt_of x, s.new)) result (behind_colon (lower height) (plain.Default at) s.old (ahead c.old)) (ahead c.new) }
-    ensures same { c.new.all ≡ c.old.all }
-    ensures onward { c.old.at ≤ c.new.at }
+    ensures onward { Onward c.old c.new }
 {
     take_sign(c, Punctuator::Colon)?;
-    let body = statement_below(alloc, c, s, height)?;
-    default_of(alloc, at, body)
+    let body = inner_below(alloc, c, s, height)?;
+    Ok(StmtNode::default(at, body))
 }
 
 /// `else s` behind a first branch, within the block of both
@@ -144,19 +161,18 @@ fn else_behind<L: TokenList>(
     s: &mut Scopes,
     height: u32,
     at: u32,
-    condition: Expr,
-    yes: Stmt,
-) -> Result<Stmt, ParseStop>
+    condition: FullExpr,
+    yes: InnerStmt,
+) -> Result<StmtNode, ParseStop>
     ensures gives { (ds : List Scope) → Gives (λ x. (stmt_of x, ds)) result (else_behind (lower height) ds at ((expr_of condition, s.old), stmt_of yes) (ahead c.old)) (ahead c.new) }
-    ensures same { c.new.all ≡ c.old.all }
-    ensures onward { c.old.at ≤ c.new.at }
+    ensures onward { Onward c.old c.new }
     ensures kept { IfOk result (λ _. s.new ≡ s.old) }
 {
     take_else(c)?;
     enter_block(s)?;
-    let no = statement_below(alloc, c, s, height)?;
+    let no = inner_below(alloc, c, s, height)?;
     leave_block(s);
-    if_else_of(alloc, at, condition, yes, no)
+    Ok(StmtNode::if_else(at, condition, yes, no))
 }
 
 /// What stands behind a first branch: `else s`, or nothing; an else belongs to the nearest if (C11 6.8.4.1p3).
@@ -167,18 +183,17 @@ fn if_rest<L: TokenList>(
     s: &mut Scopes,
     height: u32,
     at: u32,
-    condition: Expr,
-    yes: Stmt,
-) -> Result<Stmt, ParseStop>
+    condition: FullExpr,
+    yes: InnerStmt,
+) -> Result<StmtNode, ParseStop>
     ensures gives { (ds : List Scope) → Gives (λ x. (stmt_of x, ds)) result (if_rest (lower height) ds at ((expr_of condition, s.old), stmt_of yes) (ahead c.old)) (ahead c.new) }
-    ensures same { c.new.all ≡ c.old.all }
-    ensures onward { c.old.at ≤ c.new.at }
+    ensures onward { Onward c.old c.new }
     ensures kept { IfOk result (λ _. s.new ≡ s.old) }
 {
     if at_else(c) {
         return else_behind(alloc, c, s, height, at, condition, yes);
     }
-    if_of(alloc, at, condition, yes)
+    Ok(StmtNode::if_only(at, condition, yes))
 }
 
 /// `( e ) s` and an else behind `if` (C11 6.8.4.1)
@@ -189,13 +204,12 @@ fn if_behind<L: TokenList>(
     s: &mut Scopes,
     height: u32,
     at: u32,
-) -> Result<Stmt, ParseStop>
+) -> Result<StmtNode, ParseStop>
     ensures gives { Gives (λ x. (stmt_of x, s.new)) result (if_behind (lower height) s.old at (ahead c.old)) (ahead c.new) }
-    ensures same { c.new.all ≡ c.old.all }
-    ensures onward { c.old.at ≤ c.new.at }
+    ensures onward { Onward c.old c.new }
 {
-    let (condition, yes) = controlled(alloc, c, s, height)?;
-    let statement = if_rest(alloc, c, s, height, at, condition, yes)?;
+    let ControlledStmt { condition, body } = controlled(alloc, c, s, height)?;
+    let statement = if_rest(alloc, c, s, height, at, condition, body)?;
     leave_block(s);
     Ok(statement)
 }
@@ -208,14 +222,13 @@ fn switch_behind<L: TokenList>(
     s: &mut Scopes,
     height: u32,
     at: u32,
-) -> Result<Stmt, ParseStop>
+) -> Result<StmtNode, ParseStop>
     ensures gives { Gives (λ x. (stmt_of x, s.new)) result (switch_behind (lower height) s.old at (ahead c.old)) (ahead c.new) }
-    ensures same { c.new.all ≡ c.old.all }
-    ensures onward { c.old.at ≤ c.new.at }
+    ensures onward { Onward c.old c.new }
 {
-    let (value, body) = controlled(alloc, c, s, height)?;
+    let ControlledStmt { condition, body } = controlled(alloc, c, s, height)?;
     leave_block(s);
-    switch_of(alloc, at, value, body)
+    Ok(StmtNode::switch(at, condition, body))
 }
 
 /// `( e ) s` behind `while` (C11 6.8.5.1)
@@ -226,14 +239,13 @@ fn while_behind<L: TokenList>(
     s: &mut Scopes,
     height: u32,
     at: u32,
-) -> Result<Stmt, ParseStop>
+) -> Result<StmtNode, ParseStop>
     ensures gives { Gives (λ x. (stmt_of x, s.new)) result (while_behind (lower height) s.old at (ahead c.old)) (ahead c.new) }
-    ensures same { c.new.all ≡ c.old.all }
-    ensures onward { c.old.at ≤ c.new.at }
+    ensures onward { Onward c.old c.new }
 {
-    let (condition, body) = controlled(alloc, c, s, height)?;
+    let ControlledStmt { condition, body } = controlled(alloc, c, s, height)?;
     leave_block(s);
-    while_of(alloc, at, condition, body)
+    Ok(StmtNode::while_loop(at, condition, body))
 }
 
 /// `while ( e ) ;` behind the body of a do statement, in the block of both, of which `ds` are the scopes in front
@@ -243,17 +255,16 @@ fn do_rest<L: TokenList>(
     s: &mut Scopes,
     height: u32,
     at: u32,
-    body: Stmt,
-) -> Result<Stmt, ParseStop>
+    body: InnerStmt,
+) -> Result<StmtNode, ParseStop>
     ensures gives { (ds : List Scope) (es : List Scope) → s.old ≡ entered ds → Gives (λ x. (stmt_of x, ds)) result (do_rest (lower height) ds at (stmt_of body, es) (ahead c.old)) (ahead c.new) }
-    ensures same { c.new.all ≡ c.old.all }
-    ensures onward { c.old.at ≤ c.new.at }
+    ensures onward { Onward c.old c.new }
     ensures outer { IfOk result (λ _. outer_of s.new ≡ outer_of s.old) }
 {
     take_while(c)?;
     let e = condition(alloc, c, s, height)?;
     take_sign(c, Punctuator::Semicolon)?;
-    do_of(alloc, at, body, e)
+    Ok(StmtNode::do_while(at, body, e))
 }
 
 /// `s while ( e ) ;` behind `do` (C11 6.8.5.2)
@@ -265,14 +276,13 @@ fn do_behind<L: TokenList>(
     s: &mut Scopes,
     height: u32,
     at: u32,
-) -> Result<Stmt, ParseStop>
+) -> Result<StmtNode, ParseStop>
     ensures gives { Gives (λ x. (stmt_of x, s.new)) result (do_behind (lower height) s.old at (ahead c.old)) (ahead c.new) }
-    ensures same { c.new.all ≡ c.old.all }
-    ensures onward { c.old.at ≤ c.new.at }
+    ensures onward { Onward c.old c.new }
 {
     enter_block(s)?;
     enter_block(s)?;
-    let body = statement_below(alloc, c, s, height)?;
+    let body = inner_below(alloc, c, s, height)?;
     leave_block(s);
     let statement = do_rest(alloc, c, s, height, at, body)?;
     leave_block(s);
@@ -288,19 +298,18 @@ fn for_body<L: TokenList>(
     s: &mut Scopes,
     height: u32,
     at: u32,
-    start: ForStart,
-    condition: Option<Expr>,
-    step: Option<Expr>,
-) -> Result<Stmt, ParseStop>
+    start: StartNode,
+    condition: Option<FullExpr>,
+    step: Option<FullExpr>,
+) -> Result<StmtNode, ParseStop>
     ensures gives { (ds : List Scope) → Gives (λ x. (stmt_of x, ds)) result (for_body (lower height) ds at (start_of start) (option_map expr_of condition) (option_map expr_of step, s.old) (ahead c.old)) (ahead c.new) }
-    ensures same { c.new.all ≡ c.old.all }
-    ensures onward { c.old.at ≤ c.new.at }
+    ensures onward { Onward c.old c.new }
     ensures kept { IfOk result (λ _. s.new ≡ s.old) }
 {
     enter_block(s)?;
-    let body = statement_below(alloc, c, s, height)?;
+    let body = inner_below(alloc, c, s, height)?;
     leave_block(s);
-    for_of(alloc, at, start, condition, step, body)
+    Ok(StmtNode::for_loop(at, start, condition, step, body))
 }
 
 /// `e ; e ) s` behind the start of a for statement
@@ -311,11 +320,10 @@ fn for_rest<L: TokenList>(
     s: &mut Scopes,
     height: u32,
     at: u32,
-    start: ForStart,
-) -> Result<Stmt, ParseStop>
+    start: StartNode,
+) -> Result<StmtNode, ParseStop>
     ensures gives { (ds : List Scope) → Gives (λ x. (stmt_of x, ds)) result (for_rest (lower height) ds at (start_of start, s.old) (ahead c.old)) (ahead c.new) }
-    ensures same { c.new.all ≡ c.old.all }
-    ensures onward { c.old.at ≤ c.new.at }
+    ensures onward { Onward c.old c.new }
     ensures outer { IfOk result (λ _. outer_of s.new ≡ outer_of s.old) }
 {
     let condition = maybe_closed(alloc, c, s, height, Punctuator::Semicolon)?;
@@ -331,10 +339,9 @@ fn for_inside<L: TokenList>(
     s: &mut Scopes,
     height: u32,
     at: u32,
-) -> Result<Stmt, ParseStop>
+) -> Result<StmtNode, ParseStop>
     ensures gives { (ds : List Scope) → s.old ≡ entered ds → Gives (λ x. (stmt_of x, ds)) result (bind (for_start (lower height) (entered ds)) (λ start. for_rest (lower height) ds at start) (ahead c.old)) (ahead c.new) }
-    ensures same { c.new.all ≡ c.old.all }
-    ensures onward { c.old.at ≤ c.new.at }
+    ensures onward { Onward c.old c.new }
     ensures outer { IfOk result (λ _. outer_of s.new ≡ outer_of s.old) }
 {
     let start = for_start(alloc, c, s, height)?;
@@ -350,10 +357,9 @@ fn for_behind<L: TokenList>(
     s: &mut Scopes,
     height: u32,
     at: u32,
-) -> Result<Stmt, ParseStop>
+) -> Result<StmtNode, ParseStop>
     ensures gives { Gives (λ x. (stmt_of x, s.new)) result (for_behind (lower height) s.old at (ahead c.old)) (ahead c.new) }
-    ensures same { c.new.all ≡ c.old.all }
-    ensures onward { c.old.at ≤ c.new.at }
+    ensures onward { Onward c.old c.new }
 {
     take_sign(c, Punctuator::LeftParen)?;
     enter_block(s)?;
@@ -369,14 +375,14 @@ fn doing<L: TokenList>(
     c: &mut Cursor<L>,
     s: &mut Scopes,
     height: u32,
-) -> Result<BlockItem, ParseStop>
+) -> Result<BlockItemNode, ParseStop>
     ensures gives { Gives (λ x. (block_item_of x, s.new)) result (doing (lower height) s.old (ahead c.old)) (ahead c.new) }
-    ensures same { c.new.all ≡ c.old.all }
-    ensures onward { c.old.at ≤ c.new.at }
+    ensures onward { Onward c.old c.new }
     ensures further { IfOk result (λ _. c.old.at < c.new.at) }
     ensures outer { IfOk result (λ _. outer_of s.new ≡ outer_of s.old) }
 {
-    Ok(BlockItem::Statement(statement_below(alloc, c, s, height)?))
+    let statement = statement_below(alloc, c, s, height)?;
+    Ok(BlockItemNode::statement(statement))
 }
 
 /// An item that begins with a typedef name: a declaration, but for a label (C11 6.2.3).
@@ -386,10 +392,9 @@ fn typed_item<L: TokenList>(
     c: &mut Cursor<L>,
     s: &mut Scopes,
     height: u32,
-) -> Result<BlockItem, ParseStop>
+) -> Result<BlockItemNode, ParseStop>
     ensures gives { Gives (λ x. (block_item_of x, s.new)) result (typed_item height (lower height) s.old (ahead c.old)) (ahead c.new) }
-    ensures same { c.new.all ≡ c.old.all }
-    ensures onward { c.old.at ≤ c.new.at }
+    ensures onward { Onward c.old c.new }
     ensures further { IfOk result (λ _. c.old.at < c.new.at) }
     ensures outer { IfOk result (λ _. outer_of s.new ≡ outer_of s.old) }
 {
@@ -409,10 +414,9 @@ fn untyped_item<L: TokenList>(
     c: &mut Cursor<L>,
     s: &mut Scopes,
     height: u32,
-) -> Result<BlockItem, ParseStop>
+) -> Result<BlockItemNode, ParseStop>
     ensures gives { Gives (λ x. (block_item_of x, s.new)) result (untyped_item (lower height) s.old (ahead c.old)) (ahead c.new) }
-    ensures same { c.new.all ≡ c.old.all }
-    ensures onward { c.old.at ≤ c.new.at }
+    ensures onward { Onward c.old c.new }
     ensures further { IfOk result (λ _. c.old.at < c.new.at) }
     ensures outer { IfOk result (λ _. outer_of s.new ≡ outer_of s.old) }
 {
@@ -429,10 +433,9 @@ fn item<L: TokenList>(
     c: &mut Cursor<L>,
     s: &mut Scopes,
     height: u32,
-) -> Result<BlockItem, ParseStop>
+) -> Result<BlockItemNode, ParseStop>
     ensures gives { Gives (λ x. (block_item_of x, s.new)) result (item height (lower height) s.old (ahead c.old)) (ahead c.new) }
-    ensures same { c.new.all ≡ c.old.all }
-    ensures onward { c.old.at ≤ c.new.at }
+    ensures onward { Onward c.old c.new }
     ensures further { IfOk result (λ _. c.old.at < c.new.at) }
     ensures outer { IfOk result (λ _. outer_of s.new ≡ outer_of s.old) }
 {
@@ -450,13 +453,12 @@ fn items<L: TokenList>(
     c: &mut Cursor<L>,
     s: &mut Scopes,
     height: u32,
-) -> Result<Vec<BlockItem>, ParseStop>
-    ensures gives { Gives (λ x. (map block_item_of x.items, s.new)) result (items height (lower height) s.old (ahead c.old)) (ahead c.new) }
-    ensures same { c.new.all ≡ c.old.all }
-    ensures onward { c.old.at ≤ c.new.at }
+) -> Result<Block, ParseStop>
+    ensures gives { Gives (λ x. (map block_item_of x, s.new)) result (items height (lower height) s.old (ahead c.old)) (ahead c.new) }
+    ensures onward { Onward c.old c.new }
     ensures outer { IfOk result (λ _. outer_of s.new ≡ outer_of s.old) }
 {
-    let mut is = Vec::new(alloc);
+    let mut is = Block::new(alloc);
     while at_other(c, Punctuator::RightBrace) {
         let i = item(alloc, c, s, height)?;
         is.push(i)?;
@@ -472,10 +474,9 @@ fn items_closed<L: TokenList>(
     c: &mut Cursor<L>,
     s: &mut Scopes,
     height: u32,
-) -> Result<Vec<BlockItem>, ParseStop>
-    ensures gives { Gives (λ x. block_of x.items) result (items_closed height (lower height) s.old (ahead c.old)) (ahead c.new) }
-    ensures same { c.new.all ≡ c.old.all }
-    ensures onward { c.old.at ≤ c.new.at }
+) -> Result<Block, ParseStop>
+    ensures gives { Gives (λ x. block_of x) result (items_closed height (lower height) s.old (ahead c.old)) (ahead c.new) }
+    ensures onward { Onward c.old c.new }
     ensures outer { IfOk result (λ _. outer_of s.new ≡ outer_of s.old) }
 {
     let is = items(alloc, c, s, height)?;
@@ -492,15 +493,14 @@ fn block_behind<L: TokenList>(
     s: &mut Scopes,
     height: u32,
     at: u32,
-) -> Result<Stmt, ParseStop>
+) -> Result<StmtNode, ParseStop>
     ensures gives { Gives (λ x. (stmt_of x, s.new)) result (block_behind height (lower height) s.old at (ahead c.old)) (ahead c.new) }
-    ensures same { c.new.all ≡ c.old.all }
-    ensures onward { c.old.at ≤ c.new.at }
+    ensures onward { Onward c.old c.new }
 {
     enter_block(s)?;
     let is = items_closed(alloc, c, s, height)?;
     leave_block(s);
-    Ok(compound_of(at, is))
+    Ok(StmtNode::compound(at, is))
 }
 
 /// What stands behind the first word or brace of a statement.
@@ -512,10 +512,9 @@ fn behind_word<L: TokenList>(
     height: u32,
     at: u32,
     word: StatementWord,
-) -> Result<Stmt, ParseStop>
+) -> Result<StmtNode, ParseStop>
     ensures gives { Gives (λ x. (stmt_of x, s.new)) result (behind_word height (lower height) s.old at word (ahead c.old)) (ahead c.new) }
-    ensures same { c.new.all ≡ c.old.all }
-    ensures onward { c.old.at ≤ c.new.at }
+    ensures onward { Onward c.old c.new }
 {
     match word {
         StatementWord::Case => case_behind(alloc, c, s, height, at),
@@ -541,10 +540,9 @@ fn worded<L: TokenList>(
     s: &mut Scopes,
     height: u32,
     at: u32,
-) -> Result<Stmt, ParseStop>
+) -> Result<StmtNode, ParseStop>
     ensures gives { Gives (λ x. (stmt_of x, s.new)) result (worded height (lower height) s.old at (ahead c.old)) (ahead c.new) }
-    ensures same { c.new.all ≡ c.old.all }
-    ensures onward { c.old.at ≤ c.new.at }
+    ensures onward { Onward c.old c.new }
     ensures further { IfOk result (λ _. c.old.at < c.new.at) }
 {
     let word = take_statement_word(c)?;
@@ -559,10 +557,9 @@ fn named<L: TokenList>(
     s: &mut Scopes,
     height: u32,
     at: u32,
-) -> Result<Stmt, ParseStop>
+) -> Result<StmtNode, ParseStop>
     ensures gives { Gives (λ x. (stmt_of x, s.new)) result (named height (lower height) s.old at (ahead c.old)) (ahead c.new) }
-    ensures same { c.new.all ≡ c.old.all }
-    ensures onward { c.old.at ≤ c.new.at }
+    ensures onward { Onward c.old c.new }
     ensures further { IfOk result (λ _. c.old.at < c.new.at) }
 {
     if height < 2 {
@@ -582,10 +579,9 @@ fn unnamed<L: TokenList>(
     s: &mut Scopes,
     height: u32,
     at: u32,
-) -> Result<Stmt, ParseStop>
+) -> Result<StmtNode, ParseStop>
     ensures gives { Gives (λ x. (stmt_of x, s.new)) result (unnamed height (lower height) s.old at (ahead c.old)) (ahead c.new) }
-    ensures same { c.new.all ≡ c.old.all }
-    ensures onward { c.old.at ≤ c.new.at }
+    ensures onward { Onward c.old c.new }
     ensures further { IfOk result (λ _. c.old.at < c.new.at) }
 {
     if at_statement_word(c) {
@@ -602,10 +598,9 @@ fn statement_at<L: TokenList>(
     s: &mut Scopes,
     height: u32,
     at: u32,
-) -> Result<Stmt, ParseStop>
+) -> Result<StmtNode, ParseStop>
     ensures gives { Gives (λ x. (stmt_of x, s.new)) result (statement_at height (lower height) s.old at (ahead c.old)) (ahead c.new) }
-    ensures same { c.new.all ≡ c.old.all }
-    ensures onward { c.old.at ≤ c.new.at }
+    ensures onward { Onward c.old c.new }
     ensures further { IfOk result (λ _. c.old.at < c.new.at) }
 {
     if at_name(c) {
@@ -621,10 +616,9 @@ fn statement<L: TokenList>(
     c: &mut Cursor<L>,
     s: &mut Scopes,
     height: u32,
-) -> Result<Stmt, ParseStop>
+) -> Result<StmtNode, ParseStop>
     ensures gives { Gives (λ x. (stmt_of x, s.new)) result (statement height (lower height) s.old (ahead c.old)) (ahead c.new) }
-    ensures same { c.new.all ≡ c.old.all }
-    ensures onward { c.old.at ≤ c.new.at }
+    ensures onward { Onward c.old c.new }
     ensures further { IfOk result (λ _. c.old.at < c.new.at) }
 {
     if height < 1 {
@@ -640,10 +634,9 @@ fn body<L: TokenList>(
     c: &mut Cursor<L>,
     s: &mut Scopes,
     height: u32,
-) -> Result<Vec<BlockItem>, ParseStop>
-    ensures gives { Gives (λ x. block_of x.items) result (body height (lower height) s.old (ahead c.old)) (ahead c.new) }
-    ensures same { c.new.all ≡ c.old.all }
-    ensures onward { c.old.at ≤ c.new.at }
+) -> Result<Block, ParseStop>
+    ensures gives { Gives (λ x. block_of x) result (body height (lower height) s.old (ahead c.old)) (ahead c.new) }
+    ensures onward { Onward c.old c.new }
     ensures further { IfOk result (λ _. c.old.at < c.new.at) }
     ensures outer { IfOk result (λ _. outer_of s.new ≡ outer_of s.old) }
 {
@@ -661,10 +654,9 @@ pub(crate) fn body_below<L: TokenList>(
     c: &mut Cursor<L>,
     s: &mut Scopes,
     height: u32,
-) -> Result<Vec<BlockItem>, ParseStop>
-    ensures gives { Gives (λ x. block_of x.items) result ((lower height).body s.old (ahead c.old)) (ahead c.new) }
-    ensures same { c.new.all ≡ c.old.all }
-    ensures onward { c.old.at ≤ c.new.at }
+) -> Result<Block, ParseStop>
+    ensures gives { Gives (λ x. block_of x) result ((lower height).body s.old (ahead c.old)) (ahead c.new) }
+    ensures onward { Onward c.old c.new }
     ensures further { IfOk result (λ _. c.old.at < c.new.at) }
     ensures outer { IfOk result (λ _. outer_of s.new ≡ outer_of s.old) }
 {

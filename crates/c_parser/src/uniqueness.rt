@@ -4,7 +4,7 @@ ghost use Rattle.c_tree.specs.Units.{DeclarationTree, StmtTree, ExternalTree, Un
 ghost use Rattle.c_tree.specs.Spelling.{Lexeme};
 ghost use Rattle.c_tree.specs.UnitSpelling.{spell_unit};
 ghost use Rattle.c_tree.specs.Grammatical.{is_grammatical};
-ghost use Rattle.c_exprs.specs.Readers.{input};
+ghost use Rattle.c_cursor.specs.Readers.{input};
 ghost use Rattle.c_exprs.specs.Subs.{In};
 ghost use Rattle.c_parser.specs.UnitAnswers.{RefusesUnit, UnitAnswer};
 ghost use Rattle.c_parser.specs.UnitStops.{AnswersUnit};

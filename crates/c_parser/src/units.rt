@@ -2,9 +2,9 @@ ghost use Rattle.std.specs.Prelude.{◌≡◌, ◌<◌, ◌≤◌, true, map, dr
 ghost use Rattle.c_tree.specs.UnitView.{unit_of};
 ghost use Rattle.c_tree.specs.UnitView.{external_of as tree_of};
 ghost use Rattle.c_tree.specs.Levels.{has_some};
-ghost use Rattle.c_exprs.specs.Lexemes.{lexemes, ahead};
+ghost use Rattle.c_cursor.specs.Lexemes.{lexemes, ahead};
 ghost use Rattle.c_lexer.specs.Lexed.{IfRefused};
-ghost use Rattle.c_exprs.specs.Readers.{head};
+ghost use Rattle.c_cursor.specs.Readers.{head};
 ghost use Rattle.c_parser.specs.StatementWords.{token_ahead};
 ghost use Rattle.c_parser.specs.Externals.{file_scope, greatest_height};
 ghost use Rattle.c_parser.specs.UnitAnswers.{ReadsUnit, IsSyntaxFault};
@@ -14,9 +14,10 @@ ghost use Rattle.c_parser.specs.UnitStops.{StopsUnit, Told, StopsAt, FailsExtern
 use crate::externals::external;
 use crate::nexts::at_token;
 use crate::stops::UnitStop;
-use c_exprs::{Cursor, ParseStop};
+use c_cursor::{Cursor, ParseStop};
 use c_lexer::TokenList;
-use c_tree::{ExtDecl, Unit};
+use c_nodes::{ExternalNode, Externals};
+use c_tree::Unit;
 use cil_base::{Fault, Refusal, Stop};
 use std::alloc::Global;
 use typedef_scopes::Scopes;
@@ -29,7 +30,7 @@ fn next_external<L: TokenList>(
     alloc: Global,
     c: &mut Cursor<L>,
     s: &mut Scopes,
-) -> Result<ExtDecl, UnitStop>
+) -> Result<ExternalNode, UnitStop>
     ensures read { IfOk result (λ x. external_of greatest_height s.old (ahead c.old) ≡ Ok ((tree_of x, s.new), ahead c.new)) }
     ensures refused { IfErr result (λ stop. Told (FailsExternal s.old (ahead c.old) (ahead c.new)) stop) }
     ensures same { c.new.all ≡ c.old.all }
@@ -49,12 +50,12 @@ fn one_more<L: TokenList>(
     alloc: Global,
     c: &mut Cursor<L>,
     s: &mut Scopes,
-    first: Vec<ExtDecl>,
-) -> Result<Vec<ExtDecl>, UnitStop>
-    requires behind { Behind c.old.all c.old.at (map tree_of first.items) s.old }
+    first: Externals,
+) -> Result<Externals, UnitStop>
+    requires behind { Behind c.old.all c.old.at (map tree_of first) s.old }
     requires on { token_ahead (head (drop c.old.at c.old.all)) ≡ true }
-    ensures behind { IfOk result (λ ds. Behind c.new.all c.new.at (map tree_of ds.items) s.new) }
-    ensures some { IfOk result (λ ds. has_some (map tree_of ds.items) ≡ true) }
+    ensures behind { IfOk result (λ ds. Behind c.new.all c.new.at (map tree_of ds) s.new) }
+    ensures some { IfOk result (λ ds. has_some (map tree_of ds) ≡ true) }
     ensures refused { IfErr result (λ stop. Told (StopsUnit c.old.all) stop) }
     ensures same { c.new.all ≡ c.old.all }
     ensures further { IfOk result (λ _. c.old.at < c.new.at) }
@@ -71,11 +72,11 @@ fn more_externals<L: TokenList>(
     alloc: Global,
     c: &mut Cursor<L>,
     s: &mut Scopes,
-    first: Vec<ExtDecl>,
-) -> Result<Vec<ExtDecl>, UnitStop>
-    requires behind { Behind c.old.all c.old.at (map tree_of first.items) s.old }
-    requires some { has_some (map tree_of first.items) ≡ true }
-    ensures read { IfOk result (λ ds. ReadsUnit c.old.all (map tree_of ds.items)) }
+    first: Externals,
+) -> Result<Externals, UnitStop>
+    requires behind { Behind c.old.all c.old.at (map tree_of first) s.old }
+    requires some { has_some (map tree_of first) ≡ true }
+    ensures read { IfOk result (λ ds. ReadsUnit c.old.all (map tree_of ds)) }
     ensures refused { IfErr result (λ stop. Told (StopsUnit c.old.all) stop) }
 {
     let mut ds = first;
@@ -91,14 +92,14 @@ fn externals<L: TokenList>(
     alloc: Global,
     c: &mut Cursor<L>,
     s: &mut Scopes,
-) -> Result<Vec<ExtDecl>, UnitStop>
+) -> Result<Externals, UnitStop>
     requires at { c.old.at ≡ 0 }
     requires scopes { s.old ≡ file_scope }
-    ensures read { IfOk result (λ ds. ReadsUnit c.old.all (map tree_of ds.items)) }
+    ensures read { IfOk result (λ ds. ReadsUnit c.old.all (map tree_of ds)) }
     ensures refused { IfErr result (λ stop. Told (StopsUnit c.old.all) stop) }
 {
     let d = next_external(alloc, c, s)?;
-    let mut ds = Vec::new(alloc);
+    let mut ds = Externals::new(alloc);
     ds.push(d)?;
     more_externals(alloc, c, s, ds)
 }
@@ -111,7 +112,7 @@ fn unit<L: TokenList>(alloc: Global, tokens: &L) -> Result<Unit, UnitStop>
     let mut c = Cursor::new(tokens);
     let mut s = Scopes::new(alloc);
     let declarations = externals(alloc, &mut c, &mut s)?;
-    Ok(Unit { declarations })
+    Ok(declarations.into_unit())
 }
 
 /// The refusal of a unit at the places of two tokens.

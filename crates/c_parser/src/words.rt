@@ -1,5 +1,5 @@
 /// The first token of a statement, where it is a word or a brace (C11 6.8).
-#[derive(Clone, Copy, Debug, PartialEq, Eq)]
+#[derive(Clone, Copy)]
 pub enum StatementWord {
     Case,
     Default,

@@ -1,4 +1,5 @@
-use c_exprs::{Cursor, ParseStop, declarator, expr, initialiser, specifiers, type_name};
+use c_cursor::{Cursor, ParseStop};
+use c_exprs::{declarator, expr, initialiser, specifiers, type_name};
 use c_lexer::lex;
 use c_tree::{Expr, Level};
 use cil_base::{NamePool, Stop, UnitNo};

@@ -1,4 +1,4 @@
-//! The tests of the crates that read C: `c_lexer`, `c_tree`, `c_exprs` and `c_parser`.
+//! The tests of the crates that read C: `c_lexer`, `c_height`, `c_levels`, `c_speller`, `c_exprs` and `c_parser`.
 //!
 //! They use public calls alone, and stand in a crate of their own so that those crates are proved once, and not once more with their tests.
 #![tactic(auto)]

@@ -1,6 +1,9 @@
+use c_height::height_of_external;
+use c_levels::well_levelled;
+use c_speller::{SpelledToken, spell};
 use c_tree::{
     BasicType, BlockItem, Declaration, Declarator, Expr, ExtDecl, FunctionDefinition, Init,
-    InitDeclarator, Specifier, SpelledToken, Stmt, Unit, height_of_external, spell, well_levelled,
+    InitDeclarator, Specifier, Stmt, Unit,
 };
 use cil_base::{BinOp, Bytes, Keyword, Memory, NameId, NamePool, Punctuator, TokenKind};
 use std::alloc::Global;

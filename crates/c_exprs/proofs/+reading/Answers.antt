@@ -1,8 +1,8 @@
 use Rattle.std.proofs.Common.{false, map, arith}
 use Rattle.cil_base.specs.declared.tokens.Punctuator.TheVariants.{Ellipsis}
 use Rattle.c_tree.specs.View.{declarator_of, parameter_of}
-use Rattle.c_exprs.specs.Lexemes.{ahead}
-use Rattle.c_exprs.specs.Classes.{next_is, is_sign, take}
+use Rattle.c_cursor.specs.Lexemes.{ahead}
+use Rattle.c_cursor.specs.Classes.{next_is, is_sign, take}
 use Rattle.c_exprs.specs.Subs.{more_listed_to}
 use Rattle.c_exprs.specs.Reading.{below}
 use Rattle.c_exprs.specs.DeclaratorReading.{parameter}
@@ -14,14 +14,14 @@ use Rattle.c_exprs.proofs.+reading.Goals as goal
 pub parameters::more_parameters-returns-in-None-clause-gives : goal.parameters::more_parameters-returns-in-None-clause-gives
 parameters::more_parameters-returns-in-None-clause-gives g t c =
     ending_last parameter_of _ (next_is (is_sign Ellipsis)) (take (is_sign Ellipsis)) (parameter (below c.args.height)) c.loop-alloc.c.all c.next_parameter.new.c.all c.loop-alloc.c.at c.next_parameter.new.c.at
-    c.loop-alloc.ps.items c.in_ok-p.field-0 c.loop-alloc.s c.next_parameter.new.s c.at_sign.result
-    (more_listed_to (next_is (is_sign Ellipsis)) (take (is_sign Ellipsis)) (parameter (below c.args.height)) ((map parameter_of c.args.first.items, false), c.args.s.now) (ahead c.args.c.now))
+    c.loop-alloc.ps c.in_ok-p.field-0 c.loop-alloc.s c.next_parameter.new.s c.at_sign.result
+    (more_listed_to (next_is (is_sign Ellipsis)) (take (is_sign Ellipsis)) (parameter (below c.args.height)) ((map parameter_of c.args.first, false), c.args.s.now) (ahead c.args.c.now))
     c.loop-alloc.invariant.0 c.at_sign.ensures.is c.loop-alloc-test.true c.at_sign.ensures.room c.in_ok-p.ensures.gives c.in-None.is
 
 pub parameters::prototyped-returns-clause-gives : goal.parameters::prototyped-returns-clause-gives
 parameters::prototyped-returns-clause-gives g t c =
     prototyped_read c.args.height c.args.at (declarator_of c.args.d) (declarator_of c.in_ok-function_of.field-0) c.args.s.now c.enter.new.self c.parameters.new.s c.leave.new.self
-    c.in_ok-ps.ps.items c.in_ok-ps.variadic c.in_ok-take_sign.field-0 (ahead c.args.c.now) (ahead c.parameters.new.c) (ahead c.take_sign.new.c)
+    c.in_ok-ps.ps c.in_ok-ps.variadic c.in_ok-take_sign.field-0 (ahead c.args.c.now) (ahead c.parameters.new.c) (ahead c.take_sign.new.c)
     c.in_ok-enter.ensures.ok c.in_ok-ps.ensures.gives c.in_ok-take_sign.ensures.gives c.leave.ensures c.in_ok-function_of.ensures
 
 pub declarators::declarator-returns-then-at_sign-clause-gives : goal.declarators::declarator-returns-then-at_sign-clause-gives

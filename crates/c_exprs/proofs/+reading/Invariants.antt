@@ -2,11 +2,11 @@
 use Rattle.std.proofs.Common.{◌≡◌, ◌≤◌, ◌<◌, ◌-◌, ◌+◌, ◌*◌, length, map, false}
 use Rattle.cil_base.specs.declared.tokens.Punctuator.TheVariants.{RightBrace, Ellipsis}
 use Rattle.c_tree.specs.declared.level.Level.TheVariants.{Assignment as AssignmentLevel}
-use Rattle.c_tree.specs.View.{expr_of, exprs_of, member_of, members_of, member_declarator_of, member_declarators_of, enumerator_of, enumerators_of, specifier_of, specifiers_of, parameter_of, parameters_of, declarator_of, designator_of, designators_of, item_of, items_of}
-use Rattle.c_tree.specs.Height.{expr_height, exprs_height, members_height, member_declarators_height, enumerators_height, specifiers_height, parameters_height, declarator_height, designators_height, items_height}
-use Rattle.c_exprs.specs.Lexemes.{ahead}
-use Rattle.c_exprs.specs.Readers.{pure}
-use Rattle.c_exprs.specs.Classes.{next_is, next_is_not, is_sign, is_designation, take}
+use Rattle.c_tree.specs.View.{expr_of, member_of, member_declarator_of, enumerator_of, specifier_of, parameter_of, declarator_of, designator_of, item_of}
+use Rattle.c_cursor.specs.Lexemes.{Onward, ahead}
+use Rattle.c_cursor.specs.Readers.{pure}
+use Rattle.c_cursor.specs.Classes.{next_is, next_is_not, is_sign, take}
+use Rattle.c_exprs.specs.Classes.{is_designation}
 use Rattle.c_exprs.specs.GoesOn.{goes_on_expr, goes_on_declarator}
 use Rattle.c_exprs.specs.Subs.{comma_ahead, behind_comma, more_listed, more_listed_to}
 use Rattle.c_exprs.specs.Reading.{below}
@@ -225,61 +225,61 @@ abbrev pub decreases-type_names::type_name_closed : goal.decreases-type_names::t
 decreases-type_names::type_name_closed g l = 19 * l.height + 2
 
 abbrev pub invariant-argument_list::more_arguments-loop-alloc : goal.invariant-argument_list::more_arguments-loop-alloc
-invariant-argument_list::more_arguments-loop-alloc g l = Growing expr_of (λ y. comma_ahead) (behind_comma ((below l.height).expr AssignmentLevel)) l.c.all l.c.at l.es.items l.s (more_listed ((below l.height).expr AssignmentLevel) (map expr_of l.fn.first.items, l.fn.s) (ahead l.fn.c)) × (l.c.all ≡ l.fn.c.all) × (l.fn.c.at ≤ l.c.at) × (l.es_height ≡ exprs_height (exprs_of l.es.items)) × (l.es_height < l.height)
+invariant-argument_list::more_arguments-loop-alloc g l = Growing expr_of (λ y. comma_ahead) (behind_comma ((below l.height).expr AssignmentLevel)) l.c.all l.c.at l.es l.s (more_listed ((below l.height).expr AssignmentLevel) (map expr_of l.fn.first, l.fn.s) (ahead l.fn.c)) × Onward l.fn.c l.c
 
 abbrev pub decreases-argument_list::more_arguments-loop-alloc : goal.decreases-argument_list::more_arguments-loop-alloc
 decreases-argument_list::more_arguments-loop-alloc g l = length l.c.all - l.c.at
 
 abbrev pub invariant-expressions::rises-loop-alloc : goal.invariant-expressions::rises-loop-alloc
-invariant-expressions::rises-loop-alloc g l = Following (λ y. goes_on_expr l.level) (rise l.height (below l.height) l.at l.level) l.c.all l.c.at (expr_of l.e) l.s (rises l.height (below l.height) l.at l.level (expr_of l.fn.x, l.fn.s) (ahead l.fn.c)) × (l.c.all ≡ l.fn.c.all) × (l.fn.c.at ≤ l.c.at) × (l.e_height ≡ expr_height (expr_of l.e)) × (l.e_height ≤ l.height)
+invariant-expressions::rises-loop-alloc g l = Following (λ y. goes_on_expr l.level) (rise l.height (below l.height) l.at l.level) l.c.all l.c.at (expr_of l.e) l.s (rises l.height (below l.height) l.at l.level (expr_of l.fn.x, l.fn.s) (ahead l.fn.c)) × Onward l.fn.c l.c
 
 abbrev pub decreases-expressions::rises-loop-alloc : goal.decreases-expressions::rises-loop-alloc
 decreases-expressions::rises-loop-alloc g l = length l.c.all - l.c.at
 
 abbrev pub invariant-members::more_member_declarators-loop-alloc : goal.invariant-members::more_member_declarators-loop-alloc
-invariant-members::more_member_declarators-loop-alloc g l = Growing member_declarator_of (λ y. comma_ahead) (behind_comma (member_declarator (below l.height))) l.c.all l.c.at l.ds.items l.s (more_listed (member_declarator (below l.height)) (map member_declarator_of l.fn.first.items, l.fn.s) (ahead l.fn.c)) × (l.c.all ≡ l.fn.c.all) × (l.fn.c.at ≤ l.c.at) × (l.ds_height ≡ member_declarators_height (member_declarators_of l.ds.items)) × (l.ds_height < l.height)
+invariant-members::more_member_declarators-loop-alloc g l = Growing member_declarator_of (λ y. comma_ahead) (behind_comma (member_declarator (below l.height))) l.c.all l.c.at l.ds l.s (more_listed (member_declarator (below l.height)) (map member_declarator_of l.fn.first, l.fn.s) (ahead l.fn.c)) × Onward l.fn.c l.c
 
 abbrev pub decreases-members::more_member_declarators-loop-alloc : goal.decreases-members::more_member_declarators-loop-alloc
 decreases-members::more_member_declarators-loop-alloc g l = length l.c.all - l.c.at
 
 abbrev pub invariant-specifier_lists::more_members-loop-alloc : goal.invariant-specifier_lists::more_members-loop-alloc
-invariant-specifier_lists::more_members-loop-alloc g l = Growing member_of (λ y. next_is_not RightBrace) (member (below l.height)) l.c.all l.c.at l.ms.items l.s (more_members (below l.height) (map member_of l.fn.first.items, l.fn.s) (ahead l.fn.c)) × (l.c.all ≡ l.fn.c.all) × (l.fn.c.at ≤ l.c.at) × (l.ms_height ≡ members_height (members_of l.ms.items)) × (l.ms_height < l.height)
+invariant-specifier_lists::more_members-loop-alloc g l = Growing member_of (λ y. next_is_not RightBrace) (member (below l.height)) l.c.all l.c.at l.ms l.s (more_members (below l.height) (map member_of l.fn.first, l.fn.s) (ahead l.fn.c)) × Onward l.fn.c l.c
 
 abbrev pub decreases-specifier_lists::more_members-loop-alloc : goal.decreases-specifier_lists::more_members-loop-alloc
 decreases-specifier_lists::more_members-loop-alloc g l = length l.c.all - l.c.at
 
 abbrev pub invariant-enumerators::more_enumerators-loop-alloc : goal.invariant-enumerators::more_enumerators-loop-alloc
-invariant-enumerators::more_enumerators-loop-alloc g l = Ending enumerator_of (next_is (is_sign RightBrace)) (pure tt) (enumerator (below l.height)) l.c.all l.c.at l.es.items l.s (more_listed_to (next_is (is_sign RightBrace)) (pure tt) (enumerator (below l.height)) ((map enumerator_of l.fn.first.items, false), l.fn.s) (ahead l.fn.c)) × (l.c.all ≡ l.fn.c.all) × (l.fn.c.at ≤ l.c.at) × (l.es_height ≡ enumerators_height (enumerators_of l.es.items)) × (l.es_height < l.height)
+invariant-enumerators::more_enumerators-loop-alloc g l = Ending enumerator_of (next_is (is_sign RightBrace)) (pure tt) (enumerator (below l.height)) l.c.all l.c.at l.es l.s (more_listed_to (next_is (is_sign RightBrace)) (pure tt) (enumerator (below l.height)) ((map enumerator_of l.fn.first, false), l.fn.s) (ahead l.fn.c)) × Onward l.fn.c l.c
 
 abbrev pub decreases-enumerators::more_enumerators-loop-alloc : goal.decreases-enumerators::more_enumerators-loop-alloc
 decreases-enumerators::more_enumerators-loop-alloc g l = length l.c.all - l.c.at
 
 abbrev pub invariant-specifier_lists::more_specifiers-loop-alloc : goal.invariant-specifier_lists::more_specifiers-loop-alloc
-invariant-specifier_lists::more_specifiers-loop-alloc g l = Specifying l.height l.form l.c.all l.c.at l.xs.items l.s (more_specifiers l.height (below l.height) l.form (map specifier_of l.fn.first.items, l.fn.s) (ahead l.fn.c)) × (l.c.all ≡ l.fn.c.all) × (l.fn.c.at ≤ l.c.at) × (l.xs_height ≡ specifiers_height (specifiers_of l.xs.items)) × (l.xs_height ≤ l.height) × (l.typed ≡ some_typed (map specifier_of l.xs.items))
+invariant-specifier_lists::more_specifiers-loop-alloc g l = Specifying l.height l.form l.c.all l.c.at l.xs l.s (more_specifiers l.height (below l.height) l.form (map specifier_of l.fn.first, l.fn.s) (ahead l.fn.c)) × Onward l.fn.c l.c × (l.typed ≡ some_typed (map specifier_of l.xs))
 
 abbrev pub decreases-specifier_lists::more_specifiers-loop-alloc : goal.decreases-specifier_lists::more_specifiers-loop-alloc
 decreases-specifier_lists::more_specifiers-loop-alloc g l = length l.c.all - l.c.at
 
 abbrev pub invariant-parameters::more_parameters-loop-alloc : goal.invariant-parameters::more_parameters-loop-alloc
-invariant-parameters::more_parameters-loop-alloc g l = Ending parameter_of (next_is (is_sign Ellipsis)) (take (is_sign Ellipsis)) (parameter (below l.height)) l.c.all l.c.at l.ps.items l.s (more_listed_to (next_is (is_sign Ellipsis)) (take (is_sign Ellipsis)) (parameter (below l.height)) ((map parameter_of l.fn.first.items, false), l.fn.s) (ahead l.fn.c)) × (l.c.all ≡ l.fn.c.all) × (l.fn.c.at ≤ l.c.at) × (l.ps_height ≡ parameters_height (parameters_of l.ps.items)) × (l.ps_height < l.height)
+invariant-parameters::more_parameters-loop-alloc g l = Ending parameter_of (next_is (is_sign Ellipsis)) (take (is_sign Ellipsis)) (parameter (below l.height)) l.c.all l.c.at l.ps l.s (more_listed_to (next_is (is_sign Ellipsis)) (take (is_sign Ellipsis)) (parameter (below l.height)) ((map parameter_of l.fn.first, false), l.fn.s) (ahead l.fn.c)) × Onward l.fn.c l.c
 
 abbrev pub decreases-parameters::more_parameters-loop-alloc : goal.decreases-parameters::more_parameters-loop-alloc
 decreases-parameters::more_parameters-loop-alloc g l = length l.c.all - l.c.at
 
 abbrev pub invariant-declarators::derivations-loop-alloc : goal.invariant-declarators::derivations-loop-alloc
-invariant-declarators::derivations-loop-alloc g l = Following (λ y. goes_on_declarator l.form) (derivation l.height (below l.height) l.form l.at) l.c.all l.c.at (declarator_of l.d) l.s (derivations l.height (below l.height) l.form l.at (declarator_of l.fn.first, l.fn.s) (ahead l.fn.c)) × (l.c.all ≡ l.fn.c.all) × (l.fn.c.at ≤ l.c.at) × (l.d_height ≡ declarator_height (declarator_of l.d)) × (l.d_height ≤ l.height)
+invariant-declarators::derivations-loop-alloc g l = Following (λ y. goes_on_declarator l.form) (derivation l.height (below l.height) l.form l.at) l.c.all l.c.at (declarator_of l.d) l.s (derivations l.height (below l.height) l.form l.at (declarator_of l.fn.first, l.fn.s) (ahead l.fn.c)) × Onward l.fn.c l.c
 
 abbrev pub decreases-declarators::derivations-loop-alloc : goal.decreases-declarators::derivations-loop-alloc
 decreases-declarators::derivations-loop-alloc g l = length l.c.all - l.c.at
 
 abbrev pub invariant-initialisers::more_designators-loop-alloc : goal.invariant-initialisers::more_designators-loop-alloc
-invariant-initialisers::more_designators-loop-alloc g l = Growing designator_of (λ y. next_is is_designation) (designator l.height (below l.height)) l.c.all l.c.at l.ds.items l.s (more_designators l.height (below l.height) (map designator_of l.fn.first.items, l.fn.s) (ahead l.fn.c)) × (l.c.all ≡ l.fn.c.all) × (l.fn.c.at ≤ l.c.at) × (l.ds_height ≡ designators_height (designators_of l.ds.items)) × (l.ds_height ≤ l.height)
+invariant-initialisers::more_designators-loop-alloc g l = Growing designator_of (λ y. next_is is_designation) (designator l.height (below l.height)) l.c.all l.c.at l.ds l.s (more_designators l.height (below l.height) (map designator_of l.fn.first, l.fn.s) (ahead l.fn.c)) × Onward l.fn.c l.c
 
 abbrev pub decreases-initialisers::more_designators-loop-alloc : goal.decreases-initialisers::more_designators-loop-alloc
 decreases-initialisers::more_designators-loop-alloc g l = length l.c.all - l.c.at
 
 abbrev pub invariant-initialisers::more_items-loop-alloc : goal.invariant-initialisers::more_items-loop-alloc
-invariant-initialisers::more_items-loop-alloc g l = Ending item_of (next_is (is_sign RightBrace)) (pure tt) (item l.height (below l.height)) l.c.all l.c.at l.is.items l.s (more_listed_to (next_is (is_sign RightBrace)) (pure tt) (item l.height (below l.height)) ((map item_of l.fn.first.items, false), l.fn.s) (ahead l.fn.c)) × (l.c.all ≡ l.fn.c.all) × (l.fn.c.at ≤ l.c.at) × (l.is_height ≡ items_height (items_of l.is.items)) × (l.is_height ≤ l.height)
+invariant-initialisers::more_items-loop-alloc g l = Ending item_of (next_is (is_sign RightBrace)) (pure tt) (item l.height (below l.height)) l.c.all l.c.at l.is l.s (more_listed_to (next_is (is_sign RightBrace)) (pure tt) (item l.height (below l.height)) ((map item_of l.fn.first, false), l.fn.s) (ahead l.fn.c)) × Onward l.fn.c l.c
 
 abbrev pub decreases-initialisers::more_items-loop-alloc : goal.decreases-initialisers::more_items-loop-alloc
 decreases-initialisers::more_items-loop-alloc g l = length l.c.all - l.c.at

@@ -3,4 +3,4 @@ use Rattle.c_exprs.proofs.CallLemmas.{reads_named}
 use Rattle.c_exprs.proofs.calls.named_declarator.Goals as goal
 
 pub returns-clause-reads : goal.returns-clause-reads
-returns-clause-reads g c = reads_named c.args.height c.args.s.now c.args.c.now c.declarator.new.c (declarator_of c.in_ok-declarator.field-0.0, c.declarator.new.s) c.in_ok-declarator.ensures.gives
+returns-clause-reads g c = rw c.into_tree.ensures (reads_named c.args.height c.args.s.now c.args.c.now c.declarator.new.c (declarator_of c.in_ok-declarator.field-0, c.declarator.new.s) c.in_ok-declarator.ensures.gives)

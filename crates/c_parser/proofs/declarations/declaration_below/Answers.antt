@@ -1,4 +1,4 @@
-use Rattle.c_exprs.specs.Lexemes.{ahead}
+use Rattle.c_cursor.specs.Lexemes.{ahead}
 use Rattle.c_parser.proofs.Kept.{declaration_kept_below}
 use Rattle.c_parser.proofs.declarations.declaration_below.Goals as goal
 

@@ -1,6 +1,6 @@
 use Rattle.std.proofs.Common.{false, get_or}
 use Rattle.typedef_scopes.specs.Scopes.{declared}
-use Rattle.c_tree.proofs.AddedLemmas.{same_default}
+use Rattle.c_tree.proofs.CappedLemmas.{same_default}
 use Rattle.c_parser.proofs.OwnListLemmas.{reaches_step}
 use Rattle.c_parser.proofs.own_list.declare_names.Goals as goal
 

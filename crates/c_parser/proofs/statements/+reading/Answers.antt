@@ -1,4 +1,4 @@
-use Rattle.c_exprs.specs.Lexemes.{ahead}
+use Rattle.c_cursor.specs.Lexemes.{ahead}
 use Rattle.c_parser.proofs.Kept.{statement_kept_below}
 use Rattle.c_parser.proofs.statements.+reading.Goals as goal
 

@@ -8,5 +8,5 @@ one_more-requires g c = record { behind = c.loop-alloc.invariant.0; on = sym c.a
 
 pub returns-clause-read : goal.returns-clause-read
 returns-clause-read g c =
-    behind_all c.args.c.now.all c.loop-alloc.c.all c.loop-alloc.c.at (map tree_of c.loop-alloc.ds.items) c.loop-alloc.s c.at_token.result
+    behind_all c.args.c.now.all c.loop-alloc.c.all c.loop-alloc.c.at (map tree_of c.loop-alloc.ds) c.loop-alloc.s c.at_token.result
     c.loop-alloc.invariant.0 c.loop-alloc.invariant.1 c.at_token.ensures.is c.loop-alloc-test.false c.loop-alloc.invariant.2

@@ -5,7 +5,7 @@ use Rattle.c_parser.specs.UnitStops.{Behind}
 use Rattle.c_parser.proofs.units.more_externals.Given as goal
 
 abbrev pub invariant-loop-alloc : goal.invariant-loop-alloc
-invariant-loop-alloc g l = Behind l.c.all l.c.at (map tree_of l.ds.items) l.s × (has_some (map tree_of l.ds.items) ≡ true) × (l.c.all ≡ l.fn.c.all)
+invariant-loop-alloc g l = Behind l.c.all l.c.at (map tree_of l.ds) l.s × (has_some (map tree_of l.ds) ≡ true) × (l.c.all ≡ l.fn.c.all)
 
 abbrev pub decreases-loop-alloc : goal.decreases-loop-alloc
 decreases-loop-alloc g l = length l.c.all - l.c.at
