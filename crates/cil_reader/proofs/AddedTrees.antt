@@ -1,6 +1,5 @@
 -- Device: what the readings of expressions, instructions and lines add to the graph are parts of the types in them.
-use Rattle.std.proofs.Common.{◌≡◌, ℕ, ◌<◌, Bool, true, false, cond, List, [], ◌∷◌, ◌++◌, length, Vec, Option, Some, None, refl, sym, ap, ◌∙◌, subst, append_assoc, append-nil}
-use Rattle.std.specs.Global.{Global}
+use Rattle.std.proofs.Common.{◌≡◌, ℕ, ◌<◌, Bool, true, false, cond, List, [], ◌∷◌, ◌++◌, length, Option, Some, None, refl, sym, ap, ◌∙◌, subst, append_assoc, append-nil}
 use Rattle.cil_base.specs.declared.numbers.TypeId.{TypeId}
 use Rattle.cil_base.specs.declared.operators.BinOp.{BinOp}
 use Rattle.cil_base.specs.declared.operators.UnOp.{UnOp}
@@ -11,19 +10,20 @@ use Rattle.type_graph.proofs.ShapeLaws.{kept}
 use Rattle.cil_tree.specs.declared.expressions.Exp.{Exp as SeenExp}
 use Rattle.cil_tree.specs.declared.expressions.Host.{Host as SeenHost}
 use Rattle.cil_tree.specs.declared.expressions.Lval.{Lval as SeenLval}
-use Rattle.cil_tree.specs.declared.statements.Callee.{Callee as SeenCallee}
-use Rattle.cil_tree.specs.declared.statements.Instr.TheVariants as instr
+use Rattle.cil_tree.specs.declared.statements.Instr.{Instr as SeenInstr}
+use Rattle.type_graph.specs.declared.nodes.Node.{Node}
 use Rattle.cil_tree.specs.Tree.{Exp, Const, Value, Un, Bin, Cast, AddrOf, StartOf, At, Var, Offsets, Here, Field, Index, Lval, Place, Callee}
 use Rattle.cil_tree.specs.Tree as plain
 use Rattle.cil_tree.specs.View.{exp_of, host_of, lval_of, instr_of}
-use Rattle.cil_tree.specs.View.{callee_of as callee_seen}
 use Rattle.cil_text.specs.ReadExps.{Env, chosen, is_array_type, type_at_place}
 use Rattle.cil_text.specs.ReadStmts.{Head, callee_of, called_place}
 use Rattle.cil_text.specs.TypesOf.{AddsParts, types_in_exp, types_in_host, types_in_offsets, types_in_place, types_in_args, types_in_result, types_in_callee, types_in_instr}
 use Rattle.cil_text.proofs.PartsAdded.{adds_twice}
 use Rattle.cil_reader.specs.declared.heads.Head.{Head as SeenHead}
-use Rattle.cil_reader.specs.Parts.{ExpKnown, PlaceKnown, joined, part_of}
-use Rattle.cil_reader.specs.Instructions.{args_of, result_of, ArgsKnown, ResultKnown, CalleeKnown, IsCallee, IsCalled}
+use Rattle.cil_nodes.specs.Built.{joined, part_of}
+use Rattle.cil_reader.specs.Parts.{ExpKnown, PlaceKnown}
+use Rattle.cil_reader.specs.declared.instructions.Called.{Called}
+use Rattle.cil_reader.specs.Instructions.{args_of, called_seen, result_of, ArgsKnown, ResultKnown, CalleeKnown, IsCallee, IsCalled}
 use Rattle.cil_reader.specs.Heads.{head_of, heads_of, HeadsKnown}
 use Rattle.cil_reader.specs.Added.{types_in_head, types_in_heads}
 use Rattle.cil_reader.proofs.InstructionLaws.{map_more}
@@ -134,25 +134,25 @@ called_types (Cast to x) c e = cc
 called_types (AddrOf l) c e = cc
 called_types (StartOf l) c e = cc
 
-pub callee_adds : (f g : Graph) (l : SeenLval) (c : SeenCallee) → IsCallee l (Some c) → AddsParts f g (types_in_place (lval_of g.nodes l)) → AddsParts f g (types_in_result (result_of g.nodes None) ++ types_in_callee (callee_seen g.nodes c))
-callee_adds f g l c is adds = same_types f g (types_in_place (lval_of g.nodes l)) (types_in_callee (callee_seen g.nodes c)) (callee_types (lval_of g.nodes l) (callee_seen g.nodes c) (is.at g.nodes)) adds
+pub callee_adds : (f g : Graph) (l : SeenLval) (c : Called) → IsCallee l (Some c) → AddsParts f g (types_in_place (lval_of g.nodes l)) → AddsParts f g (types_in_result (result_of g.nodes None) ++ types_in_callee (called_seen g.nodes c))
+callee_adds f g l c is adds = same_types f g (types_in_place (lval_of g.nodes l)) (types_in_callee (called_seen g.nodes c)) (callee_types (lval_of g.nodes l) (called_seen g.nodes c) (is.at g.nodes)) adds
 
-pub called_adds : (f g : Graph) (l : SeenLval) (x : SeenExp) (c : SeenCallee) → IsCalled x (Some c) → AddsParts f g (types_in_place (lval_of g.nodes l) ++ types_in_exp (exp_of g.nodes x)) →
-    AddsParts f g (types_in_result (result_of g.nodes (Some l)) ++ types_in_callee (callee_seen g.nodes c))
+pub called_adds : (f g : Graph) (l : SeenLval) (x : SeenExp) (c : Called) → IsCalled x (Some c) → AddsParts f g (types_in_place (lval_of g.nodes l) ++ types_in_exp (exp_of g.nodes x)) →
+    AddsParts f g (types_in_result (result_of g.nodes (Some l)) ++ types_in_callee (called_seen g.nodes c))
 called_adds f g l x c is adds =
-    same_types f g (types_in_place (lval_of g.nodes l) ++ types_in_exp (exp_of g.nodes x)) (types_in_place (lval_of g.nodes l) ++ types_in_callee (callee_seen g.nodes c))
-    (ap (λ (ss : List Shape). types_in_place (lval_of g.nodes l) ++ ss) (called_types (exp_of g.nodes x) (callee_seen g.nodes c) (is.at g.nodes))) adds
+    same_types f g (types_in_place (lval_of g.nodes l) ++ types_in_exp (exp_of g.nodes x)) (types_in_place (lval_of g.nodes l) ++ types_in_callee (called_seen g.nodes c))
+    (ap (λ (ss : List Shape). types_in_place (lval_of g.nodes l) ++ ss) (called_types (exp_of g.nodes x) (called_seen g.nodes c) (is.at g.nodes))) adds
 
-pub call_adds : (f g h : Graph) (o : Option SeenLval) (c : SeenCallee) (v : Vec SeenExp Global) → ResultKnown g o → CalleeKnown g c → Grows g h → AddsParts f g (types_in_result (result_of g.nodes o) ++ types_in_callee (callee_seen g.nodes c)) →
-    AddsParts g h (types_in_args (args_of h.nodes v.items)) → AddsParts f h (types_in_instr (instr_of h.nodes (instr.Call o c v)))
-call_adds f g h o c v p q grows first second =
-    same_types f h ((types_in_result (result_of h.nodes o) ++ types_in_callee (callee_seen h.nodes c)) ++ types_in_args (args_of h.nodes v.items)) (types_in_instr (instr_of h.nodes (instr.Call o c v)))
-    (append_assoc (types_in_result (result_of h.nodes o)) (types_in_callee (callee_seen h.nodes c)) (types_in_args (args_of h.nodes v.items)))
-    (then_adds f g h (types_in_result (result_of g.nodes o) ++ types_in_callee (callee_seen g.nodes c)) (types_in_args (args_of h.nodes v.items)) (types_in_result (result_of h.nodes o) ++ types_in_callee (callee_seen h.nodes c)) both grows first second)
+pub call_adds : (f g h : Graph) (o : Option SeenLval) (c : Called) (xs : List SeenExp) (i : SeenInstr) → ResultKnown g o → CalleeKnown g c → Grows g h → ((nodes : List Node) → instr_of nodes i ≡ plain.Call (result_of nodes o) (called_seen nodes c) (args_of nodes xs)) →
+    AddsParts f g (types_in_result (result_of g.nodes o) ++ types_in_callee (called_seen g.nodes c)) → AddsParts g h (types_in_args (args_of h.nodes xs)) → AddsParts f h (types_in_instr (instr_of h.nodes i))
+call_adds f g h o c xs i p q grows is first second =
+    same_types f h ((types_in_result (result_of h.nodes o) ++ types_in_callee (called_seen h.nodes c)) ++ types_in_args (args_of h.nodes xs)) (types_in_instr (instr_of h.nodes i))
+    (append_assoc (types_in_result (result_of h.nodes o)) (types_in_callee (called_seen h.nodes c)) (types_in_args (args_of h.nodes xs)) ∙ sym (ap types_in_instr (is h.nodes)))
+    (then_adds f g h (types_in_result (result_of g.nodes o) ++ types_in_callee (called_seen g.nodes c)) (types_in_args (args_of h.nodes xs)) (types_in_result (result_of h.nodes o) ++ types_in_callee (called_seen h.nodes c)) both grows first second)
   where
-    both : types_in_result (result_of g.nodes o) ++ types_in_callee (callee_seen g.nodes c) ≡ types_in_result (result_of h.nodes o) ++ types_in_callee (callee_seen h.nodes c)
+    both : types_in_result (result_of g.nodes o) ++ types_in_callee (called_seen g.nodes c) ≡ types_in_result (result_of h.nodes o) ++ types_in_callee (called_seen h.nodes c)
     both =
-        ap (λ (y : Option Lval). types_in_result y ++ types_in_callee (callee_seen g.nodes c)) (sym (p.steady h grows))
+        ap (λ (y : Option Lval). types_in_result y ++ types_in_callee (called_seen g.nodes c)) (sym (p.steady h grows))
         ∙ ap (λ (y : Callee). types_in_result (result_of h.nodes o) ++ types_in_callee y) (sym (q.steady h grows))
 
 pub assigned_adds : (f g h : Graph) (env : Env) (l : SeenLval) (t : Option TypeId) (x : SeenExp) → Grows g h → PlaceKnown g env l t → AddsParts f g (types_in_place (lval_of g.nodes l)) → AddsParts g h (types_in_exp (exp_of h.nodes x)) →

@@ -1,5 +1,5 @@
 -- Device: statements that are taken from lines are seen as the same in each graph in which the lines are.
-use Rattle.std.proofs.Common.{◌≡◌, List, [], ◌∷◌, ◌++◌, Option, Some, None, Result, Ok, Err, IfOk, refl, sym, ap, ◌∙◌, subst}
+use Rattle.std.proofs.Common.{◌≡◌, List, [], ◌∷◌, ◌++◌, Box, Global, refl, sym, ap, ◌∙◌, subst}
 use Rattle.std.specs.Prelude.{reverse}
 use Rattle.indexmap.proofs.ReorderLemmas.{map-reverse}
 use Rattle.type_graph.specs.declared.nodes.Node.{Node}
@@ -7,14 +7,14 @@ use Rattle.type_graph.specs.Arena.{Graph}
 use Rattle.type_graph.specs.Growth.{Grows}
 use Rattle.cil_tree.specs.declared.expressions.Exp.{Exp as SeenExp}
 use Rattle.cil_tree.specs.declared.statements.Stmt.{Stmt as SeenStmt}
-use Rattle.cil_tree.specs.Tree.{Stmt, If, Switch, Stmts, Done, Seq}
+use Rattle.cil_nodes.specs.Built.{IsIf, IsSwitch, IsLoop, IsBlock}
+use Rattle.cil_tree.specs.Tree.{Stmt, If, Switch, Loop, Block, Stmts, Done, Seq}
 use Rattle.cil_tree.specs.View.{exp_of, stmt_of, stmts_of}
 use Rattle.cil_text.specs.ReadStmts.{Whole, Tested, Turned}
 use Rattle.cil_reader.specs.declared.heads.Head.{Head as SeenHead}
 use Rattle.cil_reader.specs.declared.heads.Head.TheVariants as seen
-use Rattle.cil_reader.specs.declared.stop.Stop.{Stop}
 use Rattle.cil_reader.specs.Heads.{head_of, heads_of, HeadKnown, HeadsKnown}
-use Rattle.cil_reader.specs.Nesting.{Stmts', IfMade, BlockMade, switch_on, always, StmtsKnown, Carries, CarriesOne}
+use Rattle.cil_reader.specs.Nesting.{StmtsKnown, Carries}
 
 -- lines
 
@@ -69,65 +69,56 @@ carries_more g old mid new ss s a b = record {
   on = λ k. let x = a.on k in let y = b.on x.0 in (y.0, record { steady = λ h r. stmts_last g h ss s (x.1.steady h r) (one_of g h s (y.1.steady h r)) });
 }
 
-pub carries_whole : (g : Graph) (old new : List SeenHead) (s : SeenStmt) → old ≡ new ++ seen.Whole s ∷ [] → Carries g old new (s ∷ [])
+pub carries_whole : (g : Graph) (old new : List SeenHead) (s : Box SeenStmt Global) → old ≡ new ++ seen.Whole s ∷ [] → Carries g old new (s.value ∷ [])
 carries_whole g old new s e = record {
   on = λ k.
       let all = subst (HeadsKnown g) e k in
-      (front_known g new (seen.Whole s) all, alone g s (λ h r. same h ((last_known g new (seen.Whole s) all).steady h r)));
+      (front_known g new (seen.Whole s) all, alone g s.value (λ h r. same h ((last_known g new (seen.Whole s) all).steady h r)));
 }
   where
-    same : (h : Graph) → head_of h.nodes (seen.Whole s) ≡ head_of g.nodes (seen.Whole s) → stmt_of h.nodes s ≡ stmt_of g.nodes s
-    same h q = let p : Whole (stmt_of h.nodes s) ≡ Whole (stmt_of g.nodes s) = q in cc
+    same : (h : Graph) → head_of h.nodes (seen.Whole s) ≡ head_of g.nodes (seen.Whole s) → stmt_of h.nodes s.value ≡ stmt_of g.nodes s.value
+    same h q = let p : Whole (stmt_of h.nodes s.value) ≡ Whole (stmt_of g.nodes s.value) = q in cc
 
-tested_same : (g h : Graph) (e : SeenExp) → head_of h.nodes (seen.Tested e) ≡ head_of g.nodes (seen.Tested e) → exp_of h.nodes e ≡ exp_of g.nodes e
-tested_same g h e q = let p : Tested (exp_of h.nodes e) ≡ Tested (exp_of g.nodes e) = q in cc
+tested_same : (g h : Graph) (e : Box SeenExp Global) → head_of h.nodes (seen.Tested e) ≡ head_of g.nodes (seen.Tested e) → exp_of h.nodes e.value ≡ exp_of g.nodes e.value
+tested_same g h e q = let p : Tested (exp_of h.nodes e.value) ≡ Tested (exp_of g.nodes e.value) = q in cc
 
-turned_same : (g h : Graph) (e : SeenExp) → head_of h.nodes (seen.Turned e) ≡ head_of g.nodes (seen.Turned e) → exp_of h.nodes e ≡ exp_of g.nodes e
-turned_same g h e q = let p : Turned (exp_of h.nodes e) ≡ Turned (exp_of g.nodes e) = q in cc
+turned_same : (g h : Graph) (e : Box SeenExp Global) → head_of h.nodes (seen.Turned e) ≡ head_of g.nodes (seen.Turned e) → exp_of h.nodes e.value ≡ exp_of g.nodes e.value
+turned_same g h e q = let p : Turned (exp_of h.nodes e.value) ≡ Turned (exp_of g.nodes e.value) = q in cc
 
-pub carries_if : (g : Graph) (old mid new : List SeenHead) (test : SeenExp) (parts : Result (Stmts' × Stmts') Stop) (made : Result (Option SeenStmt) Stop) → old ≡ mid ++ seen.Tested test ∷ [] →
-    IfOk parts (λ (x : Stmts' × Stmts'). Carries g mid new x.0.items) → IfOk parts (λ (x : Stmts' × Stmts'). Carries g mid new x.1.items) → IfMade test parts made → IfOk made (CarriesOne g old new)
-carries_if g old mid new test (Ok x) (Ok (Some s)) e first second made = record {
-  on = λ k.
-      let all = subst (HeadsKnown g) e k in
-      let a = first.on (front_known g mid (seen.Tested test) all) in
-      let b = second.on (front_known g mid (seen.Tested test) all) in (
-        a.0,
+pub carries_if : (g : Graph) (mid new : List SeenHead) (test : Box SeenExp Global) (xs ys : List SeenStmt) (s b : SeenStmt) → Carries g mid new xs → Carries g mid new ys → IsIf test.value xs ys s → b ≡ s → Carries g (mid ++ seen.Tested test ∷ []) new (b ∷ [])
+carries_if g mid new test xs ys s b first second is same = subst (λ (z : SeenStmt). Carries g (mid ++ seen.Tested test ∷ []) new (z ∷ [])) (sym same) (record {
+  on = λ all.
+      let p = first.on (front_known g mid (seen.Tested test) all) in
+      let q = second.on (front_known g mid (seen.Tested test) all) in (
+        p.0,
         alone g s (λ h r.
-            made.at h.nodes
-            ∙ ap (λ t. If t (stmts_of h.nodes x.0.items) (stmts_of h.nodes x.1.items)) (tested_same g h test ((last_known g mid (seen.Tested test) all).steady h r))
-            ∙ ap (λ ss. If (exp_of g.nodes test) ss (stmts_of h.nodes x.1.items)) (a.1.steady h r)
-            ∙ ap (If (exp_of g.nodes test) (stmts_of g.nodes x.0.items)) (b.1.steady h r)
-            ∙ sym (made.at g.nodes)),
+            is.at h.nodes
+            ∙ ap (λ t. If t (stmts_of h.nodes xs) (stmts_of h.nodes ys)) (tested_same g h test ((last_known g mid (seen.Tested test) all).steady h r))
+            ∙ ap (λ ss. If (exp_of g.nodes test.value) ss (stmts_of h.nodes ys)) (p.1.steady h r)
+            ∙ ap (If (exp_of g.nodes test.value) (stmts_of g.nodes xs)) (q.1.steady h r)
+            ∙ sym (is.at g.nodes)),
       );
-}
-carries_if g old mid new test (Ok x) (Ok None) e first second made = absurd (made.at g.nodes)
-carries_if g old mid new test (Ok x) (Err f) e first second made = tt
-carries_if g old mid new test (Err f) (Ok o) e first second made = absurd (made.at g.nodes)
-carries_if g old mid new test (Err f) (Err q) e first second made = tt
+})
 
-carries_made : (g : Graph) (old mid new : List SeenHead) (x : SeenHead) (f : List Node → Stmts → Stmt) (block : Result Stmts' Stop) (made : Result (Option SeenStmt) Stop) → old ≡ mid ++ x ∷ [] → ((h : Graph) → Grows g h → HeadKnown g x → (ss : Stmts) → f h.nodes ss ≡ f g.nodes ss) →
-    IfOk block (λ (v : Stmts'). Carries g mid new v.items) → BlockMade f block made → IfOk made (CarriesOne g old new)
-carries_made g old mid new x f (Ok v) (Ok (Some s)) e same carried made = record {
-  on = λ k.
-      let all = subst (HeadsKnown g) e k in
-      let a = carried.on (front_known g mid x all) in (
-        a.0,
-        alone g s (λ h r. made.at h.nodes ∙ same h r (last_known g mid x all) (stmts_of h.nodes v.items) ∙ ap (f g.nodes) (a.1.steady h r) ∙ sym (made.at g.nodes)),
+carries_made : (g : Graph) (mid new : List SeenHead) (x : SeenHead) (f : List Node → Stmts → Stmt) (xs : List SeenStmt) (s b : SeenStmt) → ((h : Graph) → Grows g h → HeadKnown g x → (ss : Stmts) → f h.nodes ss ≡ f g.nodes ss) →
+    ((nodes : List Node) → stmt_of nodes s ≡ f nodes (stmts_of nodes xs)) → Carries g mid new xs → b ≡ s → Carries g (mid ++ x ∷ []) new (b ∷ [])
+carries_made g mid new x f xs s b steady is carried same = subst (λ (z : SeenStmt). Carries g (mid ++ x ∷ []) new (z ∷ [])) (sym same) (record {
+  on = λ all.
+      let p = carried.on (front_known g mid x all) in (
+        p.0,
+        alone g s (λ h r. is h.nodes ∙ steady h r (last_known g mid x all) (stmts_of h.nodes xs) ∙ ap (f g.nodes) (p.1.steady h r) ∙ sym (is g.nodes)),
       );
-}
-carries_made g old mid new x f (Ok v) (Ok None) e same carried made = absurd (made.at g.nodes)
-carries_made g old mid new x f (Ok v) (Err q) e same carried made = tt
-carries_made g old mid new x f (Err p) (Ok o) e same carried made = absurd (made.at g.nodes)
-carries_made g old mid new x f (Err p) (Err q) e same carried made = tt
+})
 
-pub carries_switch : (g : Graph) (old mid new : List SeenHead) (value : SeenExp) (block : Result Stmts' Stop) (made : Result (Option SeenStmt) Stop) → old ≡ mid ++ seen.Turned value ∷ [] →
-    IfOk block (λ (v : Stmts'). Carries g mid new v.items) → BlockMade (switch_on value) block made → IfOk made (CarriesOne g old new)
-carries_switch g old mid new value block made e = carries_made g old mid new (seen.Turned value) (switch_on value) block made e (λ h r k ss. ap (λ t. Switch t ss) (turned_same g h value (k.steady h r)))
+pub carries_switch : (g : Graph) (mid new : List SeenHead) (value : Box SeenExp Global) (xs : List SeenStmt) (s b : SeenStmt) → Carries g mid new xs → IsSwitch value.value xs s → b ≡ s → Carries g (mid ++ seen.Turned value ∷ []) new (b ∷ [])
+carries_switch g mid new value xs s b carried is same =
+    carries_made g mid new (seen.Turned value) (λ nodes ss. Switch (exp_of nodes value.value) ss) xs s b (λ h r k ss. ap (λ t. Switch t ss) (turned_same g h value (k.steady h r))) is.at carried same
 
-pub carries_block : (g : Graph) (old mid new : List SeenHead) (x : SeenHead) (f : Stmts → Stmt) (block : Result Stmts' Stop) (made : Result (Option SeenStmt) Stop) → old ≡ mid ++ x ∷ [] →
-    IfOk block (λ (v : Stmts'). Carries g mid new v.items) → BlockMade (always f) block made → IfOk made (CarriesOne g old new)
-carries_block g old mid new x f block made e = carries_made g old mid new x (always f) block made e (λ h r k ss. refl)
+pub carries_loop : (g : Graph) (mid new : List SeenHead) (xs : List SeenStmt) (s b : SeenStmt) → Carries g mid new xs → IsLoop xs s → b ≡ s → Carries g (mid ++ seen.Looped ∷ []) new (b ∷ [])
+carries_loop g mid new xs s b carried is same = carries_made g mid new seen.Looped (λ nodes ss. Loop ss) xs s b (λ h r k ss. refl) is.at carried same
+
+pub carries_block : (g : Graph) (mid new : List SeenHead) (xs : List SeenStmt) (s b : SeenStmt) → Carries g mid new xs → IsBlock xs s → b ≡ s → Carries g (mid ++ seen.Opened ∷ []) new (b ∷ [])
+carries_block g mid new xs s b carried is same = carries_made g mid new seen.Opened (λ nodes ss. Block ss) xs s b (λ h r k ss. refl) is.at carried same
 
 -- all lines, the first one last
 

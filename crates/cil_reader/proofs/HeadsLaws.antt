@@ -1,5 +1,5 @@
 -- Device: steps of the readings of a function's lines.
-use Rattle.std.proofs.Common.{◌≡◌, ℕ, zero, suc, Bool, true, false, cond, List, [], ◌∷◌, ◌++◌, length, drop, map, get_or, append_assoc, append-nil, ◌+◌, ◌<◌, ◌≤◌, Vec, Option, Some, None, refl, sym, ap, ◌∙◌, arith, ℤ, pos, negsuc, ◌-ℤ◌, neg_ℤ}
+use Rattle.std.proofs.Common.{◌≡◌, ℕ, zero, suc, Bool, true, false, cond, List, [], ◌∷◌, ◌++◌, length, drop, get_or, append_assoc, append-nil, ◌+◌, ◌<◌, ◌≤◌, Vec, Box, Option, Some, None, refl, sym, ap, ◌∙◌, subst, arith, ℤ, pos, negsuc, ◌-ℤ◌, neg_ℤ}
 use Rattle.std.specs.Option.{option_map, option_and_then}
 use Rattle.std.specs.Global.{Global}
 use Rattle.cil_base.specs.declared.kinds.IntKind.{IntKind}
@@ -12,12 +12,13 @@ use Rattle.type_graph.proofs.GrowthLaws.{grows_twice}
 use Rattle.cil_base.specs.declared.numbers.TypeId.{TypeId}
 use Rattle.cil_tree.specs.declared.expressions.Exp.{Exp as SeenExp}
 use Rattle.cil_tree.specs.declared.statements.Instr.{Instr as SeenInstr}
+use Rattle.cil_tree.specs.declared.statements.Stmt.{Stmt as SeenStmt}
 use Rattle.cil_tree.specs.declared.statements.Stmt.TheVariants as stmt
 use Rattle.cil_tree.specs.Tree.{Exp, Instr, Stmt, Do, Label, Return}
 use Rattle.cil_tree.specs.Tree as plain
-use Rattle.cil_tree.specs.View.{exp_of, instr_of, stmt_of}
+use Rattle.cil_tree.specs.View.{stmt_of}
 use Rattle.cil_text.specs.Words.{Word, LeftParen, RightParen, LeftBrace, RightBrace, ElseWord, Colon, Semicolon, Operator, Number, IfWord, SwitchWord, WhileWord, CaseWord, DefaultWord, GotoWord, BreakWord, ReturnWord}
-use Rattle.cil_text.specs.ReadTypes.{Reading, skip_one, find, closed}
+use Rattle.cil_text.specs.ReadTypes.{Reading, skip_one, closed}
 use Rattle.cil_text.specs.ReadExps.{Env, enclosed, read_exp}
 use Rattle.cil_text.specs.ReadStmts.{Numbered, is_minus, negated, read_number, Head, Whole, Tested, Turned, opened_by, read_tested, is_end_of_line, returned, read_return, case_of, is_label, label_text, read_simple, read_instr, read_head, read_heads, head_first}
 use Rattle.cil_reader.specs.declared.heads.Head.{Head as SeenHead}
@@ -26,7 +27,7 @@ use Rattle.cil_reader.specs.Parts.{ExpKnown}
 use Rattle.cil_reader.specs.Instructions.{InstrKnown, is_end}
 use Rattle.cil_reader.specs.declared.words.Word.{Word as Seen}
 use Rattle.cil_reader.specs.Said.{all_said, all_lines}
-use Rattle.cil_reader.specs.Heads.{below_zero, head_of, heads_of, heads_behind, HeadKnown, HeadsKnown, opens, opening, ends_opening, ends_case, labelled, brace_of, is_block, block_line, is_jump, jump_line}
+use Rattle.cil_reader.specs.Heads.{below_zero, head_of, heads_of, heads_behind, StmtKnown, HeadKnown, HeadsKnown, opens, opening, ends_opening, ends_case, labelled, brace_of, is_block, block_line, is_jump, jump_line}
 use Rattle.cil_reader.proofs.InstructionLaws.{ended, unended}
 
 -- numbers
@@ -177,25 +178,37 @@ head_simple env labels n _ d e = refl
 
 -- what is known of lines
 
-pub known_tested : (g : Graph) (env : Env) (x : SeenExp) (t : Option TypeId) → ExpKnown g env x t → HeadKnown g (seen.Tested x)
+pub known_tested : (g : Graph) (env : Env) (x : Box SeenExp Global) (t : Option TypeId) → ExpKnown g env x.value t → HeadKnown g (seen.Tested x)
 known_tested g env x t k = record { steady = λ h r. ap Tested (k.steady h r) }
 
-pub known_turned : (g : Graph) (env : Env) (x : SeenExp) (t : Option TypeId) → ExpKnown g env x t → HeadKnown g (seen.Turned x)
+pub known_turned : (g : Graph) (env : Env) (x : Box SeenExp Global) (t : Option TypeId) → ExpKnown g env x.value t → HeadKnown g (seen.Turned x)
 known_turned g env x t k = record { steady = λ h r. ap Turned (k.steady h r) }
 
-pub known_return : (g : Graph) (env : Env) (x : SeenExp) (t : Option TypeId) → ExpKnown g env x t → HeadKnown g (seen.Whole (stmt.Return (Some x)))
-known_return g env x t k = record { steady = λ h r. ap (λ e. Whole (Return (Some e))) (k.steady h r) }
+pub known_whole : (g : Graph) (s : SeenStmt) (b : Box SeenStmt Global) → StmtKnown g s → b.value ≡ s → HeadKnown g (seen.Whole b)
+known_whole g s b k is = record { steady = λ h r. ap (λ x. Whole (stmt_of h.nodes x)) is ∙ ap Whole (k.steady h r) ∙ sym (ap (λ x. Whole (stmt_of g.nodes x)) is) }
 
-pub known_instr : (g : Graph) (i : SeenInstr) → InstrKnown g i → HeadKnown g (seen.Whole (stmt.Instr i))
-known_instr g i k = record { steady = λ h r. ap (λ j. Whole (Do j)) (k.steady h r) }
+pub known_return : (g : Graph) (env : Env) (x : SeenExp) (t : Option TypeId) (s : SeenStmt) → ExpKnown g env x t → s ≡ stmt.Return (Some x) → StmtKnown g s
+known_return g env x t s k is = subst (StmtKnown g) (sym is) (record { steady = λ h r. ap (λ e. Return (Some e)) (k.steady h r) })
 
-pub known_nothing : (g : Graph) → HeadKnown g (seen.Whole (stmt.Return None))
+pub known_instr : (g : Graph) (i : SeenInstr) → InstrKnown g i → StmtKnown g (stmt.Instr i)
+known_instr g i k = record { steady = λ h r. ap Do (k.steady h r) }
+
+pub known_case : (g : Graph) (kind : IntKind) (v : ℤ) (s : SeenStmt) → s ≡ stmt.Case kind v → StmtKnown g s
+known_case g kind v s is = subst (StmtKnown g) (sym is) (record { steady = λ h r. refl })
+
+pub known_goto : (g : Graph) (l : LabelId) (s : SeenStmt) → s ≡ stmt.Goto l → StmtKnown g s
+known_goto g l s is = subst (StmtKnown g) (sym is) (record { steady = λ h r. refl })
+
+pub known_label : (g : Graph) (l : LabelId) (s : SeenStmt) → s ≡ stmt.Label l → StmtKnown g s
+known_label g l s is = subst (StmtKnown g) (sym is) (record { steady = λ h r. refl })
+
+pub known_nothing : (g : Graph) → StmtKnown g (stmt.Return None)
 known_nothing g = record { steady = λ h r. refl }
 
-pub known_default : (g : Graph) → HeadKnown g (seen.Whole stmt.Default)
+pub known_default : (g : Graph) → StmtKnown g stmt.Default
 known_default g = record { steady = λ h r. refl }
 
-pub known_break : (g : Graph) → HeadKnown g (seen.Whole stmt.Break)
+pub known_break : (g : Graph) → StmtKnown g stmt.Break
 known_break g = record { steady = λ h r. refl }
 
 pub known_looped : (g : Graph) → HeadKnown g seen.Looped
@@ -209,10 +222,6 @@ known_otherwise g = record { steady = λ h r. refl }
 
 pub known_closed : (g : Graph) → HeadKnown g seen.Closed
 known_closed g = record { steady = λ h r. refl }
-
--- what is the same line in each graph
-pub flat_known : (g : Graph) (x : SeenHead) (o : Option Head) → ((nodes : List Node) → option_map (head_of nodes) (Some x) ≡ o) → HeadKnown g x
-flat_known g x o is = record { steady = λ h r. let e : Some (head_of h.nodes x) ≡ Some (head_of g.nodes x) = is h.nodes ∙ sym (is g.nodes) in cc }
 
 -- the lines of a body
 

@@ -1,5 +1,5 @@
 -- Device: steps of the readings of initialised objects.
-use Rattle.std.proofs.Common.{◌≡◌, ◌≢◌, ℕ, zero, suc, ◌-◌, ◌+◌, ◌<◌, ◌≤◌, Bool, true, false, cond, List, [], ◌∷◌, ◌++◌, Option, Some, None, refl, sym, ap, ◌∙◌, map, arith, length, append_assoc, append-nil, Vec, ℤ}
+use Rattle.std.proofs.Common.{◌≡◌, ℕ, suc, ◌-◌, ◌+◌, ◌<◌, ◌≤◌, Bool, true, false, cond, List, [], ◌∷◌, ◌++◌, Option, Some, None, refl, sym, ap, ◌∙◌, map, arith, length, append_assoc, append-nil, Vec, ℤ}
 use Rattle.std.specs.Option.{option_map, option_and_then}
 use Rattle.std.specs.Global.{Global}
 use Rattle.cil_base.specs.declared.numbers.EntityId.{EntityId}
@@ -28,22 +28,22 @@ use Rattle.cil_reader.specs.declared.stop.Stop.{Stop}
 use Rattle.cil_reader.specs.declared.stop.Stop.TheVariants.{NotCil, WantOfMemory}
 use Rattle.cil_reader.specs.Gives.{Fails}
 use Rattle.cil_reader.specs.Layers.{closing}
-use Rattle.cil_reader.specs.Images.{assigned, Stepped, to_member, path_step, path_behind, scalar_of, behind_item, items_behind, Listed, listed_as, item_more, offset_in, converted_from}
+use Rattle.cil_reader.specs.Images.{assigned, Stepped, to_member, path_step, path_behind, PathRead, path_moved, path_by, path_more, path_left, scalar_of, behind_item, items_behind, Listed, listed_as, item_more, offset_in, converted_from}
 use Rattle.cil_reader.specs.Typed.{typed_as, typed}
 
 -- paths
 
-abbrev path_more : Env → ℕ → Stepped × List Word → Reading Path
-path_more env k r = option_map (step_first r.0.0) (read_path env k r.0.1 r.1)
+abbrev path_on : Env → ℕ → Stepped × List Word → Reading Path
+path_on env k r = option_map (step_first r.0.0) (read_path env k r.0.1 r.1)
 
 abbrev path_from : Env → ℕ → Option Shape → Option (List Word) → Reading Stepped → Reading Path
 path_from env k s (Some vs) o = Some (([], s), vs)
-path_from env k s None o = option_and_then (path_more env k) o
+path_from env k s None o = option_and_then (path_on env k) o
 
 path_is : (env : Env) (k : ℕ) (s : Option Shape) (ws : List Word) → read_path env (suc k) s ws ≡ path_from env k s (assigned ws) (path_step env s ws)
 path_is env k s (Dot ∷ Name name ∷ ws) = by (find_named name (fields env s))
   where
-    by : (o : Option ℕ) → option_and_then (λ (n : ℕ). option_map (step_first (ToField n)) (read_path env k (type_of_named (fields env s) n) ws)) o ≡ option_and_then (path_more env k) (option_map (to_member env s ws) o)
+    by : (o : Option ℕ) → option_and_then (λ (n : ℕ). option_map (step_first (ToField n)) (read_path env k (type_of_named (fields env s) n) ws)) o ≡ option_and_then (path_on env k) (option_map (to_member env s ws) o)
     by None = refl
     by (Some n) = refl
 path_is env k s (LeftBracket ∷ Number kind i ∷ RightBracket ∷ ws) = refl
@@ -53,44 +53,61 @@ path_is env k s (LeftBracket ∷ Number kind i ∷ _) = refl
 path_is env k s (LeftBracket ∷ _) = refl
 path_is env k s _ = refl
 
-path_by : (env : Env) (k : ℕ) (s : Option Shape) (ws : List Word) → k ≢ 0 → read_path env k s ws ≡ path_from env (k - 1) s (assigned ws) (path_step env s ws)
-path_by env zero s ws h = absurd (h refl)
-path_by env (suc k) s ws h = let e : suc k - 1 ≡ k = omega arith in path_is env k s ws ∙ ap (λ j. path_from env j s (assigned ws) (path_step env s ws)) (sym e)
-
-pub path_none : (env : Env) (k : ℕ) (xs : List Step) (s : Option Shape) (ws : List Word) → k ≡ 0 → option_map (path_behind xs) (read_path env k s ws) ≡ None
-path_none env zero xs s ws e = refl
-path_none env (suc k) xs s ws e = absurd (omega (arith, e))
-
-pub path_end : (env : Env) (k : ℕ) (xs : List Step) (s : Option Shape) (ws vs : List Word) → k ≢ 0 → Some vs ≡ assigned ws → option_map (path_behind xs) (read_path env k s ws) ≡ Some ((xs, s), vs)
-path_end env k xs s ws vs h e =
-    ap (option_map (path_behind xs)) (path_by env k s ws h ∙ ap (λ o. path_from env (k - 1) s o (path_step env s ws)) (sym e))
-    ∙ ap (λ (ys : List Step). Some ((ys, s), vs)) (append-nil xs)
-
-pub path_fails : (env : Env) (k : ℕ) (xs : List Step) (s : Option Shape) (ws : List Word) → k ≢ 0 → None ≡ assigned ws → None ≡ path_step env s ws → option_map (path_behind xs) (read_path env k s ws) ≡ None
-path_fails env k xs s ws h e f =
-    ap (option_map (path_behind xs)) (path_by env k s ws h ∙ ap (λ o. path_from env (k - 1) s o (path_step env s ws)) (sym e) ∙ ap (option_and_then (path_more env (k - 1))) (sym f))
-
 first_behind : (xs : List Step) (x : Step) (o : Reading Path) → option_map (path_behind xs) (option_map (step_first x) o) ≡ option_map (path_behind (xs ++ x ∷ [])) o
 first_behind xs x None = refl
 first_behind xs x (Some r) = ap (λ (ys : List Step). Some ((ys, r.0.1), r.1)) (sym (append_assoc xs (x ∷ []) r.0.0))
 
-steps_more : (xs : List SeenStep) (x : SeenStep) → map step_of (xs ++ x ∷ []) ≡ map step_of xs ++ step_of x ∷ []
+pub steps_more : (xs : List SeenStep) (x : SeenStep) → map step_of (xs ++ x ∷ []) ≡ map step_of xs ++ step_of x ∷ []
 steps_more [] x = refl
 steps_more (y ∷ xs) x = ap (λ zs. step_of y ∷ zs) (steps_more xs x)
 
-pub path_next : (env : Env) (k : ℕ) (xs : List SeenStep) (x : SeenStep) (s t : Option Shape) (ws vs : List Word) → k ≢ 0 → None ≡ assigned ws → Some ((step_of x, t), vs) ≡ path_step env s ws →
-    option_map (path_behind (map step_of xs)) (read_path env k s ws) ≡ option_map (path_behind (map step_of (xs ++ x ∷ []))) (read_path env (k - 1) t vs)
-path_next env k xs x s t ws vs h e f =
-    ap (option_map (path_behind (map step_of xs))) (path_by env k s ws h ∙ ap (λ o. path_from env (k - 1) s o (path_step env s ws)) (sym e) ∙ ap (option_and_then (path_more env (k - 1))) (sym f))
-    ∙ first_behind (map step_of xs) (step_of x) (read_path env (k - 1) t vs)
-    ∙ ap (λ ys. option_map (path_behind ys) (read_path env (k - 1) t vs)) (sym (steps_more xs x))
+pub path_ended : (env : Env) (xs : List Step) (s : Option Shape) (ws vs : List Word) → Some vs ≡ assigned ws → path_more env xs s ws ≡ Some (true, ((xs, s), vs))
+path_ended env xs s ws vs e = ap (λ o. path_by xs s o (path_step env s ws)) (sym e)
+
+pub path_open : (env : Env) (xs : List Step) (s : Option Shape) (ws : List Word) → None ≡ assigned ws → None ≡ path_step env s ws → path_more env xs s ws ≡ None
+path_open env xs s ws e f = ap (λ o. path_by xs s o (path_step env s ws)) (sym e) ∙ ap (option_map (path_moved xs)) (sym f)
+
+pub path_stepped : (env : Env) (xs ys : List SeenStep) (x : SeenStep) (s t : Option Shape) (ws vs : List Word) → None ≡ assigned ws → Some ((step_of x, t), vs) ≡ path_step env s ws → ys ≡ xs ++ x ∷ [] → path_more env (map step_of xs) s ws ≡ Some (false, ((map step_of ys, t), vs))
+path_stepped env xs ys x s t ws vs e f is =
+    ap (λ o. path_by (map step_of xs) s o (path_step env s ws)) (sym e)
+    ∙ ap (option_map (path_moved (map step_of xs))) (sym f)
+    ∙ ap (λ (zs : List Step). Some (false, ((zs, t), vs))) (sym (ap (map step_of) is ∙ steps_more xs x))
+
+-- the loop over steps, of which k may be left
+
+abbrev path_go : Env → ℕ → PathRead → Reading Path
+path_go env k r = path_left env k r.0 r.1.0.0 r.1.0.1 r.1.1
+
+path_once : (env : Env) (k : ℕ) (xs : List Step) (s : Option Shape) (ws : List Word) → path_left env (suc k) false xs s ws ≡ option_and_then (path_go env k) (path_more env xs s ws)
+path_once env k xs s ws = ap (option_map (path_behind xs)) (path_is env k s ws) ∙ by (assigned ws) (path_step env s ws)
+  where
+    by : (o : Option (List Word)) (q : Reading Stepped) → option_map (path_behind xs) (path_from env k s o q) ≡ option_and_then (path_go env k) (path_by xs s o q)
+    by (Some vs) q = ap (λ (ys : List Step). Some ((ys, s), vs)) (append-nil xs)
+    by None None = refl
+    by None (Some r) = first_behind xs r.0.0 (read_path env k r.0.1 r.1)
+
+path_at : (env : Env) (k : ℕ) (b : Bool) (xs : List Step) (s : Option Shape) (ws : List Word) → 0 < k → b ≡ false → path_left env k b xs s ws ≡ option_and_then (path_go env (k - 1)) (path_more env xs s ws)
+path_at env k b xs s ws some open_ = let e : k ≡ suc (k - 1) = omega (arith, some) in ap (λ v. path_left env k v xs s ws) open_ ∙ ap (λ j. path_left env j false xs s ws) e ∙ path_once env (k - 1) xs s ws
+
+pub path_next : (env : Env) (k : ℕ) (b c : Bool) (xs ys : List Step) (s t : Option Shape) (ws vs : List Word) (whole : Reading Path) → 0 < k → b ≡ false → path_more env xs s ws ≡ Some (c, ((ys, t), vs)) → path_left env k b xs s ws ≡ whole → path_left env (k - 1) c ys t vs ≡ whole
+path_next env k b c xs ys s t ws vs whole some open_ e inv = sym (path_at env k b xs s ws some open_ ∙ ap (option_and_then (path_go env (k - 1))) e) ∙ inv
+
+pub path_stop : (env : Env) (k : ℕ) (b : Bool) (xs : List Step) (s : Option Shape) (ws : List Word) (whole : Reading Path) (x : Stop) → 0 < k → b ≡ false → Fails x (path_more env xs s ws) → path_left env k b xs s ws ≡ whole → Fails x whole
+path_stop env k b xs s ws whole NotCil some open_ none inv = sym inv ∙ path_at env k b xs s ws some open_ ∙ ap (option_and_then (path_go env (k - 1))) none
+path_stop env k b xs s ws whole WantOfMemory some open_ none inv = tt
+
+pub path_over : (env : Env) (k : ℕ) (b : Bool) (xs : List Step) (s : Option Shape) (ws : List Word) (whole : Reading Path) → k ≡ 0 → b ≡ false → path_left env k b xs s ws ≡ whole → whole ≡ None
+path_over env k b xs s ws whole none open_ inv = sym inv ∙ ap (λ v. path_left env k v xs s ws) open_ ∙ ap (λ j. path_left env j false xs s ws) none
+
+pub path_closed : (env : Env) (k : ℕ) (b : Bool) (xs : List Step) (s : Option Shape) (ws : List Word) (whole : Reading Path) → b ≡ true → path_left env k b xs s ws ≡ whole → whole ≡ Some ((xs, s), ws)
+path_closed env k b xs s ws whole last inv = sym inv ∙ ap (λ v. path_left env k v xs s ws) last
 
 all_behind : (o : Reading Path) → option_map (path_behind []) o ≡ o
 all_behind None = refl
 all_behind (Some r) = refl
 
-pub path_start : (xs : List SeenStep) (o : Reading Path) → xs ≡ [] → option_map (path_behind (map step_of xs)) o ≡ o
-path_start xs o e = ap (λ ys. option_map (path_behind (map step_of ys)) o) e ∙ all_behind o
+pub path_start : (env : Env) (k : ℕ) (xs : List SeenStep) (s : Option Shape) (ws : List Word) → xs ≡ [] → path_left env k false (map step_of xs) s ws ≡ read_path env k s ws
+path_start env k xs s ws e = ap (λ ys. option_map (path_behind (map step_of ys)) (read_path env k s ws)) e ∙ all_behind (read_path env k s ws)
 
 -- addresses
 

@@ -1,5 +1,5 @@
 -- Device: what is known of parts of instructions, and steps of their readings.
-use Rattle.std.proofs.Common.{◌≡◌, ◌≢◌, ℕ, zero, suc, ◌-◌, Bool, true, false, cond, List, [], ◌∷◌, ◌++◌, Option, Some, None, refl, sym, ap, ◌∙◌, map, arith, append_assoc}
+use Rattle.std.proofs.Common.{◌≡◌, ◌≢◌, ℕ, suc, ◌-◌, ◌<◌, Bool, true, false, cond, List, [], ◌∷◌, ◌++◌, Option, Some, None, refl, sym, ap, ◌∙◌, arith, append_assoc, Box, Global as heap}
 use Rattle.std.specs.Option.{option_map, option_and_then}
 use Rattle.cil_base.specs.declared.numbers.EntityId.{EntityId}
 use Rattle.cil_base.specs.declared.numbers.LocalId.{LocalId}
@@ -10,24 +10,26 @@ use Rattle.type_graph.specs.Growth.{Grows}
 use Rattle.type_graph.proofs.GrowthLaws.{grows_twice}
 use Rattle.cil_tree.specs.declared.expressions.Exp.{Exp as SeenExp}
 use Rattle.cil_tree.specs.declared.expressions.Exp.TheViews as exps
-use Rattle.cil_tree.specs.declared.expressions.Host.{Host as SeenHost, Global as SeenGlobal, Var as SeenVar, At'}
+use Rattle.cil_tree.specs.declared.expressions.Host.{Host as SeenHost, Global as SeenGlobal, Var as SeenVar}
 use Rattle.cil_tree.specs.declared.expressions.Offset.{Offset as SeenOffset, Field as SeenField, Index'}
 use Rattle.cil_tree.specs.declared.expressions.Lval.{Lval as SeenLval}
-use Rattle.cil_tree.specs.declared.statements.Callee.{Callee as SeenCallee}
-use Rattle.cil_tree.specs.declared.statements.Callee.TheVariants as callee
 use Rattle.cil_tree.specs.declared.statements.Instr.{Instr as SeenInstr}
 use Rattle.cil_tree.specs.declared.statements.Instr.TheVariants as instr
-use Rattle.cil_tree.specs.Tree.{Exp, Host, Global, Var, At, Offsets, Here, Field, Index, Lval, Place, Callee, Direct, Through, Instr, Set, Call, Zero}
+use Rattle.cil_tree.specs.Tree.{Exp, Host, Global, Var, At, Offsets, Here, Field, Index, Lval, Place, Callee, Instr, Set, Call, Zero}
 use Rattle.cil_tree.specs.View.{exp_of, host_of, lval_of, offsets_of, instr_of}
-use Rattle.cil_tree.specs.View.{callee_of as callee_seen}
 use Rattle.cil_tree.proofs.Views.{at_value}
 use Rattle.cil_text.specs.Words.{Word, RightParen, Comma, Semicolon}
-use Rattle.cil_text.specs.ReadTypes.{Reading, is_closing, skip_one}
+use Rattle.cil_text.specs.ReadTypes.{Reading}
 use Rattle.cil_text.specs.ReadExps.{Env, read_exp, read_place}
 use Rattle.cil_text.specs.ReadStmts.{callee_of, called_place, line_end, read_args, read_list, read_next, argument_first, read_call, read_effect, read_assigned, read_instr, zero_from, is_zero, behind_address}
+use Rattle.cil_reader.specs.declared.stop.Stop.{Stop}
+use Rattle.cil_reader.specs.declared.stop.Stop.TheVariants.{NotCil, WantOfMemory}
+use Rattle.cil_reader.specs.Gives.{Fails}
 use Rattle.cil_reader.specs.Layers.{closing}
 use Rattle.cil_reader.specs.Parts.{ExpKnown, PlaceKnown}
-use Rattle.cil_reader.specs.Instructions.{args_of, result_of, ArgsKnown, ResultKnown, CalleeKnown, InstrKnown, IsCallee, IsCalled, is_end, behind_argument, list_behind, argument_behind, list_more}
+use Rattle.cil_reader.specs.declared.instructions.Called.{Called}
+use Rattle.cil_reader.specs.declared.instructions.Called.TheVariants as called
+use Rattle.cil_reader.specs.Instructions.{args_of, called_seen, result_of, ArgsKnown, ResultKnown, CalleeKnown, InstrKnown, IsCallee, IsCalled, is_end, behind_argument, list_behind, Listed, listed_as, argument_more, list_left, list_from}
 
 -- arguments
 
@@ -47,48 +49,74 @@ args_more g h env xs x t k r e = record {
       ∙ sym (map_more h.nodes xs x);
 }
 
-pub argument_gives : (g h : Graph) (xs : List SeenExp) (x : SeenExp) (o : Reading Exp) (ws : List Word) → ArgsKnown g xs → Grows g h → o ≡ Some (exp_of h.nodes x, ws) →
-    option_map (argument_behind (args_of g.nodes xs)) o ≡ Some (args_of h.nodes (xs ++ x ∷ []), ws)
-argument_gives g h xs x o ws k r e =
-    ap (option_map (argument_behind (args_of g.nodes xs))) e
-    ∙ ap (λ zs. Some (zs ++ exp_of h.nodes x ∷ [], ws)) (sym (k.steady h r))
-    ∙ ap (λ zs. Some (zs, ws)) (sym (map_more h.nodes xs x))
+pub argument_gives : (g h : Graph) (xs : List SeenExp) (x : SeenExp) (o : Reading Exp) (b : Bool) (ws vs : List Word) → ArgsKnown g xs → Grows g h → o ≡ Some (exp_of h.nodes x, ws) → Some (b, vs) ≡ behind_argument ws →
+    argument_more (args_of g.nodes xs) o ≡ Some (b, (args_of h.nodes (xs ++ x ∷ []), vs))
+argument_gives g h xs x o b ws vs k r e end =
+    ap (argument_more (args_of g.nodes xs)) e
+    ∙ ap (option_map (listed_as (args_of g.nodes xs ++ exp_of h.nodes x ∷ []))) (sym end)
+    ∙ ap (λ zs. Some (b, (zs ++ exp_of h.nodes x ∷ [], vs))) (sym (k.steady h r))
+    ∙ ap (λ zs. Some (b, (zs, vs))) (sym (map_more h.nodes xs x))
 
-pub argument_fails : (xs : List Exp) (o : Reading Exp) → o ≡ None → option_map (argument_behind xs) o ≡ None
-argument_fails xs o e = ap (option_map (argument_behind xs)) e
+pub argument_open : (xs : List Exp) (x : Exp) (o : Reading Exp) (ws : List Word) → o ≡ Some (x, ws) → None ≡ behind_argument ws → argument_more xs o ≡ None
+argument_open xs x o ws e none = ap (argument_more xs) e ∙ ap (option_map (listed_as (xs ++ x ∷ []))) (sym none)
 
-pub list_none : (exp : List Word → Reading Exp) (k : ℕ) (xs : List Exp) (ws : List Word) → k ≡ 0 → option_map (list_behind xs) (read_list exp k ws) ≡ None
-list_none exp zero xs ws e = refl
-list_none exp (suc k) xs ws e = absurd (omega (arith, e))
+pub argument_fails : (xs : List Exp) (o : Reading Exp) → o ≡ None → argument_more xs o ≡ None
+argument_fails xs o e = ap (argument_more xs) e
 
 first_behind : (xs : List Exp) (e : Exp) (o : Reading (List Exp)) → option_map (list_behind xs) (option_map (argument_first e) o) ≡ option_map (list_behind (xs ++ e ∷ [])) o
 first_behind xs e None = refl
 first_behind xs e (Some r) = ap (λ zs. Some (zs, r.1)) (sym (append_assoc xs (e ∷ []) r.0))
 
-next_is : (again : List Word → Reading (List Exp)) (xs : List Exp) (e : Exp) (ws : List Word) → option_map (list_behind xs) (read_next again e ws) ≡ list_more (xs ++ e ∷ []) again (behind_argument ws)
-next_is again xs e (RightParen ∷ ws) = refl
-next_is again xs e (Comma ∷ ws) = first_behind xs e (again ws)
-next_is again xs e _ = refl
+abbrev list_on : (List Word → Reading Exp) → ℕ → Listed → Reading (List Exp)
+list_on exp k (true, r) = Some r
+list_on exp k (false, r) = list_left exp k r.0 r.1
 
-list_by : (exp : List Word → Reading Exp) (k : ℕ) (xs : List Exp) (ws : List Word) → k ≢ 0 →
-    option_map (list_behind xs) (read_list exp k ws) ≡ option_and_then (λ (r : List Exp × List Word). list_more r.0 (read_list exp (k - 1)) (behind_argument r.1)) (option_map (argument_behind xs) (exp ws))
-list_by exp zero xs ws h = absurd (h refl)
-list_by exp (suc k) xs ws h = by (exp ws) ∙ ap (λ j. option_and_then (λ (r : List Exp × List Word). list_more r.0 (read_list exp j) (behind_argument r.1)) (option_map (argument_behind xs) (exp ws))) (sym e)
+next_is : (exp : List Word → Reading Exp) (k : ℕ) (xs : List Exp) (e : Exp) (ws : List Word) → option_map (list_behind xs) (read_next (read_list exp k) e ws) ≡ option_and_then (list_on exp k) (option_map (listed_as (xs ++ e ∷ [])) (behind_argument ws))
+next_is exp k xs e (RightParen ∷ ws) = refl
+next_is exp k xs e (Comma ∷ ws) = first_behind xs e (read_list exp k ws)
+next_is exp k xs e _ = refl
+
+list_is : (exp : List Word → Reading Exp) (k : ℕ) (xs : List Exp) (ws : List Word) → list_left exp (suc k) xs ws ≡ option_and_then (list_on exp k) (argument_more xs (exp ws))
+list_is exp k xs ws = by (exp ws)
   where
-    e : suc k - 1 ≡ k
-    e = omega arith
-
-    by : (o : Reading Exp) → option_map (list_behind xs) (option_and_then (λ (r : Exp × List Word). read_next (read_list exp k) r.0 r.1) o)
-        ≡ option_and_then (λ (r : List Exp × List Word). list_more r.0 (read_list exp k) (behind_argument r.1)) (option_map (argument_behind xs) o)
+    by : (o : Reading Exp) → option_map (list_behind xs) (option_and_then (λ (r : Exp × List Word). read_next (read_list exp k) r.0 r.1) o) ≡ option_and_then (list_on exp k) (argument_more xs o)
     by None = refl
-    by (Some r) = next_is (read_list exp k) xs r.0 r.1
+    by (Some r) = next_is exp k xs r.0 r.1
 
-pub list_next : (exp : List Word → Reading Exp) (k : ℕ) (xs ys : List Exp) (ws vs : List Word) → k ≢ 0 → option_map (argument_behind xs) (exp ws) ≡ Some (ys, vs) →
-    option_map (list_behind xs) (read_list exp k ws) ≡ list_more ys (read_list exp (k - 1)) (behind_argument vs)
-list_next exp k xs ys ws vs h e = list_by exp k xs ws h ∙ ap (option_and_then (λ (r : List Exp × List Word). list_more r.0 (read_list exp (k - 1)) (behind_argument r.1))) e
+all_behind : (o : Reading (List Exp)) → option_map (list_behind []) o ≡ o
+all_behind None = refl
+all_behind (Some r) = refl
 
-pub list_fails : (exp : List Word → Reading Exp) (k : ℕ) (xs : List Exp) (ws : List Word) → k ≢ 0 → option_map (argument_behind xs) (exp ws) ≡ None → option_map (list_behind xs) (read_list exp k ws) ≡ None
-list_fails exp k xs ws h e = list_by exp k xs ws h ∙ ap (option_and_then (λ (r : List Exp × List Word). list_more r.0 (read_list exp (k - 1)) (behind_argument r.1))) e
+-- the loop over arguments, of which k may be left
+
+list_by : (env now : Env) (n k : ℕ) (xs : List Exp) (ws : List Word) → 0 < k → now ≡ env → list_left (read_exp env n) k xs ws ≡ option_and_then (list_on (read_exp env n) (k - 1)) (argument_more xs (read_exp now n ws))
+list_by env now n k xs ws some same =
+    let e : k ≡ suc (k - 1) = omega (arith, some) in
+    ap (λ j. list_left (read_exp env n) j xs ws) e
+    ∙ list_is (read_exp env n) (k - 1) xs ws
+    ∙ ap (λ (v : Env). option_and_then (list_on (read_exp env n) (k - 1)) (argument_more xs (read_exp v n ws))) (sym same)
+
+pub list_next : (env now : Env) (n k : ℕ) (xs ys : List Exp) (b c : Bool) (ws vs : List Word) (whole : Reading (List Exp)) → 0 < k → now ≡ env → argument_more xs (read_exp now n ws) ≡ Some (b, (ys, vs)) → c ≡ false →
+    list_from (read_exp env n) k c xs ws ≡ whole → list_from (read_exp env n) (k - 1) b ys vs ≡ whole
+list_next env now n k xs ys b c ws vs whole some same e more inv = by b ∙ (sym (list_by env now n k xs ws some same ∙ ap (option_and_then (list_on (read_exp env n) (k - 1))) e) ∙ ap (λ v. list_from (read_exp env n) k v xs ws) (sym more) ∙ inv)
+  where
+    by : (v : Bool) → list_from (read_exp env n) (k - 1) v ys vs ≡ list_on (read_exp env n) (k - 1) (v, (ys, vs))
+    by true = refl
+    by false = refl
+
+pub list_stop : (env now : Env) (n k : ℕ) (xs : List Exp) (c : Bool) (ws : List Word) (whole : Reading (List Exp)) (x : Stop) → 0 < k → now ≡ env → c ≡ false → Fails x (argument_more xs (read_exp now n ws)) → list_from (read_exp env n) k c xs ws ≡ whole → Fails x whole
+list_stop env now n k xs c ws whole NotCil some same more none inv =
+    sym inv ∙ ap (λ v. list_from (read_exp env n) k v xs ws) more ∙ list_by env now n k xs ws some same ∙ ap (option_and_then (list_on (read_exp env n) (k - 1))) none
+list_stop env now n k xs c ws whole WantOfMemory some same more none inv = tt
+
+pub list_over : (exp : List Word → Reading Exp) (k : ℕ) (xs : List Exp) (c : Bool) (ws : List Word) (whole : Reading (List Exp)) → k ≡ 0 → c ≡ false → list_from exp k c xs ws ≡ whole → whole ≡ None
+list_over exp k xs c ws whole none more inv = sym inv ∙ ap (λ v. list_from exp k v xs ws) more ∙ ap (λ j. list_left exp j xs ws) none
+
+pub list_closed : (exp : List Word → Reading Exp) (k : ℕ) (xs : List Exp) (c : Bool) (ws : List Word) (whole : Reading (List Exp)) → c ≡ true → list_from exp k c xs ws ≡ whole → whole ≡ Some (xs, ws)
+list_closed exp k xs c ws whole last inv = sym inv ∙ ap (λ v. list_from exp k v xs ws) last
+
+pub list_start : (exp : List Word → Reading Exp) (m : ℕ) (nodes : List Node) (xs : List SeenExp) (ws : List Word) → xs ≡ [] → list_from exp m false (args_of nodes xs) ws ≡ read_list exp m ws
+list_start exp m nodes xs ws e = ap (λ ys. list_left exp m (args_of nodes ys) ws) e ∙ all_behind (read_list exp m ws)
 
 abbrev args_by : Option (List Word) → Reading (List Exp) → Reading (List Exp)
 args_by (Some vs) o = Some ([], vs)
@@ -98,23 +126,19 @@ args_is : (exp : List Word → Reading Exp) (k : ℕ) (ws : List Word) → read_
 args_is exp k (RightParen ∷ ws) = refl
 args_is exp k _ = refl
 
-all_behind : (o : Reading (List Exp)) → option_map (list_behind []) o ≡ o
-all_behind None = refl
-all_behind (Some r) = refl
-
 pub args_closing : (exp : List Word → Reading Exp) (k : ℕ) (ws vs : List Word) → Some vs ≡ closing ws → read_args exp k ws ≡ Some ([], vs)
 args_closing exp k ws vs e = args_is exp k ws ∙ ap (λ o. args_by o (read_list exp k ws)) (sym e)
 
-pub args_next : (exp : List Word → Reading Exp) (k : ℕ) (ws : List Word) → None ≡ closing ws → read_args exp k ws ≡ option_map (list_behind []) (read_list exp k ws)
-args_next exp k ws e = args_is exp k ws ∙ ap (λ o. args_by o (read_list exp k ws)) (sym e) ∙ sym (all_behind (read_list exp k ws))
+pub args_next : (exp : List Word → Reading Exp) (k : ℕ) (ws : List Word) → None ≡ closing ws → read_args exp k ws ≡ read_list exp k ws
+args_next exp k ws e = args_is exp k ws ∙ ap (λ o. args_by o (read_list exp k ws)) (sym e)
 
 -- what is called
 
-pub direct_is : (l : SeenLval) (e : EntityId) → l.offsets.items ≡ [] → l.host ≡ SeenGlobal e → IsCallee l (Some (callee.Direct e))
+pub direct_is : (l : SeenLval) (e : EntityId) → l.offsets.items ≡ [] → l.host ≡ SeenGlobal e → IsCallee l (Some (called.Direct e))
 direct_is l e none host = record { at = λ nodes. sym (ap (λ xs. callee_of (Place (host_of nodes l.host) (offsets_of nodes xs))) none ∙ ap (λ h. callee_of (Place (host_of nodes h) Here)) host) }
 
-pub through_is : (l : SeenLval) (h : SeenHost) (x : SeenExp) → ((nodes : List Node) → host_of nodes h ≡ At (exp_of nodes x)) → l.offsets.items ≡ [] → l.host ≡ h → IsCallee l (Some (callee.Through x))
-through_is l h x is none host = record {
+pub through_is : (l : SeenLval) (h : SeenHost) (b : Box SeenExp heap) → ((nodes : List Node) → host_of nodes h ≡ At (exp_of nodes b.value)) → l.offsets.items ≡ [] → l.host ≡ h → IsCallee l (Some (called.Through b))
+through_is l h b is none host = record {
   at = λ nodes. sym (
       ap (λ xs. callee_of (Place (host_of nodes l.host) (offsets_of nodes xs))) none
       ∙ ap (λ y. callee_of (Place (host_of nodes y) Here)) host
@@ -142,14 +166,14 @@ of_part nodes h (Index' p e ∷ xs) some = of_element h (exp_of nodes e) (offset
 pub part_is : (l : SeenLval) → l.offsets.items ≢ [] → IsCallee l None
 part_is l some = record { at = λ nodes. sym (of_part nodes (host_of nodes l.host) l.offsets.items some) }
 
-pub called_is : (l : SeenLval) (c : Option SeenCallee) → IsCallee l c → IsCalled (exps.Lval l) c
+pub called_is : (l : SeenLval) (c : Option Called) → IsCallee l c → IsCalled (exps.Lval l) c
 called_is l c is = record { at = λ nodes. is.at nodes ∙ sym (ap called_place (at_value nodes (exps.Lval l) l refl)) }
 
-pub callee_known : (g : Graph) (env : Env) (l : SeenLval) (t : Option TypeId) (c : SeenCallee) → IsCallee l (Some c) → PlaceKnown g env l t → CalleeKnown g c
-callee_known g env l t c is k = record { steady = λ h r. let e : Some (callee_seen h.nodes c) ≡ Some (callee_seen g.nodes c) = is.at h.nodes ∙ ap callee_of (k.steady h r) ∙ sym (is.at g.nodes) in cc }
+pub callee_known : (g : Graph) (env : Env) (l : SeenLval) (t : Option TypeId) (c : Called) → IsCallee l (Some c) → PlaceKnown g env l t → CalleeKnown g c
+callee_known g env l t c is k = record { steady = λ h r. let e : Some (called_seen h.nodes c) ≡ Some (called_seen g.nodes c) = is.at h.nodes ∙ ap callee_of (k.steady h r) ∙ sym (is.at g.nodes) in cc }
 
-pub called_known : (g : Graph) (env : Env) (x : SeenExp) (t : Option TypeId) (c : SeenCallee) → IsCalled x (Some c) → ExpKnown g env x t → CalleeKnown g c
-called_known g env x t c is k = record { steady = λ h r. let e : Some (callee_seen h.nodes c) ≡ Some (callee_seen g.nodes c) = is.at h.nodes ∙ ap called_place (k.steady h r) ∙ sym (is.at g.nodes) in cc }
+pub called_known : (g : Graph) (env : Env) (x : SeenExp) (t : Option TypeId) (c : Called) → IsCalled x (Some c) → ExpKnown g env x t → CalleeKnown g c
+called_known g env x t c is k = record { steady = λ h r. let e : Some (called_seen h.nodes c) ≡ Some (called_seen g.nodes c) = is.at h.nodes ∙ ap called_place (k.steady h r) ∙ sym (is.at g.nodes) in cc }
 
 pub no_result : (g : Graph) → ResultKnown g None
 no_result g = record { steady = λ h r. refl }
@@ -181,12 +205,12 @@ unended x ws e = ends_by x ws ∙ ap (λ v. cond v (Some x) None) e
 abbrev call_from : Option Lval → Callee → List Exp × List Word → Option Instr
 call_from o c r = line_end (Call o c r.0) r.1
 
-pub call_gives : (g h : Graph) (exp : List Word → Reading Exp) (k : ℕ) (o : Option SeenLval) (c : SeenCallee) (xs : List Exp) (ws vs : List Word) → ResultKnown g o → CalleeKnown g c → Grows g h → read_args exp k ws ≡ Some (xs, vs) → is_end vs ≡ true →
-    read_call exp k (result_of g.nodes o) (callee_seen g.nodes c) ws ≡ Some (Call (result_of h.nodes o) (callee_seen h.nodes c) xs)
+pub call_gives : (g h : Graph) (exp : List Word → Reading Exp) (k : ℕ) (o : Option SeenLval) (c : Called) (xs : List Exp) (ws vs : List Word) → ResultKnown g o → CalleeKnown g c → Grows g h → read_args exp k ws ≡ Some (xs, vs) → is_end vs ≡ true →
+    read_call exp k (result_of g.nodes o) (called_seen g.nodes c) ws ≡ Some (Call (result_of h.nodes o) (called_seen h.nodes c) xs)
 call_gives g h exp k o c xs ws vs p q r e end =
-    ap (option_and_then (call_from (result_of g.nodes o) (callee_seen g.nodes c))) e
-    ∙ ended (Call (result_of g.nodes o) (callee_seen g.nodes c) xs) vs end
-    ∙ ap (λ y. Some (Call y (callee_seen g.nodes c) xs)) (sym (p.steady h r))
+    ap (option_and_then (call_from (result_of g.nodes o) (called_seen g.nodes c))) e
+    ∙ ended (Call (result_of g.nodes o) (called_seen g.nodes c) xs) vs end
+    ∙ ap (λ y. Some (Call y (called_seen g.nodes c) xs)) (sym (p.steady h r))
     ∙ ap (λ y. Some (Call (result_of h.nodes o) y xs)) (sym (q.steady h r))
 
 pub call_open : (exp : List Word → Reading Exp) (k : ℕ) (o : Option Lval) (c : Callee) (xs : List Exp) (ws vs : List Word) → read_args exp k ws ≡ Some (xs, vs) → is_end vs ≡ false → read_call exp k o c ws ≡ None
@@ -195,26 +219,26 @@ call_open exp k o c xs ws vs e end = ap (option_and_then (call_from o c)) e ∙ 
 pub call_fails : (exp : List Word → Reading Exp) (k : ℕ) (o : Option Lval) (c : Callee) (ws : List Word) → read_args exp k ws ≡ None → read_call exp k o c ws ≡ None
 call_fails exp k o c ws e = ap (option_and_then (call_from o c)) e
 
-pub call_known : (g h : Graph) (o : Option SeenLval) (c : SeenCallee) (i : SeenInstr) (xs : List SeenExp) → ((nodes : List Node) → instr_of nodes i ≡ Call (result_of nodes o) (callee_seen nodes c) (args_of nodes xs)) →
+pub call_known : (g h : Graph) (o : Option SeenLval) (c : Called) (i : SeenInstr) (xs : List SeenExp) → ((nodes : List Node) → instr_of nodes i ≡ Call (result_of nodes o) (called_seen nodes c) (args_of nodes xs)) →
     ResultKnown g o → CalleeKnown g c → ArgsKnown h xs → Grows g h → InstrKnown h i
 call_known g h o c i xs is p q k r = record {
   steady = λ j s.
       is j.nodes
-      ∙ ap (λ y. Call y (callee_seen j.nodes c) (args_of j.nodes xs)) (p.steady j (grows_twice g h j r s) ∙ sym (p.steady h r))
+      ∙ ap (λ y. Call y (called_seen j.nodes c) (args_of j.nodes xs)) (p.steady j (grows_twice g h j r s) ∙ sym (p.steady h r))
       ∙ ap (λ y. Call (result_of h.nodes o) y (args_of j.nodes xs)) (q.steady j (grows_twice g h j r s) ∙ sym (q.steady h r))
-      ∙ ap (Call (result_of h.nodes o) (callee_seen h.nodes c)) (k.steady j s)
+      ∙ ap (Call (result_of h.nodes o) (called_seen h.nodes c)) (k.steady j s)
       ∙ sym (is h.nodes);
 }
 
-pub called_next : (nodes : List Node) (exp : List Word → Reading Exp) (k : ℕ) (o : Option Lval) (x : SeenExp) (c : SeenCallee) (ws : List Word) → IsCalled x (Some c) →
-    option_and_then (λ (f : Callee). read_call exp k o f ws) (called_place (exp_of nodes x)) ≡ read_call exp k o (callee_seen nodes c) ws
+pub called_next : (nodes : List Node) (exp : List Word → Reading Exp) (k : ℕ) (o : Option Lval) (x : SeenExp) (c : Called) (ws : List Word) → IsCalled x (Some c) →
+    option_and_then (λ (f : Callee). read_call exp k o f ws) (called_place (exp_of nodes x)) ≡ read_call exp k o (called_seen nodes c) ws
 called_next nodes exp k o x c ws is = ap (option_and_then (λ (f : Callee). read_call exp k o f ws)) (sym (is.at nodes))
 
 pub called_none : (nodes : List Node) (exp : List Word → Reading Exp) (k : ℕ) (o : Option Lval) (x : SeenExp) (ws : List Word) → IsCalled x None → option_and_then (λ (f : Callee). read_call exp k o f ws) (called_place (exp_of nodes x)) ≡ None
 called_none nodes exp k o x ws is = ap (option_and_then (λ (f : Callee). read_call exp k o f ws)) (sym (is.at nodes))
 
-pub callee_next : (nodes : List Node) (exp : List Word → Reading Exp) (k : ℕ) (o : Option Lval) (l : SeenLval) (c : SeenCallee) (ws : List Word) → IsCallee l (Some c) →
-    option_and_then (λ (f : Callee). read_call exp k o f ws) (callee_of (lval_of nodes l)) ≡ read_call exp k o (callee_seen nodes c) ws
+pub callee_next : (nodes : List Node) (exp : List Word → Reading Exp) (k : ℕ) (o : Option Lval) (l : SeenLval) (c : Called) (ws : List Word) → IsCallee l (Some c) →
+    option_and_then (λ (f : Callee). read_call exp k o f ws) (callee_of (lval_of nodes l)) ≡ read_call exp k o (called_seen nodes c) ws
 callee_next nodes exp k o l c ws is = ap (option_and_then (λ (f : Callee). read_call exp k o f ws)) (sym (is.at nodes))
 
 pub callee_none : (nodes : List Node) (exp : List Word → Reading Exp) (k : ℕ) (o : Option Lval) (l : SeenLval) (ws : List Word) → IsCallee l None → option_and_then (λ (f : Callee). read_call exp k o f ws) (callee_of (lval_of nodes l)) ≡ None

@@ -1,10 +1,8 @@
 -- Device: steps of the readings of declarators.
 use Rattle.std.proofs.Common.{◌≡◌, ◌≢◌, ℕ, zero, suc, Bool, true, false, cond, List, [], ◌∷◌, ◌++◌, Option, Some, None, refl, sym, ap, ◌∙◌, map, take, drop, length, ◌<◌, ◌≤◌, ◌-◌, ◌+◌, arith, length-drop, length-append}
-use Rattle.std.specs.Prelude.{reverse}
 use Rattle.std.specs.Option.{option_map, option_and_then}
 use Rattle.std.proofs.lemmas.List.{reverse-append, take_all}
 use Rattle.cil_base.specs.declared.numbers.TypeId.{TypeId}
-use Rattle.cil_base.specs.declared.operators.BinOp.{BinOp}
 use Rattle.cil_base.specs.declared.operators.BinOp.TheVariants.{Mul}
 use Rattle.type_graph.specs.Shapes.{Shape, Shapes, NoTypes, MoreTypes, PtrType, shape, shapes_of}
 use Rattle.type_graph.specs.Arena.{Graph, EachType}
@@ -12,14 +10,18 @@ use Rattle.type_graph.specs.Growth.{Grows}
 use Rattle.type_graph.proofs.ShapeLaws.{kept, shapes_of-same}
 use Rattle.cil_tree.specs.Typing.{unqualified}
 use Rattle.cil_text.specs.Words.{Word, VoidWord, LeftParen, RightParen, Comma, Operator}
-use Rattle.cil_text.specs.ReadTypes.{Reading, skip_one, Mark, Points, Group, Layer, Pointer, Elements, Called, Listed, Named, heads, is_star, is_suffix, is_ellipsis, closed, read_base, read_name, read_decl, declared_as, named_as, tails, popped, layer_first, listed_first, read_suffix, read_called, read_params, read_more, called, without_name}
+use Rattle.cil_text.specs.ReadTypes.{Reading, skip_one, Mark, Group, Layer, Pointer, Elements, Called, Listed, Named, heads, is_star, is_suffix, is_ellipsis, closed, read_base, read_name, read_decl, declared_as, named_as, tails, popped, layer_first, listed_first, read_suffix, read_called, read_params, read_more, called, without_name}
 use Rattle.cil_reader.specs.declared.declarators.Mark.{Mark as SeenMark}
 use Rattle.cil_reader.specs.declared.declarators.Suffix.{Suffix}
 use Rattle.cil_reader.specs.declared.declarators.Suffix.TheVariants as suffix
-use Rattle.cil_reader.specs.declared.declarators.Follows.TheVariants.{Variadic, Another}
+use Rattle.cil_reader.specs.declared.declarators.Follows.{Follows}
+use Rattle.cil_reader.specs.declared.declarators.Follows.TheVariants.{End, Variadic, Another}
+use Rattle.cil_reader.specs.declared.stop.Stop.{Stop}
+use Rattle.cil_reader.specs.declared.stop.Stop.TheVariants.{NotCil, WantOfMemory}
+use Rattle.cil_reader.specs.Gives.{Fails}
 use Rattle.cil_reader.specs.declared.words.Word.{Word as Seen}
 use Rattle.cil_reader.specs.Said.{all_said}
-use Rattle.cil_reader.specs.Layers.{mark_of, marks_of, head_of, layer_of, LayerBelow, read_parameter, built_from, behind_parameter, joined, listed_behind, wrapped, wrapped_from, more_behind, param_behind, closing, void_alone}
+use Rattle.cil_reader.specs.Layers.{mark_of, marks_of, head_of, layer_of, LayerBelow, read_parameter, built_from, behind_parameter, joined, listed_behind, wrapped, wrapped_from, more_behind, is_another, ParamRead, behind_those, param_more, closing, void_alone}
 
 abbrev heads_by : List Mark → List Word → Option Mark → List Mark × List Word
 heads_by marks ws None = (marks, ws)
@@ -180,10 +182,6 @@ layer_kept g h (suffix.Called params proto variadic) e b =
 
 -- parameters
 
-pub params_none : (sub : List Word → Reading Shape) (k : ℕ) (ss : Shapes) (ws : List Word) → k ≡ 0 → option_map called (option_map (listed_behind ss) (read_params sub k ws)) ≡ None
-params_none sub zero ss ws e = refl
-params_none sub (suc k) ss ws e = absurd (omega (arith, e))
-
 joined_twice : (a b c : Shapes) → joined (joined a b) c ≡ joined a (joined b c)
 joined_twice NoTypes b c = refl
 joined_twice (MoreTypes s a) b c = ap (MoreTypes s) (joined_twice a b c)
@@ -207,26 +205,46 @@ more_is again ss s (Comma ∷ ws) = by (is_ellipsis ws)
     by false = behind_first ss s (again ws)
 more_is again ss s _ = refl
 
-params_by : (sub : List Word → Reading Shape) (k : ℕ) (ss : Shapes) (ws : List Word) → k ≢ 0 →
-    option_map (listed_behind ss) (read_params sub k ws) ≡ option_and_then (λ (r : Shapes × List Word). more_behind r.0 (read_params sub (k - 1)) (behind_parameter r.1)) (option_map (param_behind ss) (sub ws))
-params_by sub zero ss ws h = absurd (h refl)
-params_by sub (suc k) ss ws h = by (sub ws) ∙ ap (λ j. option_and_then (λ (r : Shapes × List Word). more_behind r.0 (read_params sub j) (behind_parameter r.1)) (option_map (param_behind ss) (sub ws))) (sym e)
+abbrev params_on : (List Word → Reading Shape) → ℕ → ParamRead → Reading Listed
+params_on sub k r = more_behind r.1.0 (read_params sub k) (Some (r.0, r.1.1))
+
+params_is : (sub : List Word → Reading Shape) (k : ℕ) (ss : Shapes) (ws : List Word) → option_map (listed_behind ss) (read_params sub (suc k) ws) ≡ option_and_then (params_on sub k) (param_more ss (sub ws))
+params_is sub k ss ws = by (sub ws)
   where
-    e : suc k - 1 ≡ k
-    e = omega arith
+    end : (ts : Shapes) (o : Option (Follows × List Word)) → more_behind ts (read_params sub k) o ≡ option_and_then (params_on sub k) (option_map (behind_those ts) o)
+    end ts None = refl
+    end ts (Some r) = refl
 
-    by : (o : Reading Shape) → option_map (listed_behind ss) (option_and_then (λ (r : Shape × List Word). read_more (read_params sub k) r.0 r.1) o)
-        ≡ option_and_then (λ (r : Shapes × List Word). more_behind r.0 (read_params sub k) (behind_parameter r.1)) (option_map (param_behind ss) o)
+    by : (o : Reading Shape) → option_map (listed_behind ss) (option_and_then (λ (r : Shape × List Word). read_more (read_params sub k) r.0 r.1) o) ≡ option_and_then (params_on sub k) (param_more ss o)
     by None = refl
-    by (Some r) = more_is (read_params sub k) ss r.0 r.1
+    by (Some r) = more_is (read_params sub k) ss r.0 r.1 ∙ end (joined ss (MoreTypes r.0 NoTypes)) (behind_parameter r.1)
 
-pub params_next : (sub : List Word → Reading Shape) (k : ℕ) (ss ts : Shapes) (ws vs : List Word) → k ≢ 0 → option_map (param_behind ss) (sub ws) ≡ Some (ts, vs) →
-    option_map called (option_map (listed_behind ss) (read_params sub k ws)) ≡ option_map called (more_behind ts (read_params sub (k - 1)) (behind_parameter vs))
-params_next sub k ss ts ws vs h e = ap (option_map called) (params_by sub k ss ws h ∙ ap (option_and_then (λ (r : Shapes × List Word). more_behind r.0 (read_params sub (k - 1)) (behind_parameter r.1))) e)
+-- the loop over parameters, of which k may be left
 
-pub params_fails : (sub : List Word → Reading Shape) (k : ℕ) (ss : Shapes) (ws : List Word) → k ≢ 0 → option_map (param_behind ss) (sub ws) ≡ None →
-    option_map called (option_map (listed_behind ss) (read_params sub k ws)) ≡ None
-params_fails sub k ss ws h e = ap (option_map called) (params_by sub k ss ws h ∙ ap (option_and_then (λ (r : Shapes × List Word). more_behind r.0 (read_params sub (k - 1)) (behind_parameter r.1))) e)
+abbrev pub params_left : (List Word → Reading Shape) → ℕ → Follows → Shapes → List Word → Reading Listed
+params_left sub k f ss ws = more_behind ss (read_params sub k) (Some (f, ws))
+
+params_by : (sub : List Word → Reading Shape) (k : ℕ) (f : Follows) (ss : Shapes) (ws : List Word) → 0 < k → is_another f ≡ true → params_left sub k f ss ws ≡ option_and_then (params_on sub (k - 1)) (param_more ss (sub ws))
+params_by sub k End ss ws some more = absurd (cc more)
+params_by sub k Variadic ss ws some more = absurd (cc more)
+params_by sub k Another ss ws some more = let e : k ≡ suc (k - 1) = omega (arith, some) in ap (λ j. option_map (listed_behind ss) (read_params sub j ws)) e ∙ params_is sub (k - 1) ss ws
+
+pub params_next : (sub : List Word → Reading Shape) (k : ℕ) (f g : Follows) (ss ts : Shapes) (ws vs : List Word) (whole : Reading Listed) → 0 < k → is_another f ≡ true → param_more ss (sub ws) ≡ Some (g, (ts, vs)) →
+    params_left sub k f ss ws ≡ whole → params_left sub (k - 1) g ts vs ≡ whole
+params_next sub k f g ss ts ws vs whole some more e inv = sym (params_by sub k f ss ws some more ∙ ap (option_and_then (params_on sub (k - 1))) e) ∙ inv
+
+pub params_stop : (sub : List Word → Reading Shape) (k : ℕ) (f : Follows) (ss : Shapes) (ws : List Word) (whole : Reading Listed) (x : Stop) → 0 < k → is_another f ≡ true → Fails x (param_more ss (sub ws)) → params_left sub k f ss ws ≡ whole → Fails x (option_map called whole)
+params_stop sub k f ss ws whole NotCil some more none inv = ap (option_map called) (sym inv ∙ params_by sub k f ss ws some more ∙ ap (option_and_then (params_on sub (k - 1))) none)
+params_stop sub k f ss ws whole WantOfMemory some more none inv = tt
+
+pub params_over : (sub : List Word → Reading Shape) (k : ℕ) (f : Follows) (ss : Shapes) (ws : List Word) (whole : Reading Listed) → k ≡ 0 → f ≡ Another → params_left sub k f ss ws ≡ whole → option_map called whole ≡ None
+params_over sub k f ss ws whole none another inv = ap (option_map called) (sym inv ∙ ap (λ g. params_left sub k g ss ws) another ∙ ap (λ j. params_left sub j Another ss ws) none)
+
+pub params_end : (sub : List Word → Reading Shape) (k : ℕ) (f : Follows) (ss : Shapes) (ws : List Word) (whole : Reading Listed) → f ≡ End → params_left sub k f ss ws ≡ whole → option_map called whole ≡ Some (Called ss true false, ws)
+params_end sub k f ss ws whole end inv = ap (option_map called) (sym inv ∙ ap (λ g. params_left sub k g ss ws) end)
+
+pub params_variadic : (sub : List Word → Reading Shape) (k : ℕ) (f : Follows) (ss : Shapes) (ws : List Word) (whole : Reading Listed) → f ≡ Variadic → params_left sub k f ss ws ≡ whole → option_map called whole ≡ Some (Called ss true true, ws)
+params_variadic sub k f ss ws whole end inv = ap (option_map called) (sym inv ∙ ap (λ g. params_left sub k g ss ws) end)
 
 pub shapes_more : (at : ℕ → Shape) (ts : List TypeId) (t : TypeId) → shapes_of at (ts ++ t ∷ []) ≡ joined (shapes_of at ts) (MoreTypes (at t.0) NoTypes)
 shapes_more at [] t = refl
@@ -239,19 +257,19 @@ each_pushed n m (u ∷ ts) t h e less = (omega (arith, e.0), each_pushed n m ts 
 pub each_more : (g h : Graph) (ts : List TypeId) (t : TypeId) → Grows g h → EachType (length g.nodes) ts → t.0 < length h.nodes → EachType (length h.nodes) (ts ++ t ∷ [])
 each_more g h ts t e each less = each_pushed (length g.nodes) (length h.nodes) ts t (no_fewer g h e) each less
 
-pub param_gives : (tags : List (List ℕ)) (left : ℕ) (g h : Graph) (ts : List TypeId) (t : TypeId) (name : Option (List ℕ)) (ws vs : List Word) → Grows g h → EachType (length g.nodes) ts →
-    read_decl tags left ws ≡ Some ((shape h.nodes t.0, name), vs) → option_map (param_behind (shapes_of (shape g.nodes) ts)) (read_parameter tags left ws) ≡ Some (shapes_of (shape h.nodes) (ts ++ t ∷ []), vs)
-param_gives tags left g h ts t name ws vs e each r =
-    ap (λ o. option_map (param_behind (shapes_of (shape g.nodes) ts)) (option_map without_name o)) r
-    ∙ ap (λ ss. Some (joined ss (MoreTypes (shape h.nodes t.0) NoTypes), vs)) (sym (shapes_of-same (shape h.nodes) (shape g.nodes) (length g.nodes) ts each (λ i less. kept g h i e less)))
-    ∙ ap (λ ss. Some (ss, vs)) (sym (shapes_more (shape h.nodes) ts t))
+pub param_gives : (tags : List (List ℕ)) (left : ℕ) (g h : Graph) (ts : List TypeId) (t : TypeId) (name : Option (List ℕ)) (f : Follows) (ws vs us : List Word) → Grows g h → EachType (length g.nodes) ts →
+    read_decl tags left ws ≡ Some ((shape h.nodes t.0, name), vs) → Some (f, us) ≡ behind_parameter vs → param_more (shapes_of (shape g.nodes) ts) (read_parameter tags left ws) ≡ Some (f, (shapes_of (shape h.nodes) (ts ++ t ∷ []), us))
+param_gives tags left g h ts t name f ws vs us e each r end =
+    ap (λ o. param_more (shapes_of (shape g.nodes) ts) (option_map without_name o)) r
+    ∙ ap (option_map (behind_those (joined (shapes_of (shape g.nodes) ts) (MoreTypes (shape h.nodes t.0) NoTypes)))) (sym end)
+    ∙ ap (λ ss. Some (f, (joined ss (MoreTypes (shape h.nodes t.0) NoTypes), us))) (sym (shapes_of-same (shape h.nodes) (shape g.nodes) (length g.nodes) ts each (λ i less. kept g h i e less)))
+    ∙ ap (λ ss. Some (f, (ss, us))) (sym (shapes_more (shape h.nodes) ts t))
 
-pub param_fails : (tags : List (List ℕ)) (left : ℕ) (ss : Shapes) (ws : List Word) → read_decl tags left ws ≡ None → option_map (param_behind ss) (read_parameter tags left ws) ≡ None
-param_fails tags left ss ws r = ap (λ o. option_map (param_behind ss) (option_map without_name o)) r
+pub param_open : (tags : List (List ℕ)) (left : ℕ) (ss : Shapes) (x : Named) (ws vs : List Word) → read_decl tags left ws ≡ Some (x, vs) → None ≡ behind_parameter vs → param_more ss (read_parameter tags left ws) ≡ None
+param_open tags left ss x ws vs r end = ap (λ o. param_more ss (option_map without_name o)) r ∙ ap (option_map (behind_those (joined ss (MoreTypes x.0 NoTypes)))) (sym end)
 
-all_listed : (o : Reading Listed) → option_map (listed_behind NoTypes) o ≡ o
-all_listed None = refl
-all_listed (Some r) = refl
+pub param_fails : (tags : List (List ℕ)) (left : ℕ) (ss : Shapes) (ws : List Word) → read_decl tags left ws ≡ None → param_more ss (read_parameter tags left ws) ≡ None
+param_fails tags left ss ws r = ap (λ o. param_more ss (option_map without_name o)) r
 
 abbrev called_by : Option (List Word) → Option (List Word) → Reading Layer → Reading Layer
 called_by (Some vs) _ o = Some (Called NoTypes false false, vs)
@@ -270,9 +288,15 @@ called_closing sub k ws vs e = called_is sub k ws ∙ ap (λ o. called_by o (voi
 pub called_void : (sub : List Word → Reading Shape) (k : ℕ) (ws vs : List Word) → None ≡ closing ws → Some vs ≡ void_alone ws → read_called sub k ws ≡ Some (Called NoTypes true false, vs)
 called_void sub k ws vs e f = called_is sub k ws ∙ ap (λ o. called_by o (void_alone ws) (option_map called (read_params sub k ws))) (sym e) ∙ ap (λ o. called_by None o (option_map called (read_params sub k ws))) (sym f)
 
-pub called_next : (sub : List Word → Reading Shape) (k : ℕ) (ws : List Word) → None ≡ closing ws → None ≡ void_alone ws → read_called sub k ws ≡ option_map called (option_map (listed_behind NoTypes) (read_params sub k ws))
+pub called_next : (sub : List Word → Reading Shape) (k : ℕ) (ws : List Word) → None ≡ closing ws → None ≡ void_alone ws → read_called sub k ws ≡ option_map called (read_params sub k ws)
 called_next sub k ws e f =
     called_is sub k ws
     ∙ ap (λ o. called_by o (void_alone ws) (option_map called (read_params sub k ws))) (sym e)
     ∙ ap (λ o. called_by None o (option_map called (read_params sub k ws))) (sym f)
-    ∙ ap (option_map called) (sym (all_listed (read_params sub k ws)))
+
+all_listed : (o : Reading Listed) → option_map (listed_behind NoTypes) o ≡ o
+all_listed None = refl
+all_listed (Some r) = refl
+
+pub params_start : (sub : List Word → Reading Shape) (k : ℕ) (at : ℕ → Shape) (ts : List TypeId) (ws : List Word) → ts ≡ [] → params_left sub k Another (shapes_of at ts) ws ≡ read_params sub k ws
+params_start sub k at ts ws e = ap (λ us. option_map (listed_behind (shapes_of at us)) (read_params sub k ws)) e ∙ all_listed (read_params sub k ws)

@@ -7,6 +7,8 @@ mod NumberingLaws
 mod LayersLaws
 mod AddedLaws
 mod SettingsLaws
+mod OnwardLaws
+mod OnwardParts
 mod PartsLaws
 mod OperandLaws
 mod InstructionLaws

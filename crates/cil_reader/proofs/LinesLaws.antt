@@ -1,9 +1,8 @@
 -- Device: steps of the loops that collect words and lines.
-use Rattle.std.proofs.Common.{◌≡◌, ◌≢◌, ℕ, zero, suc, ◌+◌, ◌-◌, ◌<◌, ◌≤◌, nat_eq, Bool, true, false, cond, List, [], ◌∷◌, ◌++◌, length, take, drop, get_or, refl, sym, ap, ◌∙◌, append_assoc, append-nil, arith, eq-eqb, map, length-drop}
-use Rattle.std.proofs.lemmas.List.{drop_all, take_all}
-use Rattle.cil_tree.specs.Lines.{Token}
+use Rattle.std.proofs.Common.{◌≡◌, ◌≢◌, ℕ, suc, ◌+◌, ◌-◌, ◌<◌, cond, List, [], ◌∷◌, ◌++◌, length, take, drop, get_or, refl, sym, ap, ◌∙◌, append_assoc, arith, eq-eqb, map}
+use Rattle.std.proofs.lemmas.List.{drop_all}
 use Rattle.cil_tree.specs.Declarators.{words_from}
-use Rattle.cil_tree.specs.LaidOut.{lines_from, without_last, without_blanks, pieces_of}
+use Rattle.cil_tree.specs.LaidOut.{lines_from, without_last, without_blanks}
 use Rattle.cil_text.specs.Words.{Word, word_of, onto}
 use Rattle.cil_text.specs.ReadText.{line_words, words_in}
 use Rattle.std.specs.Prelude.{Vec}
@@ -11,7 +10,7 @@ use Rattle.std.specs.Global.{Global}
 use Rattle.cil_reader.specs.declared.words.Word.{Word as Seen}
 use Rattle.cil_reader.specs.Said.{said, all_said, all_lines}
 use Rattle.cil_reader.specs.Lines.{rest_words, CollectsWords, CollectsLines}
-use Rattle.cil_reader.proofs.ScanLaws.{grown, rest_is, word_step, blank_step, fresh, other_byte, line_step, open_range}
+use Rattle.cil_reader.proofs.ScanLaws.{grown, rest_is, word_step, blank_step, fresh, other_byte, line_step}
 use Rattle.cil_reader.proofs.LineLaws.{last_cut}
 
 pub said_more : (xs : List Seen) (x : Seen) → all_said (xs ++ x ∷ []) ≡ all_said xs ++ said x ∷ []

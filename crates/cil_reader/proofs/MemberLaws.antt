@@ -258,7 +258,7 @@ text_is (t ∷ names) (suc i) text e = text_is names i text e
 
 -- one member
 
-pub is_member : (old names : List (List ℕ)) (text : List ℕ) (n : NameId) (q : Quals) (of : TypeId) (v : ℤ) (m : Member) → Interns old names text n.0 → m ≡ record { name = n; ty = record { quals = q; of = of }; value = v } → is_unqualified q ≡ true → IsMember names text of v m
+pub is_member : (old names : List (List ℕ)) (text : List ℕ) (n : NameId) (q : Quals) (of : TypeId) (v : ℤ) (m : Member) → Interns old names text n.0 → m ≡ record { name = n; anonymous = false; ty = record { quals = q; of = of }; value = v } → is_unqualified q ≡ true → IsMember names text of v m
 is_member old names text n q of v m i e plain = record {
   name = ap (λ (x : Member). slice_get names x.name.0) e ∙ i.number;
   type = ap (λ (x : Member). x.ty.of) e;

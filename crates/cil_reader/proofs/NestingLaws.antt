@@ -1,12 +1,13 @@
 -- Device: steps of the nesting of lines.
-use Rattle.std.proofs.Common.{◌≡◌, ◌≢◌, ℕ, zero, suc, ◌-◌, ◌+◌, ◌<◌, ◌≤◌, Bool, true, false, cond, List, [], ◌∷◌, ◌++◌, Option, Some, None, map, refl, sym, ap, ◌∙◌, arith}
-use Rattle.std.specs.Prelude.{reverse}
+use Rattle.std.proofs.Common.{◌≡◌, ℕ, suc, ◌-◌, ◌+◌, ◌<◌, ◌≤◌, List, [], ◌∷◌, ◌++◌, Option, Some, None, map, refl, sym, ap, ◌∙◌, arith}
 use Rattle.std.specs.Option.{option_map, option_and_then}
 use Rattle.std.proofs.lemmas.List.{reverse-append}
 use Rattle.type_graph.specs.declared.nodes.Node.{Node}
+use Rattle.cil_tree.specs.declared.expressions.Exp.{Exp as SeenExp}
 use Rattle.cil_tree.specs.declared.statements.Stmt.{Stmt as SeenStmt}
+use Rattle.cil_nodes.specs.Built.{IsIf, IsSwitch, IsLoop, IsBlock}
 use Rattle.cil_tree.specs.Tree.{Exp, Stmt, If, Switch, Loop, Block, Stmts, Done, Seq}
-use Rattle.cil_tree.specs.View.{stmt_of, stmts_of}
+use Rattle.cil_tree.specs.View.{exp_of, stmt_of, stmts_of}
 use Rattle.cil_text.specs.ReadStmts.{Head, Whole, Tested, Turned, Looped, Opened, Otherwise, Closed, Nested, seq_first, closed_block, otherwise, nested_from, read_nested}
 use Rattle.cil_reader.specs.declared.heads.Head.{Head as SeenHead}
 use Rattle.cil_reader.specs.declared.stop.Stop.{Stop}
@@ -67,6 +68,26 @@ block_gives again f hs ks ss e = ap (option_map (one_from f)) e
 
 pub block_fails : (again : List Head → Nested) (f : Stmts → Stmt) (hs : List Head) → part_read again closed_next hs ≡ None → one_block again f hs ≡ None
 block_fails again f hs e = ap (option_map (one_from f)) e
+
+-- a statement in its box
+
+pub made_if : (again : List Head → Nested) (nodes : List Node) (test : SeenExp) (xs ys : List SeenStmt) (s b : SeenStmt) (hs ks : List Head) → two_parts again hs ≡ Some ((stmts_of nodes xs, stmts_of nodes ys), ks) → IsIf test xs ys s → b ≡ s →
+    one_if again (exp_of nodes test) hs ≡ Some (Some (stmt_of nodes b), ks)
+made_if again nodes test xs ys s b hs ks e is same = if_gives again (exp_of nodes test) hs ks (stmts_of nodes xs) (stmts_of nodes ys) e ∙ ap (λ z. Some (Some z, ks)) (sym (ap (stmt_of nodes) same ∙ is.at nodes))
+
+made_block : (again : List Head → Nested) (nodes : List Node) (f : Stmts → Stmt) (xs : List SeenStmt) (s b : SeenStmt) (hs ks : List Head) → part_read again closed_next hs ≡ Some (stmts_of nodes xs, ks) → stmt_of nodes s ≡ f (stmts_of nodes xs) → b ≡ s →
+    one_block again f hs ≡ Some (Some (stmt_of nodes b), ks)
+made_block again nodes f xs s b hs ks e is same = block_gives again f hs ks (stmts_of nodes xs) e ∙ ap (λ z. Some (Some z, ks)) (sym (ap (stmt_of nodes) same ∙ is))
+
+pub made_switch : (again : List Head → Nested) (nodes : List Node) (value : SeenExp) (xs : List SeenStmt) (s b : SeenStmt) (hs ks : List Head) → part_read again closed_next hs ≡ Some (stmts_of nodes xs, ks) → IsSwitch value xs s → b ≡ s →
+    one_block again (Switch (exp_of nodes value)) hs ≡ Some (Some (stmt_of nodes b), ks)
+made_switch again nodes value xs s b hs ks e is same = made_block again nodes (Switch (exp_of nodes value)) xs s b hs ks e (is.at nodes) same
+
+pub made_loop : (again : List Head → Nested) (nodes : List Node) (xs : List SeenStmt) (s b : SeenStmt) (hs ks : List Head) → part_read again closed_next hs ≡ Some (stmts_of nodes xs, ks) → IsLoop xs s → b ≡ s → one_block again Loop hs ≡ Some (Some (stmt_of nodes b), ks)
+made_loop again nodes xs s b hs ks e is same = made_block again nodes Loop xs s b hs ks e (is.at nodes) same
+
+pub made_inner : (again : List Head → Nested) (nodes : List Node) (xs : List SeenStmt) (s b : SeenStmt) (hs ks : List Head) → part_read again closed_next hs ≡ Some (stmts_of nodes xs, ks) → IsBlock xs s → b ≡ s → one_block again Block hs ≡ Some (Some (stmt_of nodes b), ks)
+made_inner again nodes xs s b hs ks e is same = made_block again nodes Block xs s b hs ks e (is.at nodes) same
 
 -- statements in order
 

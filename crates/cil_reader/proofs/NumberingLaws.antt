@@ -1,7 +1,7 @@
 -- Device: the place of a text among those of a set is the place at which it stands first.
-use Rattle.std.proofs.Common.{◌≡◌, ℕ, zero, suc, ◌<◌, ◌||◌, nat_lt, Bool, true, false, cond, List, [], ◌∷◌, ◌++◌, is_some, length, Option, Some, None, refl, sym, ap, ◌∙◌, map, arith, ◌+◌, lt-ltb}
+use Rattle.std.proofs.Common.{◌≡◌, ℕ, suc, ◌||◌, nat_lt, Bool, true, false, cond, List, [], ◌∷◌, ◌++◌, is_some, length, Option, Some, None, refl, sym, ap, ◌∙◌, map, arith, ◌+◌, lt-ltb}
 use Rattle.std.specs.Option.{option_map}
-use Rattle.std.specs.List.{list_any, position, position_or_len}
+use Rattle.std.specs.List.{list_any, position}
 use Rattle.std.specs.Str.{bytes_eq}
 use Rattle.std.proofs.lemmas.Bool.Decides.{nat_tests}
 use Rattle.std.proofs.lemmas.List.Recursion.{is_position_or_len}

@@ -1,16 +1,18 @@
 -- Device: steps of the readings of expressions.
-use Rattle.std.proofs.Common.{◌≡◌, ◌≢◌, ℕ, zero, suc, ◌-◌, Bool, true, false, cond, List, [], ◌∷◌, Option, Some, None, refl, sym, ap, ◌∙◌, arith}
+use Rattle.std.proofs.Common.{◌≡◌, ◌≢◌, ℕ, zero, suc, ◌-◌, ◌<◌, true, false, cond, List, ◌∷◌, Option, Some, None, refl, sym, ap, ◌∙◌, arith}
 use Rattle.std.specs.Option.{option_map, option_and_then}
-use Rattle.cil_base.specs.declared.operators.BinOp.{BinOp}
-use Rattle.cil_base.specs.declared.operators.BinOp.TheVariants.{Mul}
 use Rattle.type_graph.specs.Shapes.{Shape}
-use Rattle.cil_tree.specs.Tree.{Exp, Bin, Cast, Host, Offsets, Here, Field, Index, Lval, Place, Local}
+use Rattle.cil_tree.specs.Tree.{Exp, Cast, Host, Offsets, Here, Field, Index, Lval, Place}
 use Rattle.cil_tree.specs.Typing.{element_of}
-use Rattle.cil_text.specs.Words.{Word, RightParen, RightBracket, LeftParen, LeftBracket, Dot, Operator, Name}
-use Rattle.cil_text.specs.ReadTypes.{Reading, Named, closed, read_decl}
-use Rattle.cil_text.specs.ReadExps.{Env, enclosed, in_brackets, is_offset, read_step, read_offsets, read_host, read_place, place_from, type_at_host, chosen, chosen_from, read_chosen, read_right, read_binary, read_cast, read_exp, exp_from, find_named, fields, type_of_named, field_first, index_first}
+use Rattle.cil_text.specs.Words.{Word, RightParen, RightBracket, LeftBracket, Dot, Name}
+use Rattle.cil_text.specs.ReadTypes.{Reading, Named, closed}
+use Rattle.cil_text.specs.ReadExps.{Env, enclosed, in_brackets, is_offset, read_step, read_offsets, read_host, read_place, place_from, type_at_host, chosen, chosen_from, read_chosen, read_right, read_binary, read_cast, read_exp, find_named, fields, type_of_named, field_first, index_first}
+use Rattle.cil_reader.specs.declared.stop.Stop.{Stop}
+use Rattle.cil_reader.specs.declared.stop.Stop.TheVariants.{NotCil, WantOfMemory}
+use Rattle.cil_reader.specs.Gives.{Fails}
 use Rattle.cil_reader.specs.Layers.{closing}
-use Rattle.cil_reader.specs.Parts.{joined, part_of, exp_within, bracketed, part_behind, Part, to_field, to_element, one_step}
+use Rattle.cil_nodes.specs.Built.{joined, part_of}
+use Rattle.cil_reader.specs.Parts.{exp_within, bracketed, part_behind, Part, to_field, to_element, one_step, offsets_left}
 
 -- parentheses
 
@@ -68,14 +70,6 @@ place_next env exp k ws vs h e = ap (option_and_then (λ (r : Host × List Word)
 pub place_fails : (env : Env) (exp : List Word → Reading Exp) (k : ℕ) (ws : List Word) → read_host env exp ws ≡ None → read_place env exp k ws ≡ None
 place_fails env exp k ws e = ap (option_and_then (λ (r : Host × List Word). option_map (place_from r.0) (read_offsets env exp k (type_at_host env r.0) r.1))) e
 
-pub offsets_none : (env : Env) (exp : List Word → Reading Exp) (k : ℕ) (l : Lval) (s : Option Shape) (ws : List Word) → k ≡ 0 → option_map (part_behind l) (read_offsets env exp k s ws) ≡ None
-offsets_none env exp zero l s ws e = refl
-offsets_none env exp (suc k) l s ws e = absurd (omega (arith, e))
-
-offsets_by : (env : Env) (exp : List Word → Reading Exp) (k : ℕ) (s : Option Shape) (ws : List Word) → k ≢ 0 → read_offsets env exp k s ws ≡ cond (is_offset ws) (read_step env exp (read_offsets env exp (k - 1)) s ws) (Some (Here, ws))
-offsets_by env exp zero s ws h = absurd (h refl)
-offsets_by env exp (suc k) s ws h = let e : suc k - 1 ≡ k = omega arith in ap (λ j. cond (is_offset ws) (read_step env exp (read_offsets env exp j) s ws) (Some (Here, ws))) (sym e)
-
 joined_here : (os : Offsets) → joined os Here ≡ os
 joined_here Here = refl
 joined_here (Field n os) = ap (Field n) (joined_here os)
@@ -91,10 +85,6 @@ part_here (Place h os) = ap (Place h) (joined_here os)
 
 part_twice : (l : Lval) (a b : Offsets) → part_of (part_of l a) b ≡ part_of l (joined a b)
 part_twice (Place h os) a b = ap (Place h) (joined_twice os a b)
-
-pub offsets_end : (env : Env) (exp : List Word → Reading Exp) (k : ℕ) (l : Lval) (s : Option Shape) (ws : List Word) → k ≢ 0 → is_offset ws ≡ false → option_map (part_behind l) (read_offsets env exp k s ws) ≡ Some (l, ws)
-offsets_end env exp k l s ws h e =
-    ap (option_map (part_behind l)) (offsets_by env exp k s ws h ∙ ap (λ v. cond v (read_step env exp (read_offsets env exp (k - 1)) s ws) (Some (Here, ws))) e) ∙ ap (λ m. Some (m, ws)) (part_here l)
 
 behind_more : (l : Lval) (os : Offsets) (f : Offsets × List Word → Offsets × List Word) (o : Reading Offsets) → ((r : Offsets × List Word) → f r ≡ (joined os r.0, r.1)) →
     option_map (part_behind l) (option_map f o) ≡ option_map (part_behind (part_of l os)) o
@@ -120,16 +110,41 @@ step_is env exp again l s (LeftBracket ∷ ws) = by (option_and_then (λ (r : Ex
 step_is env exp again l s (Dot ∷ _) = refl
 step_is env exp again l s _ = refl
 
-pub offsets_next : (env : Env) (exp : List Word → Reading Exp) (k : ℕ) (l m : Lval) (s t : Option Shape) (ws vs : List Word) → k ≢ 0 → is_offset ws ≡ true → one_step env exp l s ws ≡ Some ((m, t), vs) →
-    option_map (part_behind l) (read_offsets env exp k s ws) ≡ option_map (part_behind m) (read_offsets env exp (k - 1) t vs)
-offsets_next env exp k l m s t ws vs h e x =
-    ap (option_map (part_behind l)) (offsets_by env exp k s ws h ∙ ap (λ v. cond v (read_step env exp (read_offsets env exp (k - 1)) s ws) (Some (Here, ws))) e)
-    ∙ step_is env exp (read_offsets env exp (k - 1)) l s ws ∙ ap (option_and_then (step_on env (read_offsets env exp (k - 1)))) x
+-- the loop over offsets, of which k may be left
 
-pub offsets_fail : (env : Env) (exp : List Word → Reading Exp) (k : ℕ) (l : Lval) (s : Option Shape) (ws : List Word) → k ≢ 0 → is_offset ws ≡ true → one_step env exp l s ws ≡ None → option_map (part_behind l) (read_offsets env exp k s ws) ≡ None
-offsets_fail env exp k l s ws h e x =
-    ap (option_map (part_behind l)) (offsets_by env exp k s ws h ∙ ap (λ v. cond v (read_step env exp (read_offsets env exp (k - 1)) s ws) (Some (Here, ws))) e)
-    ∙ step_is env exp (read_offsets env exp (k - 1)) l s ws ∙ ap (option_and_then (step_on env (read_offsets env exp (k - 1)))) x
+one_less : (k : ℕ) → 0 < k → k ≡ suc (k - 1)
+one_less k h = omega (arith, h)
+
+pub offsets_end : (env : Env) (exp : List Word → Reading Exp) (k : ℕ) (l : Lval) (s : Option Shape) (ws : List Word) (whole : Reading Lval) → 0 < k → is_offset ws ≡ false → offsets_left env exp k l s ws ≡ whole → whole ≡ Some (l, ws)
+offsets_end env exp k l s ws whole some e inv =
+    sym inv
+    ∙ ap (λ j. offsets_left env exp j l s ws) (one_less k some)
+    ∙ ap (λ v. option_map (part_behind l) (cond v (read_step env exp (read_offsets env exp (k - 1)) s ws) (Some (Here, ws)))) e
+    ∙ ap (λ y. Some (y, ws)) (part_here l)
+
+offsets_by : (env now : Env) (n k : ℕ) (l : Lval) (s : Option Shape) (ws : List Word) → 0 < k → is_offset ws ≡ true → now ≡ env →
+    offsets_left env (read_exp env n) k l s ws ≡ option_and_then (step_on env (read_offsets env (read_exp env n) (k - 1))) (one_step now (read_exp now n) l s ws)
+offsets_by env now n k l s ws some e same =
+    let exp = read_exp env n in
+    let again = read_offsets env exp (k - 1) in
+    ap (λ j. offsets_left env exp j l s ws) (one_less k some)
+    ∙ ap (λ v. option_map (part_behind l) (cond v (read_step env exp again s ws) (Some (Here, ws)))) e
+    ∙ step_is env exp again l s ws
+    ∙ ap (λ (v : Env). option_and_then (step_on env again) (one_step v (read_exp v n) l s ws)) (sym same)
+
+pub offsets_next : (env now : Env) (n k : ℕ) (l p : Lval) (s t : Option Shape) (ws vs : List Word) (whole : Reading Lval) → 0 < k → is_offset ws ≡ true → now ≡ env → one_step now (read_exp now n) l s ws ≡ Some ((p, t), vs) →
+    offsets_left env (read_exp env n) k l s ws ≡ whole → offsets_left env (read_exp env n) (k - 1) p t vs ≡ whole
+offsets_next env now n k l p s t ws vs whole some e same x inv =
+    sym (offsets_by env now n k l s ws some e same ∙ ap (option_and_then (step_on env (read_offsets env (read_exp env n) (k - 1)))) x) ∙ inv
+
+pub offsets_stop : (env now : Env) (n k : ℕ) (l : Lval) (s : Option Shape) (ws : List Word) (whole : Reading Lval) (x : Stop) → 0 < k → is_offset ws ≡ true → now ≡ env → Fails x (one_step now (read_exp now n) l s ws) →
+    offsets_left env (read_exp env n) k l s ws ≡ whole → Fails x whole
+offsets_stop env now n k l s ws whole NotCil some e same none inv =
+    sym inv ∙ offsets_by env now n k l s ws some e same ∙ ap (option_and_then (step_on env (read_offsets env (read_exp env n) (k - 1)))) none
+offsets_stop env now n k l s ws whole WantOfMemory some e same none inv = tt
+
+pub offsets_over : (env : Env) (exp : List Word → Reading Exp) (k : ℕ) (l : Lval) (s : Option Shape) (ws : List Word) (whole : Reading Lval) → k ≡ 0 → offsets_left env exp k l s ws ≡ whole → whole ≡ None
+offsets_over env exp k l s ws whole e inv = sym inv ∙ ap (λ j. offsets_left env exp j l s ws) e
 
 -- elements
 

@@ -1,6 +1,6 @@
 -- Device: what is known of a part that was made of others, and of a part when the graph has grown.
-use Rattle.std.proofs.Common.{◌≡◌, ℕ, zero, suc, ◌<◌, ◌≤◌, nat_lt, Bool, true, false, cond, List, [], ◌∷◌, ◌++◌, Option, Some, None, refl, sym, ap, ◌∙◌, subst, length, arith, lt-ltb}
-use Rattle.std.specs.Option.{option_map, option_and_then}
+use Rattle.std.proofs.Common.{◌≡◌, ℕ, ◌<◌, true, false, cond, List, [], Option, Some, None, refl, sym, ap, ◌∙◌, subst, length, arith, lt-ltb}
+use Rattle.std.specs.Option.{option_and_then}
 use Rattle.cil_base.specs.declared.numbers.TypeId.{TypeId}
 use Rattle.cil_base.specs.declared.kinds.IntKind.{IntKind}
 use Rattle.cil_base.specs.declared.operators.BinOp.{BinOp}
@@ -11,56 +11,28 @@ use Rattle.type_graph.specs.Growth.{Grows}
 use Rattle.type_graph.specs.Shapes.{Shape, shape}
 use Rattle.type_graph.proofs.ShapeLaws.{kept}
 use Rattle.type_graph.proofs.GrowthLaws.{grows_twice}
-use Rattle.cil_tree.specs.declared.expressions.Exp.{Exp as SeenExp, Const as SeenConst}
-use Rattle.cil_tree.specs.declared.expressions.Exp.TheViews as exps
+use Rattle.cil_tree.specs.declared.expressions.Exp.{Exp as SeenExp}
 use Rattle.cil_tree.specs.declared.expressions.Host.{Host as SeenHost}
-use Rattle.cil_tree.specs.declared.expressions.Offset.{Offset as SeenOffset, Field as SeenField, Index'}
 use Rattle.cil_tree.specs.declared.expressions.Lval.{Lval as SeenLval}
-use Rattle.cil_tree.specs.Tree.{Exp, Const, Value, Un, Bin, Cast, AddrOf, StartOf, Host, At, Offsets, Here, Field, Index, Lval, Place}
+use Rattle.cil_tree.specs.Tree.{Const, Value, Un, Bin, Cast, AddrOf, StartOf, At, Offsets, Here, Field, Index, Lval, Place}
 use Rattle.cil_tree.specs.Typing.{pointed, element_of}
 use Rattle.cil_tree.specs.View.{exp_of, host_of, lval_of, offsets_of, type_at}
-use Rattle.cil_tree.proofs.Views.{at_value, at_address, at_start}
 use Rattle.cil_text.specs.ReadExps.{Env, pointee, type_at_host, type_at_place, type_at_part, moved_pointee, fields, type_of_named, chosen, is_array_type}
 use Rattle.cil_reader.specs.Settings.{type_in, TypeBelow}
-use Rattle.cil_reader.specs.Parts.{ExpKnown, HostKnown, PlaceKnown, IsUn, IsBin, IsCast, IsValue, IsStart, IsAddress, IsAt, IsField, IsElement, IsMoved, joined, part_of}
+use Rattle.cil_nodes.specs.Built.{IsConst, IsUn, IsBin, IsCast, IsValue, IsStart, IsAddress, IsAt, IsField, IsElement, joined, part_of}
+use Rattle.cil_reader.specs.Parts.{ExpKnown, HostKnown, PlaceKnown, IsMoved}
 use Rattle.cil_reader.proofs.LayersLaws.{no_fewer}
-
--- trees
-
-pub value_is : (l : SeenLval) → IsValue l (exps.Lval l)
-value_is l = record { at = λ nodes. at_value nodes (exps.Lval l) l refl }
-
-pub start_is : (l : SeenLval) → IsStart l (exps.StartOf l)
-start_is l = record { at = λ nodes. at_start nodes (exps.StartOf l) l refl }
-
-pub address_is : (l : SeenLval) → IsAddress l (exps.AddrOf l)
-address_is l = record { at = λ nodes. at_address nodes (exps.AddrOf l) l refl }
-
-offsets_more : (nodes : List Node) (xs ys : List SeenOffset) → offsets_of nodes (xs ++ ys) ≡ joined (offsets_of nodes xs) (offsets_of nodes ys)
-offsets_more nodes [] ys = refl
-offsets_more nodes (SeenField n ∷ xs) ys = ap (Field n) (offsets_more nodes xs ys)
-offsets_more nodes (Index' p e ∷ xs) ys = ap (Index (exp_of nodes e)) (offsets_more nodes xs ys)
-
-pub field_is : (l m : SeenLval) (n : ℕ) → m.host ≡ l.host → m.offsets.items ≡ l.offsets.items ++ SeenField n ∷ [] → IsField l n m
-field_is l m n h o = record {
-  at = λ nodes.
-      ap (λ x. Place (host_of nodes x) (offsets_of nodes m.offsets.items)) h
-      ∙ ap (λ xs. Place (host_of nodes l.host) (offsets_of nodes xs)) o
-      ∙ ap (Place (host_of nodes l.host)) (offsets_more nodes l.offsets.items (SeenField n ∷ []));
-}
-
-pub element_is : (l m : SeenLval) (e : SeenExp) (x : SeenOffset) → ((nodes : List Node) → offsets_of nodes (x ∷ []) ≡ Index (exp_of nodes e) Here) → m.host ≡ l.host → m.offsets.items ≡ l.offsets.items ++ x ∷ [] → IsElement l e m
-element_is l m e x i h o = record {
-  at = λ nodes.
-      ap (λ y. Place (host_of nodes y) (offsets_of nodes m.offsets.items)) h
-      ∙ ap (λ xs. Place (host_of nodes l.host) (offsets_of nodes xs)) o
-      ∙ ap (Place (host_of nodes l.host)) (offsets_more nodes l.offsets.items (x ∷ []) ∙ ap (joined (offsets_of nodes l.offsets.items)) (i nodes));
-}
 
 -- parts
 
-pub known_const : (g : Graph) (env : Env) (kind : IntKind) (n : ℕ) → ExpKnown g env (SeenConst kind n) None
-known_const g env kind n = record { steady = λ h e. refl; typed = refl; below = tt }
+pub known_const : (g : Graph) (env : Env) (kind : IntKind) (n : ℕ) (e : SeenExp) → IsConst kind n e → ExpKnown g env e None
+known_const g env kind n e is = record { steady = λ h r. is.at h.nodes ∙ sym (is.at g.nodes); typed = sym (ap (pointee env) (is.at g.nodes)); below = tt }
+
+pub const_tree : (nodes : List Node) (kind : IntKind) (n : ℕ) (e : SeenExp) → IsConst kind n e → exp_of nodes e ≡ Const kind n
+const_tree nodes kind n e is = is.at nodes
+
+pub base_tree : (nodes : List Node) (l : SeenLval) (x : SeenHost) → l.host ≡ x → l.offsets.items ≡ [] → lval_of nodes l ≡ Place (host_of nodes x) Here
+base_tree nodes l x h o = ap (λ y. Place (host_of nodes y) (offsets_of nodes l.offsets.items)) h ∙ ap (λ xs. Place (host_of nodes x) (offsets_of nodes xs)) o
 
 pub known_un : (g : Graph) (env : Env) (op : UnOp) (x e : SeenExp) (t : Option TypeId) → IsUn op x e → ExpKnown g env x t → ExpKnown g env e None
 known_un g env op x e t is k = record {

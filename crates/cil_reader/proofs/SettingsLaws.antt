@@ -9,8 +9,6 @@ use Rattle.type_graph.proofs.ShapeLaws.{kept}
 use Rattle.cil_tree.specs.Tree.{Local}
 use Rattle.std.specs.Prelude.{IfSome}
 use Rattle.std.specs.Option.{option_map}
-use Rattle.cil_base.specs.declared.numbers.LocalId.{LocalId}
-use Rattle.cil_base.specs.declared.numbers.EntityId.{EntityId}
 use Rattle.type_graph.specs.Shapes.{AggType}
 use Rattle.cil_tree.specs.Names.{local_name_of}
 use Rattle.cil_tree.specs.Tree.{Global, Var}

@@ -1,8 +1,8 @@
 -- Device: the tables by the lengths of tokens are those of the reading.
-use Rattle.std.proofs.Common.{◌≡◌, ℕ, ◌&&◌, Bool, true, false, cond, List, [], ◌∷◌, Option, Some, None, refl, sym}
-use Rattle.std.proofs.Math.Bool.{and-true, and-false, or-false}
-use Rattle.cil_text.specs.Words.{Word, signs, reserved, look_up, word_of, first_of, free_word}
-use Rattle.cil_reader.specs.Spelled.{sign_1, sign_2, sign_3, word_2, word_3, word_4, word_5, words_6, word_7, word_8, sign_of, reserved_of}
+use Rattle.std.proofs.Common.{◌≡◌, ℕ, List, [], ◌∷◌, refl}
+use Rattle.std.proofs.Math.Bool.{and-true, and-false}
+use Rattle.cil_text.specs.Words.{signs, reserved, look_up, word_of, first_of, free_word}
+use Rattle.cil_reader.specs.Spelled.{sign_1, sign_2, sign_3, word_2, word_3, word_4, word_5, word_7, word_8, sign_of, reserved_of}
 
 pub sign_is : (token : List ℕ) → look_up signs token ≡ sign_of token
 unfolding sign_1 sign_2 sign_3

@@ -5,6 +5,7 @@ use Rattle.cil_base.specs.declared.kinds.IntKind.{IntKind}
 use Rattle.type_graph.specs.declared.nodes.Node.{Node}
 use Rattle.type_graph.specs.Arena.{Graph}
 use Rattle.type_graph.specs.Growth.{Grows}
+use Rattle.cil_tree.specs.declared.statements.Stmt.{Stmt as SeenStmt}
 use Rattle.cil_tree.specs.Tree.{Exp, Stmt, Default, Goto, Break}
 use Rattle.cil_tree.specs.View.{exp_of, stmt_of}
 use Rattle.cil_text.specs.Words.{Word, LeftParen, RightParen, LeftBrace, ElseWord, Colon, Semicolon, IfWord, SwitchWord, WhileWord, RightBrace, CaseWord, DefaultWord, GotoWord, BreakWord, ReturnWord}
@@ -19,13 +20,17 @@ abbrev pub below_zero : IntKind → ℕ → List Word → Numbered × List Word
 below_zero kind n ws = if is_minus ws then ((kind, negsuc n), skip_one (skip_one ws)) else ((kind, negated n), ws)
 
 abbrev pub head_of : List Node → SeenHead → Head
-head_of nodes (seen.Whole s) = Whole (stmt_of nodes s)
-head_of nodes (seen.Tested e) = Tested (exp_of nodes e)
-head_of nodes (seen.Turned e) = Turned (exp_of nodes e)
+head_of nodes (seen.Whole s) = Whole (stmt_of nodes s.value)
+head_of nodes (seen.Tested e) = Tested (exp_of nodes e.value)
+head_of nodes (seen.Turned e) = Turned (exp_of nodes e.value)
 head_of nodes seen.Looped = Looped
 head_of nodes seen.Opened = Opened
 head_of nodes seen.Otherwise = Otherwise
 head_of nodes seen.Closed = Closed
+
+-- a statement that is seen as one in each graph that this one grows to
+pub record StmtKnown (g : Graph) (x : SeenStmt) : Type 0 where
+  pub steady : (h : Graph) → Grows g h → stmt_of h.nodes x ≡ stmt_of g.nodes x
 
 -- a line that is seen as one head in each graph that this one grows to
 pub record HeadKnown (g : Graph) (x : SeenHead) : Type 0 where

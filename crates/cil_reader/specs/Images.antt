@@ -5,17 +5,20 @@ use denote.Ref.{Bor}
 use Rattle.cil_base.specs.declared.constants.Constant.{Constant}
 use Rattle.cil_base.specs.declared.kinds.IntKind.TheVariants.{Int as int, Long}
 use Rattle.cil_base.specs.Arithmetic.{fits}
+use Rattle.type_graph.specs.declared.nodes.Node.{Node}
 use Rattle.type_graph.specs.Shapes.{Shape, IntType, AggType, PtrType}
 use Rattle.cil_tree.specs.Tree.{Step, ToField, ToIndex, Item}
 use Rattle.cil_tree.specs.Typing.{element_of}
-use Rattle.cil_tree.specs.View.{item_of}
+use Rattle.cil_tree.specs.View.{item_of, step_of}
 use Rattle.cil_text.specs.Words.{Word, LeftBracket, RightBracket, RightBrace, Dot, Comma, Assign, Number, Name}
 use Rattle.cil_text.specs.ReadTypes.{Reading, Named, read_decl}
 use Rattle.cil_text.specs.ReadExps.{Env, find_named, type_of_named, fields, enclosed}
-use Rattle.cil_text.specs.ReadImages.{Path, converted_to}
+use Rattle.cil_text.specs.ReadImages.{Path, read_path, converted_to}
 use Rattle.cil_reader.specs.declared.words.Word.{Word as Seen}
 use Rattle.cil_reader.specs.Said.{all_said}
 use Rattle.cil_reader.specs.declared.images.Items.{Items}
+use Rattle.cil_reader.specs.declared.images.Path.{Path as SeenPath}
+use Rattle.cil_reader.specs.Settings.{type_in}
 use Rattle.cil_reader.specs.declared.reader.Scalar.{Scalar}
 use Rattle.cil_reader.specs.declared.reader.Scalar.TheVariants.{Int, Pointer, Other}
 
@@ -38,6 +41,28 @@ path_step env s _ = None
 -- what a path goes on with behind steps
 abbrev pub path_behind : List Step → Path × List Word → Path × List Word
 path_behind xs r = ((xs ++ r.0.0, r.0.1), r.1)
+
+-- steps and one more, or the same steps where `=` stands behind them: whether it does, the path, and the words behind
+abbrev pub PathRead : Type 0
+PathRead = Bool × (Path × List Word)
+
+abbrev pub path_moved : List Step → Stepped × List Word → PathRead
+path_moved xs r = (false, ((xs ++ r.0.0 ∷ [], r.0.1), r.1))
+
+abbrev pub path_by : List Step → Option Shape → Option (List Word) → Reading Stepped → Option PathRead
+path_by xs s (Some ws) o = Some (true, ((xs, s), ws))
+path_by xs s None o = option_map (path_moved xs) o
+
+abbrev pub path_more : Env → List Step → Option Shape → List Word → Option PathRead
+path_more env xs s ws = path_by xs s (assigned ws) (path_step env s ws)
+
+abbrev pub path_of : List Node → SeenPath → PathRead
+path_of nodes x = (x.ended, ((map step_of x.steps.items, type_in nodes x.ty), all_said x.rest.now))
+
+-- a path behind steps, of which so many may be left, where `=` was read or not
+abbrev pub path_left : Env → ℕ → Bool → List Step → Option Shape → List Word → Reading Path
+path_left env k true xs s ws = Some ((xs, s), ws)
+path_left env k false xs s ws = option_map (path_behind xs) (read_path env k s ws)
 
 -- what a place is that may have a value of its own
 abbrev pub scalar_of : Shape → Scalar

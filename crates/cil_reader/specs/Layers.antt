@@ -1,18 +1,19 @@
 -- Device: the marks and layers of a declarator as the code has them, and the readings of its parts by the code's steps.
-use Rattle.std.specs.Prelude.{◌≡◌, ℕ, Bool, true, false, if◌then◌else◌, List, [], ◌∷◌, ◌++◌, Option, Some, None, map, reverse}
+use Rattle.std.specs.Prelude.{ℕ, Bool, true, false, if◌then◌else◌, List, [], ◌∷◌, Option, Some, None, map, reverse}
 use Rattle.std.specs.Option.{option_map, option_and_then}
 use Rattle.cil_base.specs.declared.operators.BinOp.TheVariants.{Mul}
-use Rattle.cil_base.specs.declared.numbers.TypeId.{TypeId}
 use Rattle.type_graph.specs.Arena.{EachType}
 use Rattle.type_graph.specs.declared.nodes.Node.{Node}
 use Rattle.type_graph.specs.Shapes.{Shape, Shapes, NoTypes, MoreTypes, shape, shapes_of}
 use Rattle.cil_text.specs.Words.{Word, LeftParen, Operator, RightParen, Comma, VoidWord}
-use Rattle.cil_text.specs.ReadTypes.{Reading, Mark, Points, Group, Layer, Pointer, Elements, Called, Listed, listed_first, built, is_ellipsis, is_star, closed, skip_one, read_decl, without_name, Named}
+use Rattle.cil_text.specs.ReadTypes.{Reading, Mark, Points, Group, Layer, Elements, Called, Listed, built, is_ellipsis, is_star, closed, skip_one, read_decl, without_name, Named}
 use Rattle.cil_reader.specs.declared.declarators.Mark.{Mark as SeenMark}
 use Rattle.cil_reader.specs.declared.declarators.Mark.TheVariants as mark
 use Rattle.cil_reader.specs.declared.declarators.Suffix.{Suffix}
 use Rattle.cil_reader.specs.declared.declarators.Suffix.TheVariants as suffix
 use Rattle.cil_reader.specs.declared.declarators.Named.{Named as SeenNamed}
+use Rattle.cil_reader.specs.Said.{all_said}
+use Rattle.cil_reader.specs.declared.declarators.Params.{Params}
 use Rattle.cil_reader.specs.declared.declarators.Follows.{Follows}
 use Rattle.cil_reader.specs.declared.declarators.Follows.TheVariants.{End, Variadic, Another}
 
@@ -78,9 +79,27 @@ more_behind before again (Some (Another, ws)) = option_map (listed_behind before
 abbrev pub named_of : List Node → SeenNamed → Named
 named_of nodes n = (shape nodes n.ty.0, option_map (λ t. t.now) n.name)
 
--- a parameter behind others
-abbrev pub param_behind : Shapes → Shape × List Word → Shapes × List Word
-param_behind before r = (joined before (MoreTypes r.0 NoTypes), r.1)
+-- whether another parameter follows
+abbrev pub is_another : Follows → Bool
+is_another End = false
+is_another Variadic = false
+is_another Another = true
+
+-- a parameter behind others, what follows it, and the words behind that
+abbrev pub ParamRead : Type 0
+ParamRead = Follows × (Shapes × List Word)
+
+abbrev pub behind_those : Shapes → Follows × List Word → ParamRead
+behind_those ss r = (r.0, (ss, r.1))
+
+abbrev pub param_end : Shapes → Shape × List Word → Option ParamRead
+param_end before r = option_map (behind_those (joined before (MoreTypes r.0 NoTypes))) (behind_parameter r.1)
+
+abbrev pub param_more : Shapes → Reading Shape → Option ParamRead
+param_more before o = option_and_then (param_end before) o
+
+abbrev pub params_of : List Node → Params → ParamRead
+params_of nodes x = (x.follows, (shapes_of (shape nodes) x.types.items, all_said x.rest.now))
 
 -- behind `)`, and behind `void )`
 abbrev pub closing : List Word → Option (List Word)

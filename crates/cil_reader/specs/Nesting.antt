@@ -1,17 +1,15 @@
 -- Device: how the lines of a function nest, by the code's steps: the line that stands next is the last one of the code's list.
-use Rattle.std.specs.Prelude.{◌≡◌, List, [], ◌∷◌, Option, Some, None, map, reverse, Result, Ok, Err, Vec}
+use Rattle.std.specs.Prelude.{◌≡◌, List, [], ◌∷◌, Option, Some, None, map, reverse, Box}
 use Rattle.std.specs.Global.{Global}
 use Rattle.std.specs.Option.{option_map, option_and_then}
 use Rattle.type_graph.specs.declared.nodes.Node.{Node}
 use Rattle.type_graph.specs.Arena.{Graph}
 use Rattle.type_graph.specs.Growth.{Grows}
-use Rattle.cil_tree.specs.declared.expressions.Exp.{Exp as SeenExp}
 use Rattle.cil_tree.specs.declared.statements.Stmt.{Stmt as SeenStmt}
-use Rattle.cil_tree.specs.View.{exp_of, stmt_of, stmts_of}
+use Rattle.cil_tree.specs.View.{stmt_of, stmts_of}
 use Rattle.cil_tree.specs.Tree.{Exp, Stmt, If, Switch, Loop, Block, Stmts, Done, Seq}
 use Rattle.cil_text.specs.ReadStmts.{Head, Whole, Tested, Turned, Looped, Opened, Otherwise, Closed, Nested}
 use Rattle.cil_reader.specs.declared.heads.Head.{Head as SeenHead}
-use Rattle.cil_reader.specs.declared.stop.Stop.{Stop}
 use Rattle.cil_reader.specs.Heads.{head_of, HeadsKnown}
 
 abbrev pub waiting : List Node → List SeenHead → List Head
@@ -76,31 +74,9 @@ joined (Seq s ss) more = Seq s (joined ss more)
 abbrev pub read_behind : Stmts → Stmts × List Head → Stmts × List Head
 read_behind ss r = (joined ss r.0, r.1)
 
--- a statement that was made of its parts, or what stopped these
-abbrev pub Stmts' : Type 0
-Stmts' = Vec SeenStmt Global
-
-abbrev pub IsIf : List Node → SeenExp → Result (Stmts' × Stmts') Stop → Result (Option SeenStmt) Stop → Type 0
-IsIf nodes test (Ok x) (Ok (Some s)) = stmt_of nodes s ≡ If (exp_of nodes test) (stmts_of nodes x.0.items) (stmts_of nodes x.1.items)
-IsIf nodes test (Err e) (Err f) = f ≡ e
-IsIf nodes test _ _ = ⊥
-
-abbrev pub IsMade : List Node → (Stmts → Stmt) → Result Stmts' Stop → Result (Option SeenStmt) Stop → Type 0
-IsMade nodes f (Ok x) (Ok (Some s)) = stmt_of nodes s ≡ f (stmts_of nodes x.items)
-IsMade nodes f (Err e) (Err g) = g ≡ e
-IsMade nodes f _ _ = ⊥
-
-pub record IfMade (test : SeenExp) (parts : Result (Stmts' × Stmts') Stop) (r : Result (Option SeenStmt) Stop) : Type 0 where
-  pub at : (nodes : List Node) → IsIf nodes test parts r
-
-pub record BlockMade (f : List Node → Stmts → Stmt) (block : Result Stmts' Stop) (r : Result (Option SeenStmt) Stop) : Type 0 where
-  pub at : (nodes : List Node) → IsMade nodes (f nodes) block r
-
-abbrev pub switch_on : SeenExp → List Node → Stmts → Stmt
-switch_on value nodes = Switch (exp_of nodes value)
-
-abbrev pub always : (Stmts → Stmt) → List Node → Stmts → Stmt
-always f nodes = f
+-- a statement in its box, if there is one
+abbrev pub maybe_seen : List Node → Option (Box SeenStmt Global) → Option Stmt
+maybe_seen nodes o = option_map (λ (b : Box SeenStmt Global). stmt_of nodes b.value) o
 
 -- statements that are seen as the same in each graph that this one grows to
 pub record StmtsKnown (g : Graph) (ss : List SeenStmt) : Type 0 where
@@ -110,6 +86,6 @@ pub record StmtsKnown (g : Graph) (ss : List SeenStmt) : Type 0 where
 pub record Carries (g : Graph) (old new : List SeenHead) (ss : List SeenStmt) : Type 0 where
   pub on : HeadsKnown g old → HeadsKnown g new × StmtsKnown g ss
 
-abbrev pub CarriesOne : Graph → List SeenHead → List SeenHead → Option SeenStmt → Type 0
+abbrev pub CarriesOne : Graph → List SeenHead → List SeenHead → Option (Box SeenStmt Global) → Type 0
 CarriesOne g old new None = Carries g old new []
-CarriesOne g old new (Some s) = Carries g old new (s ∷ [])
+CarriesOne g old new (Some s) = Carries g old new (s.value ∷ [])

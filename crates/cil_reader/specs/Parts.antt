@@ -1,10 +1,9 @@
 -- Device: parts of expressions as the code has them: each is seen as one tree in the graph and in each graph that this one grows to.
-use Rattle.std.specs.Prelude.{◌≡◌, ℕ, Bool, true, false, if◌then◌else◌, List, [], ◌∷◌, Option, Some, None, length}
+use Rattle.std.specs.Prelude.{◌≡◌, ℕ, List, ◌∷◌, Option, Some, None, length}
 use Rattle.std.specs.Option.{option_map, option_and_then}
 use Rattle.cil_base.specs.declared.kinds.IntKind.{IntKind}
 use Rattle.cil_base.specs.declared.numbers.TypeId.{TypeId}
 use Rattle.cil_base.specs.declared.operators.BinOp.{BinOp}
-use Rattle.cil_base.specs.declared.operators.UnOp.{UnOp}
 use Rattle.type_graph.specs.declared.nodes.Node.{Node}
 use Rattle.type_graph.specs.Arena.{Graph}
 use Rattle.type_graph.specs.Growth.{Grows}
@@ -12,12 +11,15 @@ use Rattle.type_graph.specs.Shapes.{Shape}
 use Rattle.cil_tree.specs.declared.expressions.Exp.{Exp as SeenExp}
 use Rattle.cil_tree.specs.declared.expressions.Host.{Host as SeenHost}
 use Rattle.cil_tree.specs.declared.expressions.Lval.{Lval as SeenLval}
-use Rattle.cil_tree.specs.Tree.{Local, Exp, Const, Value, Un, Bin, Cast, AddrOf, StartOf, Host, Global, Var, At, Offsets, Here, Field, Index, Lval, Place}
+use Rattle.cil_tree.specs.Tree.{Local, Exp, Const, Host, Offsets, Here, Field, Index, Lval}
 use Rattle.cil_tree.specs.Typing.{element_of}
-use Rattle.cil_tree.specs.View.{exp_of, host_of, lval_of, type_at}
-use Rattle.cil_text.specs.Words.{Word, RightParen, RightBracket, LeftBracket, Dot, Name}
+use Rattle.cil_tree.specs.View.{exp_of, host_of, lval_of}
+use Rattle.cil_nodes.specs.Built.{part_of}
+use Rattle.cil_text.specs.Words.{Word, RightBracket, LeftBracket, Dot, Name}
 use Rattle.cil_text.specs.ReadTypes.{Reading, read_decl}
-use Rattle.cil_text.specs.ReadExps.{Env, pointee, moved_pointee, type_at_host, type_at_place, find_named, fields, type_of_named, in_brackets, exp_from, read_exp, Form, Negated, Complemented, Denied, Addressed, Pointed, Converted, Combined}
+use Rattle.cil_text.specs.ReadExps.{Env, pointee, moved_pointee, type_at_host, type_at_place, find_named, fields, type_of_named, in_brackets, exp_from, read_exp, read_offsets, Form, Negated, Complemented, Denied, Addressed, Pointed, Converted, Combined}
+use Rattle.cil_reader.specs.declared.operands.Walk.{Walk}
+use Rattle.cil_reader.specs.Said.{all_said}
 use Rattle.cil_reader.specs.declared.parts.Form.{Form as SeenForm}
 use Rattle.cil_reader.specs.declared.parts.Form.TheVariants as form
 use Rattle.cil_reader.specs.Settings.{type_in, TypeBelow}
@@ -40,47 +42,10 @@ pub record PlaceKnown (g : Graph) (env : Env) (l : SeenLval) (t : Option TypeId)
   pub typed : type_in g.nodes t ≡ type_at_place env (lval_of g.nodes l)
   pub below : TypeBelow (length g.nodes) t
 
--- the tree of a part that was made of others
-pub record IsUn (op : UnOp) (x e : SeenExp) : Type 0 where
-  pub at : (nodes : List Node) → exp_of nodes e ≡ Un op (exp_of nodes x)
-
-pub record IsBin (op : BinOp) (x y e : SeenExp) : Type 0 where
-  pub at : (nodes : List Node) → exp_of nodes e ≡ Bin op (exp_of nodes x) (exp_of nodes y)
-
-pub record IsCast (t : TypeId) (x e : SeenExp) : Type 0 where
-  pub at : (nodes : List Node) → exp_of nodes e ≡ Cast (type_at nodes t) (exp_of nodes x)
-
-pub record IsValue (l : SeenLval) (e : SeenExp) : Type 0 where
-  pub at : (nodes : List Node) → exp_of nodes e ≡ Value (lval_of nodes l)
-
-pub record IsStart (l : SeenLval) (e : SeenExp) : Type 0 where
-  pub at : (nodes : List Node) → exp_of nodes e ≡ StartOf (lval_of nodes l)
-
-pub record IsAddress (l : SeenLval) (e : SeenExp) : Type 0 where
-  pub at : (nodes : List Node) → exp_of nodes e ≡ AddrOf (lval_of nodes l)
-
-pub record IsAt (e : SeenExp) (x : SeenHost) : Type 0 where
-  pub at : (nodes : List Node) → host_of nodes x ≡ At (exp_of nodes e)
-
 -- what a sum or a difference points to
 pub record IsMoved (op : BinOp) (s t u : Option TypeId) : Type 0 where
   pub at : (nodes : List Node) → type_in nodes u ≡ moved_pointee op (type_in nodes s) (type_in nodes t)
   pub below : (n : ℕ) → TypeBelow n s → TypeBelow n t → TypeBelow n u
-
--- offsets behind others
-abbrev pub joined : Offsets → Offsets → Offsets
-joined Here more = more
-joined (Field n os) more = Field n (joined os more)
-joined (Index e os) more = Index e (joined os more)
-
-abbrev pub part_of : Lval → Offsets → Lval
-part_of (Place host os) more = Place host (joined os more)
-
-pub record IsField (l : SeenLval) (n : ℕ) (m : SeenLval) : Type 0 where
-  pub at : (nodes : List Node) → lval_of nodes m ≡ part_of (lval_of nodes l) (Field n Here)
-
-pub record IsElement (l : SeenLval) (e : SeenExp) (m : SeenLval) : Type 0 where
-  pub at : (nodes : List Node) → lval_of nodes m ≡ part_of (lval_of nodes l) (Index (exp_of nodes e) Here)
 
 -- readings by the code's steps
 
@@ -92,6 +57,14 @@ form_said form.Addressed = Addressed
 form_said form.Pointed = Pointed
 form_said form.Converted = Converted
 form_said form.Combined = Combined
+
+-- a constant, and what stands behind it
+abbrev pub constant_read : IntKind → ℕ → List Word → Reading Exp
+constant_read kind n ws = Some (Const kind n, ws)
+
+-- what a name means, and what stands behind it
+abbrev pub host_read : List Word → Option Host → Reading Host
+host_read ws o = option_map (λ (h : Host). (h, ws)) o
 
 -- an expression within which others are read with so many steps
 abbrev pub exp_within : Env → ℕ → List Word → Reading Exp
@@ -105,9 +78,16 @@ bracketed _ = None
 abbrev pub part_behind : Lval → Offsets × List Word → Lval × List Word
 part_behind l r = (part_of l r.0, r.1)
 
+-- a place and the part of it that the offsets lead to, of which so many may be left
+abbrev pub offsets_left : Env → (List Word → Reading Exp) → ℕ → Lval → Option Shape → List Word → Reading Lval
+offsets_left env exp k l s ws = option_map (part_behind l) (read_offsets env exp k s ws)
+
 -- one step further from a place of that type, and the type of the part
 abbrev pub Part : Type 0
 Part = Lval × Option Shape
+
+abbrev pub walked : List Node → Walk → Part × List Word
+walked nodes x = ((lval_of nodes x.located.place, type_in nodes x.located.ty), all_said x.rest.now)
 
 abbrev pub to_field : Lval → List Local → List Word → ℕ → Part × List Word
 to_field l ms ws n = ((part_of l (Field n Here), type_of_named ms n), ws)

@@ -4,6 +4,7 @@ use Rattle.cil_base.specs.declared.numbers.TypeId.{TypeId}
 use Rattle.type_graph.specs.declared.nodes.Node.{Node}
 use Rattle.type_graph.specs.Shapes.{Shape, shape}
 use Rattle.type_graph.specs.Arena.{Graph, EachType}
+use Rattle.type_graph.specs.Growth.{Grows, KeepsAggregates}
 use Rattle.cil_tree.specs.Tree.{Local}
 use Rattle.std.specs.Option.{option_map}
 use Rattle.cil_text.specs.ReadExps.{Env, find_named, type_of_named}
@@ -40,6 +41,17 @@ pub record Setting : Type 0 where
 
 unfoldable pub env_in : Setting → Env
 env_in s = env_of s.graph.nodes s.known
+
+-- what reading leaves of a graph: it has grown, and its aggregates stay
+pub record Extends (old new : Graph) : Type 0 where
+  pub grows : Grows old new
+  pub keeps : KeepsAggregates old new
+
+-- what reading leaves: the graph has grown, its aggregates stay, and what is known stays
+pub record Onward (old new : Setting) : Type 0 where
+  pub grows : Grows old.graph new.graph
+  pub keeps : KeepsAggregates old.graph new.graph
+  pub env : env_in new ≡ env_in old
 
 -- what is known with other globals, and with other locals
 abbrev pub with_globals : Env → List Local → Env

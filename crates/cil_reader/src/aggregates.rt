@@ -12,7 +12,7 @@ ghost use Rattle.cil_text.specs.ReadGlobals.{seen_fields};
 ghost use Rattle.cil_text.specs.TypesOf.{AddsParts, member_types};
 ghost use Rattle.cil_reader.specs.Said.{all_said, all_lines};
 ghost use Rattle.cil_reader.specs.Gives.{Gives};
-ghost use Rattle.cil_reader.specs.Settings.{env_in};
+ghost use Rattle.cil_reader.specs.Settings.{Onward, env_in};
 ghost use Rattle.cil_reader.specs.Pools.{KeepsNames};
 ghost use Rattle.cil_reader.specs.Members.{AreThere, IsMember, MembersKnown, FieldsKnown, members_in, is_comma, valued, enumerator_with, enumerator_more, member_with, with_other, member_more, next_line, enumerators_from, members_from};
 ghost use Rattle.cil_reader.specs.Aggregates.{aggregates_in, AggregatesKnown, Holds, IsBlank, AreOpen, ArePlain, one_enum, next_enum, enums_from, with_tag, next_tag, tags_from, tag_at, one_complete, one_struct, own_members, tagged_structs, bit, types_at, FieldsAdded, AggregatesAdded};
@@ -209,7 +209,7 @@ fn read_enumerators<'w, 'a>(
 }
 
 /// Behind the line that opens an enum: its enumerators.
-#[tactic(auto, using(crate::proofs::AggregateLaws::never, crate::proofs::AggregateLaws::enum_fails, crate::proofs::AggregateLaws::enum_twice, crate::proofs::AggregateLaws::enum_refused, crate::proofs::AggregateLaws::enum_gives, crate::proofs::AggregateLaws::enum_holds, crate::proofs::AggregateLaws::holds_later, crate::proofs::AggregateLaws::nothing_types, crate::proofs::PoolLaws::pool_same, crate::proofs::AddedMembers::enum_added, crate::proofs::PoolLaws::pool_twice))]
+#[tactic(auto, using(crate::proofs::AggregateLaws::never, crate::proofs::AggregateLaws::enum_fails, crate::proofs::AggregateLaws::enum_twice, crate::proofs::AggregateLaws::enum_refused, crate::proofs::AggregateLaws::enum_gives, crate::proofs::AggregateLaws::enum_holds, crate::proofs::AggregateLaws::holds_later, crate::proofs::AggregateLaws::nothing_types, crate::proofs::PoolLaws::pool_same, crate::proofs::AddedMembers::enum_added, crate::proofs::PoolLaws::pool_twice, crate::proofs::OnwardLaws::onward_grows, crate::proofs::OnwardParts::onward_keeps, crate::proofs::OnwardLaws::onward_env))]
 fn read_enum<'w, 'a>(
     r: &mut Reader,
     pool: &mut NamePool,
@@ -354,14 +354,12 @@ fn read_tags<'w, 'a>(
 }
 
 /// The name and the type in a member's line (C11 6.7.2.1).
-#[tactic(auto, using(crate::proofs::MemberLaws::declared_gives, crate::proofs::MemberLaws::declared_nameless, crate::proofs::MemberLaws::declared_open, crate::proofs::MemberLaws::declared_fails))]
+#[tactic(auto, using(crate::proofs::MemberLaws::declared_gives, crate::proofs::MemberLaws::declared_nameless, crate::proofs::MemberLaws::declared_open, crate::proofs::MemberLaws::declared_fails, crate::proofs::OnwardLaws::onward_twice, crate::proofs::OnwardLaws::onward_env, crate::proofs::OnwardLaws::onward_grows, crate::proofs::OnwardLaws::onward_none))]
 fn declared<'a>(r: &mut Reader, left: u32, words: &[Word<'a>]) -> Result<(&'a [u8], TypeId), Stop>
     ensures gives { Gives (λ x. member_with x.0.now (shape r.new.graph.nodes x.1.0)) result (read_member (env_in r.old).tags left (all_said words.now)) }
     ensures there { IfOk result (λ x. x.1.0 < length r.new.graph.nodes) }
     ensures adds { IfOk result (λ x. AddsParts r.old.graph r.new.graph (shape r.new.graph.nodes x.1.0 ∷ [])) }
-    ensures grows { Grows r.old.graph r.new.graph }
-    ensures keeps { KeepsAggregates r.old.graph r.new.graph }
-    ensures env { env_in r.new ≡ env_in r.old }
+    ensures on { Onward r.old r.new }
 {
     let (named, rest) = r.read_decl(left, words)?;
     let Some(text) = named.name else {
@@ -401,7 +399,7 @@ fn with_member(
 }
 
 /// One member more, by its line (C11 6.7.2.1).
-#[tactic(auto, using(crate::proofs::MemberLaws::fields_later, crate::proofs::MemberLaws::more_gives, crate::proofs::MemberLaws::more_refused, crate::proofs::MemberLaws::more_fails, crate::proofs::PoolLaws::pool_same, crate::proofs::AddedMembers::field_added))]
+#[tactic(auto, using(crate::proofs::MemberLaws::fields_later, crate::proofs::MemberLaws::more_gives, crate::proofs::MemberLaws::more_refused, crate::proofs::MemberLaws::more_fails, crate::proofs::PoolLaws::pool_same, crate::proofs::AddedMembers::field_added, crate::proofs::OnwardLaws::onward_twice, crate::proofs::OnwardLaws::onward_env, crate::proofs::OnwardLaws::onward_grows, crate::proofs::OnwardLaws::onward_none))]
 fn one_member(
     r: &mut Reader,
     pool: &mut NamePool,
@@ -413,9 +411,7 @@ fn one_member(
     ensures gives { Gives (λ x. members_in r.new.graph.nodes pool.new x.members.items) result (member_more (read_member (env_in r.old).tags left) (members_in r.old.graph.nodes pool.old fields.members.items) (all_said words.now)) }
     ensures known { IfOk result (λ x. FieldsKnown r.new.graph pool.new x.members.items x.names) }
     ensures adds { IfOk result (λ x. FieldsAdded r.old.graph r.new.graph fields.names.types.items x.names.types.items) }
-    ensures grows { Grows r.old.graph r.new.graph }
-    ensures keeps { KeepsAggregates r.old.graph r.new.graph }
-    ensures env { env_in r.new ≡ env_in r.old }
+    ensures on { Onward r.old r.new }
     ensures pool { KeepsNames pool.old pool.new }
 {
     let (text, ty) = declared(r, left, words)?;
@@ -424,7 +420,7 @@ fn one_member(
 }
 
 /// Whether a line has one member more, which is then read, and the lines behind it.
-#[tactic(auto, using(crate::proofs::MemberLaws::line_closed, crate::proofs::MemberLaws::line_read, crate::proofs::MemberLaws::line_fails, crate::proofs::PoolLaws::pool_same, crate::proofs::AddedMembers::fields_same))]
+#[tactic(auto, using(crate::proofs::MemberLaws::line_closed, crate::proofs::MemberLaws::line_read, crate::proofs::MemberLaws::line_fails, crate::proofs::PoolLaws::pool_same, crate::proofs::AddedMembers::fields_same, crate::proofs::OnwardLaws::onward_twice, crate::proofs::OnwardLaws::onward_env, crate::proofs::OnwardLaws::onward_grows, crate::proofs::OnwardLaws::onward_none))]
 fn next_member<'w, 'a>(
     r: &mut Reader,
     pool: &mut NamePool,
@@ -437,9 +433,7 @@ fn next_member<'w, 'a>(
     ensures known { IfOk result (λ x. FieldsKnown r.new.graph pool.new x.1.members.items x.1.names) }
     ensures adds { IfOk result (λ x. FieldsAdded r.old.graph r.new.graph fields.names.types.items x.1.names.types.items) }
     ensures less { IfOk result (λ x. length x.2.now < length lines.now) }
-    ensures grows { Grows r.old.graph r.new.graph }
-    ensures keeps { KeepsAggregates r.old.graph r.new.graph }
-    ensures env { env_in r.new ≡ env_in r.old }
+    ensures on { Onward r.old r.new }
     ensures pool { KeepsNames pool.old pool.new }
 {
     match lines {
@@ -455,7 +449,7 @@ fn next_member<'w, 'a>(
 }
 
 /// Members up to the line that closes their struct or union, and the lines behind it.
-#[tactic(auto, using(crate::proofs::MemberLaws::no_fields, crate::proofs::MemberLaws::members_begin, crate::proofs::MemberLaws::members_none, crate::proofs::MemberLaws::members_next, crate::proofs::MemberLaws::members_end, crate::proofs::MemberLaws::members_fail, crate::proofs::PoolLaws::pool_same, crate::proofs::PoolLaws::pool_twice, type_graph::proofs::GrowthLaws::grows_none, type_graph::proofs::GrowthLaws::grows_twice, crate::proofs::AddedMembers::fields_begin, crate::proofs::AddedMembers::fields_on))]
+#[tactic(auto, using(crate::proofs::MemberLaws::no_fields, crate::proofs::MemberLaws::members_begin, crate::proofs::MemberLaws::members_none, crate::proofs::MemberLaws::members_next, crate::proofs::MemberLaws::members_end, crate::proofs::MemberLaws::members_fail, crate::proofs::PoolLaws::pool_same, crate::proofs::PoolLaws::pool_twice, type_graph::proofs::GrowthLaws::grows_none, crate::proofs::AddedMembers::fields_begin, crate::proofs::AddedMembers::fields_on, crate::proofs::OnwardLaws::onward_twice, crate::proofs::OnwardLaws::onward_env, crate::proofs::OnwardLaws::onward_grows, crate::proofs::OnwardLaws::onward_none))]
 fn read_members<'w, 'a>(
     r: &mut Reader,
     pool: &mut NamePool,
@@ -465,9 +459,7 @@ fn read_members<'w, 'a>(
     ensures gives { Gives (λ x. (members_in r.new.graph.nodes pool.new x.0.members.items, all_lines x.1.now)) result (members_from (read_member (env_in r.old).tags left) [] (all_lines lines.now)) }
     ensures known { IfOk result (λ x. FieldsKnown r.new.graph pool.new x.0.members.items x.0.names) }
     ensures adds { IfOk result (λ x. AddsParts r.old.graph r.new.graph (types_at r.new.graph.nodes x.0.names.types.items)) }
-    ensures grows { Grows r.old.graph r.new.graph }
-    ensures keeps { KeepsAggregates r.old.graph r.new.graph }
-    ensures env { env_in r.new ≡ env_in r.old }
+    ensures on { Onward r.old r.new }
     ensures pool { KeepsNames pool.old pool.new }
 {
     let nothing = Fields {
@@ -485,7 +477,7 @@ fn read_members<'w, 'a>(
 }
 
 /// Behind the line that opens a struct or union: its members.
-#[tactic(auto, using(crate::proofs::AggregateLaws::complete_gives, crate::proofs::AggregateLaws::complete_refused, crate::proofs::AggregateLaws::complete_fails, crate::proofs::AggregateLaws::complete_holds, crate::proofs::AggregateLaws::complete_rest, crate::proofs::AggregateLaws::complete_count, crate::proofs::AggregateLaws::complete_tags, crate::proofs::AggregateLaws::fields_types, crate::proofs::AggregateLaws::fields_there, crate::proofs::AddedMembers::complete_added))]
+#[tactic(auto, using(crate::proofs::AggregateLaws::complete_gives, crate::proofs::AggregateLaws::complete_refused, crate::proofs::AggregateLaws::complete_fails, crate::proofs::AggregateLaws::complete_holds, crate::proofs::AggregateLaws::complete_rest, crate::proofs::AggregateLaws::complete_count, crate::proofs::AggregateLaws::complete_tags, crate::proofs::AggregateLaws::fields_types, crate::proofs::AggregateLaws::fields_there, crate::proofs::AddedMembers::complete_added, crate::proofs::OnwardLaws::onward_grows, crate::proofs::OnwardParts::onward_keeps, crate::proofs::OnwardLaws::onward_env))]
 fn read_complete<'w, 'a>(
     r: &mut Reader,
     pool: &mut NamePool,

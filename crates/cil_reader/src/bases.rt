@@ -2,11 +2,11 @@ ghost use Rattle.std.specs.Prelude.{◌≡◌, ◌<◌, ◌≤◌, Some, length,
 ghost use Rattle.std.specs.Option.{option_map};
 ghost use Rattle.cil_text.specs.ReadTypes.{is_long, long_base, unsigned_base, signed_base, tag_base, read_base};
 ghost use Rattle.type_graph.specs.Shapes.{shape};
-ghost use Rattle.type_graph.specs.Growth.{Grows, KeepsAggregates};
 ghost use Rattle.cil_text.specs.TypesOf.{AddsParts};
 ghost use Rattle.cil_reader.specs.Said.{all_said};
 ghost use Rattle.cil_reader.specs.Bases.{base_shape, BaseBelow};
 ghost use Rattle.cil_reader.specs.Gives.{Gives};
+ghost use Rattle.cil_reader.specs.Settings.{Extends};
 
 use crate::numbering::Numbering;
 use crate::stop::Stop;
@@ -86,12 +86,12 @@ fn read_base<'w, 'a>(tags: &Numbering, words: &'w [Word<'a>]) -> Option<(Base, &
 }
 
 /// The number of a type without a declarator.
+#[tactic(auto, using(crate::proofs::OnwardLaws::extends_by))]
 fn add_base(graph: &mut TypeGraph, base: Base) -> Result<TypeId, Memory>
     requires { BaseBelow (length graph.old.aggs) base }
     ensures shape { IfOk result (λ t. shape graph.new.nodes t.0 ≡ base_shape base) }
     ensures there { IfOk result (λ t. t.0 < length graph.new.nodes) }
-    ensures grows { Grows graph.old graph.new }
-    ensures keeps { KeepsAggregates graph.old graph.new }
+    ensures on { Extends graph.old graph.new }
     ensures adds { IfOk result (λ t. AddsParts graph.old graph.new (shape graph.new.nodes t.0 ∷ [])) }
 {
     match base {
@@ -102,6 +102,7 @@ fn add_base(graph: &mut TypeGraph, base: Base) -> Result<TypeId, Memory>
 }
 
 /// The type that a declaration begins with, in the graph.
+#[tactic(auto, using(crate::proofs::OnwardLaws::extends_none))]
 pub(crate) fn read_base_type<'w, 'a>(
     tags: &Numbering,
     graph: &mut TypeGraph,
@@ -110,8 +111,7 @@ pub(crate) fn read_base_type<'w, 'a>(
     requires { length tags.now ≤ length graph.old.aggs }
     ensures gives { Gives (λ r. (shape graph.new.nodes r.0.0, all_said r.1.now)) result (read_base tags.now (all_said words.now)) }
     ensures there { IfOk result (λ r. r.0.0 < length graph.new.nodes) }
-    ensures grows { Grows graph.old graph.new }
-    ensures keeps { KeepsAggregates graph.old graph.new }
+    ensures on { Extends graph.old graph.new }
     ensures adds { IfOk result (λ r. AddsParts graph.old graph.new (shape graph.new.nodes r.0.0 ∷ [])) }
 {
     let Some((base, rest)) = read_base(tags, words) else {

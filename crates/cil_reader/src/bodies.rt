@@ -11,7 +11,7 @@ ghost use Rattle.cil_text.specs.TypesOf.{AddsParts, types_in_locals, types_in_st
 ghost use Rattle.cil_text.specs.ReadGlobals.{plain_names, begins_with, behind_first, moved, split_block, local_of, param_locals, params_of, read_locals, labels_in, read_body, read_bodies};
 ghost use Rattle.cil_reader.specs.Said.{said, all_said, all_lines};
 ghost use Rattle.cil_reader.specs.Gives.{Gives};
-ghost use Rattle.cil_reader.specs.Settings.{env_in, locals_of, outside};
+ghost use Rattle.cil_reader.specs.Settings.{Onward, env_in, locals_of, outside};
 ghost use Rattle.cil_reader.specs.Fresh.{with_new};
 ghost use Rattle.cil_reader.specs.Nesting.{StmtsKnown};
 ghost use Rattle.cil_reader.specs.Pools.{KeepsNames};
@@ -226,7 +226,7 @@ fn param_locals(
 }
 
 /// A local that is no parameter, by its line.
-#[tactic(auto, using(crate::proofs::BodyLaws::locals_later, crate::proofs::BodyLaws::locals_same, crate::proofs::FunctionLaws::one_open, crate::proofs::FunctionLaws::one_nameless, crate::proofs::FunctionLaws::one_fails, crate::proofs::FunctionLaws::one_taken, crate::proofs::PoolLaws::pool_same))]
+#[tactic(auto, using(crate::proofs::BodyLaws::locals_later, crate::proofs::BodyLaws::locals_same, crate::proofs::FunctionLaws::one_open, crate::proofs::FunctionLaws::one_nameless, crate::proofs::FunctionLaws::one_fails, crate::proofs::FunctionLaws::one_taken, crate::proofs::PoolLaws::pool_same, crate::proofs::OnwardLaws::onward_twice, crate::proofs::OnwardLaws::onward_env, crate::proofs::OnwardLaws::onward_grows, crate::proofs::OnwardLaws::onward_none))]
 fn one_local(
     r: &mut Reader,
     pool: &mut NamePool,
@@ -238,9 +238,7 @@ fn one_local(
     ensures gives { Gives (λ x. locals_of r.new.graph.nodes x.names) result (option_and_then (local_behind (locals_of r.old.graph.nodes locals.names)) (option_and_then local_of (read_decl (env_in r.old).tags left (all_said words.now)))) }
     ensures known { IfOk result (λ x. LocalsKnown r.new.graph pool.new x) }
     ensures adds { IfOk result (λ x. AddsParts r.old.graph r.new.graph (types_in_locals (locals_of r.new.graph.nodes x.names))) }
-    ensures grows { Grows r.old.graph r.new.graph }
-    ensures keeps { KeepsAggregates r.old.graph r.new.graph }
-    ensures env { env_in r.new ≡ env_in r.old }
+    ensures on { Onward r.old r.new }
     ensures pool { KeepsNames pool.old pool.new }
 {
     let (named, rest) = r.read_decl(left, words)?;
@@ -254,7 +252,7 @@ fn one_local(
 }
 
 /// Locals that are no parameters, behind those, and the lines behind them.
-#[tactic(auto, using(type_graph::proofs::GrowthLaws::grows_twice, crate::proofs::PoolLaws::pool_same, crate::proofs::PoolLaws::pool_twice, crate::proofs::FunctionLaws::locals_refused, crate::proofs::FunctionLaws::locals_stop, crate::proofs::FunctionLaws::locals_over, cil_text::proofs::PartsAdded::adds_none))]
+#[tactic(auto, using(crate::proofs::PoolLaws::pool_same, crate::proofs::PoolLaws::pool_twice, crate::proofs::FunctionLaws::locals_refused, crate::proofs::FunctionLaws::locals_stop, crate::proofs::FunctionLaws::locals_over, cil_text::proofs::PartsAdded::adds_none, crate::proofs::OnwardLaws::onward_twice, crate::proofs::OnwardLaws::onward_env, crate::proofs::OnwardLaws::onward_grows, crate::proofs::OnwardLaws::onward_none))]
 fn read_locals<'w, 'a>(
     r: &mut Reader,
     pool: &mut NamePool,
@@ -267,9 +265,7 @@ fn read_locals<'w, 'a>(
     ensures gives { Gives (λ x. (locals_of r.new.graph.nodes x.0.names, all_lines x.1.now)) result (option_and_then (allowed first_apart) (option_map (locals_behind (locals_of r.old.graph.nodes params.names)) (read_locals (env_in r.old).tags left (all_lines lines.now)))) }
     ensures known { IfOk result (λ x. LocalsKnown r.new.graph pool.new x.0) }
     ensures adds { IfOk result (λ x. AddsParts r.old.graph r.new.graph (types_in_locals (locals_of r.new.graph.nodes x.0.names))) }
-    ensures grows { Grows r.old.graph r.new.graph }
-    ensures keeps { KeepsAggregates r.old.graph r.new.graph }
-    ensures env { env_in r.new ≡ env_in r.old }
+    ensures on { Onward r.old r.new }
     ensures pool { KeepsNames pool.old pool.new }
 {
     let mut locals = params;
@@ -347,7 +343,7 @@ fn numbers_of(alloc: Global, pool: &mut NamePool, texts: &[&[u8]]) -> Result<Vec
 }
 
 /// The statements of a function whose labels have these names.
-#[tactic(auto, using(crate::proofs::CarryLaws::turned_known, crate::proofs::FunctionLaws::stmts_known, crate::proofs::FunctionLaws::stmts_give, crate::proofs::FunctionLaws::stmts_open, crate::proofs::FunctionLaws::stmts_fail, crate::proofs::FunctionLaws::heads_fail))]
+#[tactic(auto, using(crate::proofs::CarryLaws::turned_known, crate::proofs::FunctionLaws::stmts_known, crate::proofs::FunctionLaws::stmts_give, crate::proofs::FunctionLaws::stmts_open, crate::proofs::FunctionLaws::stmts_fail, crate::proofs::FunctionLaws::heads_fail, crate::proofs::OnwardLaws::onward_twice, crate::proofs::OnwardLaws::onward_env, crate::proofs::OnwardLaws::onward_grows, crate::proofs::OnwardLaws::onward_none))]
 fn read_stmts(
     r: &mut Reader,
     left: u32,
@@ -357,9 +353,7 @@ fn read_stmts(
     ensures gives { Gives (λ ss. stmts_of r.new.graph.nodes ss.items) result (option_and_then whole_stmts (option_and_then (read_nested left) (read_heads (env_in r.old) labels.now left (all_lines lines.now)))) }
     ensures known { IfOk result (λ ss. StmtsKnown r.new.graph ss.items) }
     ensures adds { IfOk result (λ ss. AddsParts r.old.graph r.new.graph (types_in_stmts (stmts_of r.new.graph.nodes ss.items))) }
-    ensures grows { Grows r.old.graph r.new.graph }
-    ensures keeps { KeepsAggregates r.old.graph r.new.graph }
-    ensures env { env_in r.new ≡ env_in r.old }
+    ensures on { Onward r.old r.new }
 {
     let mut heads = read_heads(r, labels, left, lines)?;
     heads.reverse();
@@ -372,7 +366,7 @@ fn read_stmts(
 
 /// The lines between those that open and close a function's body, where the function has this type and its parameters
 /// these names.
-#[tactic(auto, using(type_graph::proofs::GrowthLaws::grows_twice, crate::proofs::PoolLaws::pool_twice, crate::proofs::FunctionLaws::body_known, crate::proofs::FunctionLaws::body_gives, crate::proofs::FunctionLaws::body_stmts_fail, crate::proofs::FunctionLaws::body_labels_fail, crate::proofs::FunctionLaws::body_locals_fail, crate::proofs::FunctionLaws::body_params_fail))]
+#[tactic(auto, using(type_graph::proofs::GrowthLaws::grows_twice, crate::proofs::PoolLaws::pool_twice, crate::proofs::FunctionLaws::body_known, crate::proofs::FunctionLaws::body_gives, crate::proofs::FunctionLaws::body_stmts_fail, crate::proofs::FunctionLaws::body_labels_fail, crate::proofs::FunctionLaws::body_locals_fail, crate::proofs::FunctionLaws::body_params_fail, crate::proofs::OnwardLaws::onward_grows, crate::proofs::OnwardParts::onward_aggs, crate::proofs::OnwardParts::onward_completed))]
 fn read_body(
     r: &mut Reader,
     pool: &mut NamePool,

@@ -1,15 +1,15 @@
-ghost use Rattle.std.specs.Prelude.{◌≡◌, ◌<◌, ◌≤◌, ◌*◌, ◌+◌, ◌^◌, Some, List, [], ◌∷◌, ◌++◌, length, map, IfOk, IfSome};
+ghost use Rattle.std.specs.Prelude.{◌≡◌, ◌<◌, ◌≤◌, ◌*◌, ◌+◌, ◌^◌, Some, List, [], ◌∷◌, ◌++◌, length, IfOk, IfSome};
 ghost use Rattle.std.specs.Option.{option_map};
 ghost use Rattle.cil_text.specs.ReadTypes.{called, declared_as, heads, is_star, is_suffix, read_name, tails, popped, read_suffix, read_called, read_params, read_decl};
 ghost use Rattle.cil_text.specs.TypesOf.{AddsParts};
 ghost use Rattle.type_graph.specs.Shapes.{Shape, shape, shapes_of, PtrType};
 ghost use Rattle.type_graph.specs.Arena.{Graph, EachType};
-ghost use Rattle.type_graph.specs.Growth.{Grows, KeepsAggregates};
 ghost use Rattle.cil_tree.specs.Typing.{unqualified};
 ghost use Rattle.cil_reader.specs.Said.{all_said};
 ghost use Rattle.cil_reader.specs.Gives.{Gives};
+ghost use Rattle.cil_reader.specs.Settings.{Extends};
 ghost use Rattle.cil_reader.specs.Added.{listed, layer_types};
-ghost use Rattle.cil_reader.specs.Layers.{closing, void_alone, param_behind, mark_of, head_of, marks_of, layer_of, LayerBelow, wrapped, wrapped_from, named_of, more_behind, read_parameter, built_from, behind_parameter, listed_behind};
+ghost use Rattle.cil_reader.specs.Layers.{closing, void_alone, param_more, params_of, is_another, mark_of, head_of, marks_of, layer_of, LayerBelow, wrapped, wrapped_from, named_of, read_parameter, built_from, behind_parameter};
 
 use crate::bases::read_base_type;
 use crate::numbering::Numbering;
@@ -33,6 +33,14 @@ pub(crate) enum Suffix {
     Elements(Option<u64>),
     /// The types of a function's parameters, whether they are a prototype, and whether more arguments may follow.
     Called(Vec<TypeId>, bool, bool),
+}
+
+/// The types of parameters that were read, what follows them, and what stands behind that.
+#[derive(Drop)]
+struct Params<'w, 'a> {
+    types: Vec<TypeId>,
+    follows: Follows,
+    rest: &'w [Word<'a>],
 }
 
 /// A declarator whose name was read: the type before it, and the marks before the name, the nearest to it last.
@@ -165,25 +173,25 @@ fn plain(of: TypeId) -> QualType
 }
 
 /// A pointer to a type (C11 6.7.6.1).
+#[tactic(auto, using(crate::proofs::OnwardLaws::extends_by))]
 fn add_pointer(graph: &mut TypeGraph, to: TypeId) -> Result<TypeId, Memory>
     requires { to.0 < length graph.old.nodes }
     ensures shape { IfOk result (λ t. shape graph.new.nodes t.0 ≡ PtrType unqualified (shape graph.old.nodes to.0)) }
     ensures there { IfOk result (λ t. t.0 < length graph.new.nodes) }
-    ensures grows { Grows graph.old graph.new }
-    ensures keeps { KeepsAggregates graph.old graph.new }
+    ensures on { Extends graph.old graph.new }
     ensures adds { (f : Graph) (ss : List Shape) → AddsParts f graph.old (shape graph.old.nodes to.0 ∷ ss) → IfOk result (λ t. AddsParts f graph.new (shape graph.new.nodes t.0 ∷ ss)) }
 {
     graph.add_node(Node::Ptr(plain(to)))
 }
 
 /// An array of a type, or a function that returns it (C11 6.7.6.2, 6.7.6.3).
+#[tactic(auto, using(crate::proofs::OnwardLaws::extends_by))]
 fn add_wrapped(graph: &mut TypeGraph, suffix: Suffix, inner: TypeId) -> Result<TypeId, Memory>
     requires inner { inner.0 < length graph.old.nodes }
     requires suffix { LayerBelow (length graph.old.nodes) suffix }
     ensures shape { IfOk result (λ t. shape graph.new.nodes t.0 ≡ wrapped (layer_of graph.old.nodes suffix) (shape graph.old.nodes inner.0)) }
     ensures there { IfOk result (λ t. t.0 < length graph.new.nodes) }
-    ensures grows { Grows graph.old graph.new }
-    ensures keeps { KeepsAggregates graph.old graph.new }
+    ensures on { Extends graph.old graph.new }
     ensures adds { (f : Graph) (ss : List Shape) → AddsParts f graph.old (shape graph.old.nodes inner.0 ∷ (layer_types (layer_of graph.old.nodes suffix) ++ ss)) → IfOk result (λ t. AddsParts f graph.new (shape graph.new.nodes t.0 ∷ ss)) }
 {
     match suffix {
@@ -200,7 +208,7 @@ fn add_wrapped(graph: &mut TypeGraph, suffix: Suffix, inner: TypeId) -> Result<T
 /// A declaration without storage class, or a type's name (C11 6.7.6, 6.7.7). What stands within it is read with one
 /// step less.
 #[cycle(declaration)]
-#[tactic(auto, using(crate::proofs::LayersLaws::decl_step, crate::proofs::LayersLaws::decl_fails, crate::proofs::LayersLaws::decl_none))]
+#[tactic(auto, using(crate::proofs::LayersLaws::decl_step, crate::proofs::LayersLaws::decl_fails, crate::proofs::LayersLaws::decl_none, crate::proofs::OnwardLaws::extends_none, crate::proofs::OnwardLaws::extends_twice, crate::proofs::OnwardLaws::extends_aggs))]
 pub(crate) fn read_decl<'w, 'a>(
     tags: &Numbering,
     graph: &mut TypeGraph,
@@ -210,8 +218,7 @@ pub(crate) fn read_decl<'w, 'a>(
     requires tags { length tags.now ≤ length graph.old.aggs }
     ensures gives { Gives (λ r. (named_of graph.new.nodes r.0, all_said r.1.now)) result (read_decl tags.now left (all_said words.now)) }
     ensures there { IfOk result (λ r. r.0.ty.0 < length graph.new.nodes) }
-    ensures grows { Grows graph.old graph.new }
-    ensures keeps { KeepsAggregates graph.old graph.new }
+    ensures on { Extends graph.old graph.new }
     ensures adds { IfOk result (λ r. AddsParts graph.old graph.new (shape graph.new.nodes r.0.ty.0 ∷ [])) }
 {
     if left == 0 {
@@ -223,7 +230,7 @@ pub(crate) fn read_decl<'w, 'a>(
 
 /// A declarator around a type.
 #[cycle(declaration)]
-#[tactic(auto, using(crate::proofs::LayersLaws::named_gives, crate::proofs::LayersLaws::named_fails, type_graph::proofs::GrowthLaws::grows_twice, type_graph::proofs::ShapeLaws::kept))]
+#[tactic(auto, using(crate::proofs::LayersLaws::named_gives, crate::proofs::LayersLaws::named_fails, crate::proofs::OnwardLaws::extends_twice, crate::proofs::OnwardLaws::extends_grows, crate::proofs::OnwardLaws::extends_aggs, type_graph::proofs::ShapeLaws::kept, crate::proofs::OnwardLaws::extends_none))]
 fn declared_as<'w, 'a>(
     tags: &Numbering,
     graph: &mut TypeGraph,
@@ -235,8 +242,7 @@ fn declared_as<'w, 'a>(
     requires base { base.0 < length graph.old.nodes }
     ensures gives { Gives (λ r. (named_of graph.new.nodes r.0, all_said r.1.now)) result (declared_as (read_parameter tags.now left) left (shape graph.old.nodes base.0, all_said words.now)) }
     ensures there { IfOk result (λ r. r.0.ty.0 < length graph.new.nodes) }
-    ensures grows { Grows graph.old graph.new }
-    ensures keeps { KeepsAggregates graph.old graph.new }
+    ensures on { Extends graph.old graph.new }
     ensures adds { (f : Graph) (ss : List Shape) → AddsParts f graph.old (shape graph.old.nodes base.0 ∷ ss) → IfOk result (λ r. AddsParts f graph.new (shape graph.new.nodes r.0.ty.0 ∷ ss)) }
 {
     let (marks, rest) = heads(graph.alloc(), words)?;
@@ -248,7 +254,7 @@ fn declared_as<'w, 'a>(
 
 /// What stands behind a declarator's name.
 #[cycle(declaration)]
-#[tactic(auto, using(crate::proofs::LayersLaws::tails_none, crate::proofs::LayersLaws::tails_suffix, crate::proofs::LayersLaws::tails_popped, crate::proofs::LayersLaws::suffix_fails, type_graph::proofs::GrowthLaws::grows_twice, type_graph::proofs::ShapeLaws::kept))]
+#[tactic(auto, using(crate::proofs::LayersLaws::tails_none, crate::proofs::LayersLaws::tails_suffix, crate::proofs::LayersLaws::tails_popped, crate::proofs::LayersLaws::suffix_fails, crate::proofs::OnwardLaws::extends_twice, crate::proofs::OnwardLaws::extends_grows, crate::proofs::OnwardLaws::extends_aggs, type_graph::proofs::ShapeLaws::kept, crate::proofs::OnwardLaws::extends_none))]
 fn tails<'w, 'a>(
     tags: &Numbering,
     graph: &mut TypeGraph,
@@ -261,8 +267,7 @@ fn tails<'w, 'a>(
     requires base { front.base.0 < length graph.old.nodes }
     ensures gives { Gives (λ r. (shape graph.new.nodes r.0.0, all_said r.1.now)) result (option_map (built_from (shape graph.old.nodes front.base.0)) (tails (read_parameter tags.now left) steps (marks_of front.marks.items) (all_said words.now))) }
     ensures there { IfOk result (λ r. r.0.0 < length graph.new.nodes) }
-    ensures grows { Grows graph.old graph.new }
-    ensures keeps { KeepsAggregates graph.old graph.new }
+    ensures on { Extends graph.old graph.new }
     ensures adds { (f : Graph) (ss : List Shape) → AddsParts f graph.old (shape graph.old.nodes front.base.0 ∷ ss) → IfOk result (λ r. AddsParts f graph.new (shape graph.new.nodes r.0.0 ∷ ss)) }
 {
     if steps == 0 {
@@ -277,7 +282,7 @@ fn tails<'w, 'a>(
 
 /// The type that a suffix makes of what stands behind it.
 #[cycle(declaration)]
-#[tactic(auto, using(crate::proofs::LayersLaws::wrapped_gives, crate::proofs::LayersLaws::wrapped_fails, crate::proofs::LayersLaws::layer_kept, crate::proofs::LayersLaws::layer_below, type_graph::proofs::GrowthLaws::grows_twice, type_graph::proofs::ShapeLaws::kept, crate::proofs::AddedLaws::layer_later))]
+#[tactic(auto, using(crate::proofs::LayersLaws::wrapped_gives, crate::proofs::LayersLaws::wrapped_fails, crate::proofs::LayersLaws::layer_kept, crate::proofs::LayersLaws::layer_below, crate::proofs::OnwardLaws::extends_twice, crate::proofs::OnwardLaws::extends_grows, crate::proofs::OnwardLaws::extends_aggs, type_graph::proofs::ShapeLaws::kept, crate::proofs::AddedLaws::layer_later))]
 fn behind_suffix<'w, 'a>(
     tags: &Numbering,
     graph: &mut TypeGraph,
@@ -292,8 +297,7 @@ fn behind_suffix<'w, 'a>(
     requires suffix { LayerBelow (length graph.old.nodes) suffix }
     ensures gives { Gives (λ r. (shape graph.new.nodes r.0.0, all_said r.1.now)) result (option_map (wrapped_from (layer_of graph.old.nodes suffix) (shape graph.old.nodes front.base.0)) (tails (read_parameter tags.now left) steps (marks_of front.marks.items) (all_said words.now))) }
     ensures there { IfOk result (λ r. r.0.0 < length graph.new.nodes) }
-    ensures grows { Grows graph.old graph.new }
-    ensures keeps { KeepsAggregates graph.old graph.new }
+    ensures on { Extends graph.old graph.new }
     ensures adds { (f : Graph) (ss : List Shape) → AddsParts f graph.old (shape graph.old.nodes front.base.0 ∷ (layer_types (layer_of graph.old.nodes suffix) ++ ss)) → IfOk result (λ r. AddsParts f graph.new (shape graph.new.nodes r.0.0 ∷ ss)) }
 {
     let (inner, rest) = tails(tags, graph, left, steps, front, words)?;
@@ -302,7 +306,7 @@ fn behind_suffix<'w, 'a>(
 
 /// Where no suffix stands, the mark that is nearest to the name counts.
 #[cycle(declaration)]
-#[tactic(auto, using(crate::proofs::LayersLaws::marks_more, crate::proofs::LayersLaws::pointer_gives, crate::proofs::LayersLaws::pointer_fails, type_graph::proofs::GrowthLaws::grows_twice, type_graph::proofs::ShapeLaws::kept))]
+#[tactic(auto, using(crate::proofs::LayersLaws::marks_more, crate::proofs::LayersLaws::pointer_gives, crate::proofs::LayersLaws::pointer_fails, crate::proofs::OnwardLaws::extends_twice, crate::proofs::OnwardLaws::extends_grows, crate::proofs::OnwardLaws::extends_aggs, type_graph::proofs::ShapeLaws::kept, crate::proofs::OnwardLaws::extends_none))]
 fn popped<'w, 'a>(
     tags: &Numbering,
     graph: &mut TypeGraph,
@@ -315,8 +319,7 @@ fn popped<'w, 'a>(
     requires base { front.base.0 < length graph.old.nodes }
     ensures gives { Gives (λ r. (shape graph.new.nodes r.0.0, all_said r.1.now)) result (option_map (built_from (shape graph.old.nodes front.base.0)) (popped (tails (read_parameter tags.now left) steps) (marks_of front.marks.items) (all_said words.now))) }
     ensures there { IfOk result (λ r. r.0.0 < length graph.new.nodes) }
-    ensures grows { Grows graph.old graph.new }
-    ensures keeps { KeepsAggregates graph.old graph.new }
+    ensures on { Extends graph.old graph.new }
     ensures adds { (f : Graph) (ss : List Shape) → AddsParts f graph.old (shape graph.old.nodes front.base.0 ∷ ss) → IfOk result (λ r. AddsParts f graph.new (shape graph.new.nodes r.0.0 ∷ ss)) }
 {
     let mut marks = front.marks;
@@ -339,7 +342,7 @@ fn popped<'w, 'a>(
 
 /// The bound of an array, or the parameters of a function.
 #[cycle(declaration)]
-#[tactic(auto, using(cil_text::proofs::PartsAdded::adds_none))]
+#[tactic(auto, using(crate::proofs::OnwardLaws::extends_none, cil_text::proofs::PartsAdded::adds_none))]
 fn read_suffix<'w, 'a>(
     tags: &Numbering,
     graph: &mut TypeGraph,
@@ -350,8 +353,7 @@ fn read_suffix<'w, 'a>(
     requires tags { length tags.now ≤ length graph.old.aggs }
     ensures gives { Gives (λ r. (layer_of graph.new.nodes r.0, all_said r.1.now)) result (read_suffix (read_parameter tags.now left) steps (all_said words.now)) }
     ensures there { IfOk result (λ r. LayerBelow (length graph.new.nodes) r.0) }
-    ensures grows { Grows graph.old graph.new }
-    ensures keeps { KeepsAggregates graph.old graph.new }
+    ensures on { Extends graph.old graph.new }
     ensures adds { IfOk result (λ r. AddsParts graph.old graph.new (layer_types (layer_of graph.new.nodes r.0))) }
 {
     match words {
@@ -369,7 +371,7 @@ fn read_suffix<'w, 'a>(
 
 /// Behind the `(` of a function's parameters: `)`, `void )`, or parameters.
 #[cycle(declaration)]
-#[tactic(auto, using(crate::proofs::LayersLaws::called_closing, crate::proofs::LayersLaws::called_void, crate::proofs::LayersLaws::called_next, cil_text::proofs::PartsAdded::adds_none))]
+#[tactic(auto, using(crate::proofs::LayersLaws::called_closing, crate::proofs::LayersLaws::called_void, crate::proofs::LayersLaws::called_next, crate::proofs::OnwardLaws::extends_none, cil_text::proofs::PartsAdded::adds_none))]
 fn read_called<'w, 'a>(
     tags: &Numbering,
     graph: &mut TypeGraph,
@@ -380,92 +382,93 @@ fn read_called<'w, 'a>(
     requires tags { length tags.now ≤ length graph.old.aggs }
     ensures gives { Gives (λ r. (layer_of graph.new.nodes r.0, all_said r.1.now)) result (read_called (read_parameter tags.now left) steps (all_said words.now)) }
     ensures there { IfOk result (λ r. LayerBelow (length graph.new.nodes) r.0) }
-    ensures grows { Grows graph.old graph.new }
-    ensures keeps { KeepsAggregates graph.old graph.new }
+    ensures on { Extends graph.old graph.new }
     ensures adds { IfOk result (λ r. AddsParts graph.old graph.new (layer_types (layer_of graph.new.nodes r.0))) }
 {
-    let types = Vec::new(graph.alloc());
     if let Some(rest) = closing(words) {
+        let types = Vec::new(graph.alloc());
         return Ok((Suffix::Called(types, false, false), rest));
     }
     if let Some(rest) = void_alone(words) {
+        let types = Vec::new(graph.alloc());
         return Ok((Suffix::Called(types, true, false), rest));
     }
-    read_params(tags, graph, left, steps, types, words)
+    read_params(tags, graph, left, steps, words)
 }
 
-/// Parameters behind those that were read.
+/// One parameter more.
 #[cycle(declaration)]
-#[tactic(auto, using(crate::proofs::LayersLaws::params_none, crate::proofs::LayersLaws::params_fails, crate::proofs::LayersLaws::params_next, type_graph::proofs::GrowthLaws::grows_twice))]
+#[tactic(auto, using(crate::proofs::LayersLaws::param_gives, crate::proofs::LayersLaws::param_open, crate::proofs::LayersLaws::param_fails, crate::proofs::LayersLaws::each_more, crate::proofs::AddedLaws::param_added, crate::proofs::OnwardLaws::extends_grows))]
+fn one_param<'w, 'a>(
+    tags: &Numbering,
+    graph: &mut TypeGraph,
+    left: u32,
+    params: Params<'w, 'a>,
+) -> Result<Params<'w, 'a>, Stop>
+    requires tags { length tags.now ≤ length graph.old.aggs }
+    requires types { EachType (length graph.old.nodes) params.types.items }
+    ensures gives { Gives (λ r. params_of graph.new.nodes r) result (param_more (shapes_of (shape graph.old.nodes) params.entry.types.items) (read_parameter tags.now left (all_said params.entry.rest.now))) }
+    ensures there { IfOk result (λ r. EachType (length graph.new.nodes) r.types.items) }
+    ensures on { Extends graph.old graph.new }
+    ensures adds { (f : Graph) → AddsParts f graph.old (listed (shapes_of (shape graph.old.nodes) params.entry.types.items)) → IfOk result (λ r. AddsParts f graph.new (listed (shapes_of (shape graph.new.nodes) r.types.items))) }
+{
+    let (param, rest) = read_decl(tags, graph, left, params.rest)?;
+    let mut types = params.types;
+    types.push(param.ty)?;
+    match behind_parameter(rest) {
+        Some((follows, rest)) => Ok(Params {
+            types,
+            follows,
+            rest,
+        }),
+        None => Err(Stop::NotCil),
+    }
+}
+
+/// Whether another parameter follows.
+fn is_another(follows: Follows) -> bool
+    ensures { result ≡ is_another follows }
+{
+    match follows {
+        Follows::Another => true,
+        Follows::End | Follows::Variadic => false,
+    }
+}
+
+/// Parameters, at least one, up to `)`. Their number is bounded.
+#[cycle(declaration)]
+#[tactic(auto, using(crate::proofs::LayersLaws::params_start, crate::proofs::LayersLaws::params_end, crate::proofs::LayersLaws::params_variadic, crate::proofs::LayersLaws::params_over, crate::proofs::LayersLaws::params_stop, crate::proofs::OnwardLaws::extends_none, crate::proofs::OnwardLaws::extends_twice, crate::proofs::OnwardLaws::extends_aggs, cil_text::proofs::PartsAdded::adds_none))]
 fn read_params<'w, 'a>(
     tags: &Numbering,
     graph: &mut TypeGraph,
     left: u32,
     steps: u32,
-    types: Vec<TypeId>,
     words: &'w [Word<'a>],
 ) -> Result<(Suffix, &'w [Word<'a>]), Stop>
     requires tags { length tags.now ≤ length graph.old.aggs }
-    requires types { EachType (length graph.old.nodes) types.items }
-    ensures gives { Gives (λ r. (layer_of graph.new.nodes r.0, all_said r.1.now)) result (option_map called (option_map (listed_behind (shapes_of (shape graph.old.nodes) types.items)) (read_params (read_parameter tags.now left) steps (all_said words.now)))) }
+    ensures gives { Gives (λ r. (layer_of graph.new.nodes r.0, all_said r.1.now)) result (option_map called (read_params (read_parameter tags.now left) steps (all_said words.now))) }
     ensures there { IfOk result (λ r. LayerBelow (length graph.new.nodes) r.0) }
-    ensures grows { Grows graph.old graph.new }
-    ensures keeps { KeepsAggregates graph.old graph.new }
-    ensures adds { (f : Graph) → AddsParts f graph.old (listed (shapes_of (shape graph.old.nodes) types.items)) → IfOk result (λ r. AddsParts f graph.new (layer_types (layer_of graph.new.nodes r.0))) }
+    ensures on { Extends graph.old graph.new }
+    ensures adds { IfOk result (λ r. AddsParts graph.old graph.new (layer_types (layer_of graph.new.nodes r.0))) }
 {
-    if steps == 0 {
-        return Err(Stop::NotCil);
+    let mut params = Params {
+        types: Vec::new(graph.alloc()),
+        follows: Follows::Another,
+        rest: words,
+    };
+    let mut turns = steps;
+    while turns > 0 && is_another(params.follows) {
+        params = one_param(tags, graph, left, params)?;
+        turns -= 1;
     }
-    let (types, rest) = one_param(tags, graph, left, types, words)?;
-    more_params(tags, graph, left, steps - 1, types, rest)
-}
-
-/// One parameter more.
-#[cycle(declaration)]
-#[tactic(auto, using(crate::proofs::LayersLaws::param_gives, crate::proofs::LayersLaws::param_fails, crate::proofs::LayersLaws::each_more, type_graph::proofs::GrowthLaws::grows_twice, crate::proofs::AddedLaws::param_added))]
-fn one_param<'w, 'a>(
-    tags: &Numbering,
-    graph: &mut TypeGraph,
-    left: u32,
-    types: Vec<TypeId>,
-    words: &'w [Word<'a>],
-) -> Result<(Vec<TypeId>, &'w [Word<'a>]), Stop>
-    requires tags { length tags.now ≤ length graph.old.aggs }
-    requires types { EachType (length graph.old.nodes) types.items }
-    ensures gives { Gives (λ r. (shapes_of (shape graph.new.nodes) r.0.items, all_said r.1.now)) result (option_map (param_behind (shapes_of (shape graph.old.nodes) types.items)) (read_parameter tags.now left (all_said words.now))) }
-    ensures there { IfOk result (λ r. EachType (length graph.new.nodes) r.0.items) }
-    ensures grows { Grows graph.old graph.new }
-    ensures keeps { KeepsAggregates graph.old graph.new }
-    ensures adds { (f : Graph) → AddsParts f graph.old (listed (shapes_of (shape graph.old.nodes) types.items)) → IfOk result (λ r. AddsParts f graph.new (listed (shapes_of (shape graph.new.nodes) r.0.items))) }
-{
-    let (param, rest) = read_decl(tags, graph, left, words)?;
-    let mut all = types;
-    all.push(param.ty)?;
-    Ok((all, rest))
-}
-
-/// What follows parameters.
-#[cycle(declaration)]
-fn more_params<'w, 'a>(
-    tags: &Numbering,
-    graph: &mut TypeGraph,
-    left: u32,
-    steps: u32,
-    types: Vec<TypeId>,
-    words: &'w [Word<'a>],
-) -> Result<(Suffix, &'w [Word<'a>]), Stop>
-    requires tags { length tags.now ≤ length graph.old.aggs }
-    requires types { EachType (length graph.old.nodes) types.items }
-    ensures gives { Gives (λ r. (layer_of graph.new.nodes r.0, all_said r.1.now)) result (option_map called (more_behind (shapes_of (shape graph.old.nodes) types.items) (read_params (read_parameter tags.now left) steps) (behind_parameter (all_said words.now)))) }
-    ensures there { IfOk result (λ r. LayerBelow (length graph.new.nodes) r.0) }
-    ensures grows { Grows graph.old graph.new }
-    ensures keeps { KeepsAggregates graph.old graph.new }
-    ensures adds { (f : Graph) → AddsParts f graph.old (listed (shapes_of (shape graph.old.nodes) types.items)) → IfOk result (λ r. AddsParts f graph.new (layer_types (layer_of graph.new.nodes r.0))) }
-{
-    match behind_parameter(words) {
-        None => Err(Stop::NotCil),
-        Some((Follows::End, rest)) => Ok((Suffix::Called(types, true, false), rest)),
-        Some((Follows::Variadic, rest)) => Ok((Suffix::Called(types, true, true), rest)),
-        Some((Follows::Another, rest)) => read_params(tags, graph, left, steps, types, rest),
+    let Params {
+        types,
+        follows,
+        rest,
+    } = params;
+    match follows {
+        Follows::End => Ok((Suffix::Called(types, true, false), rest)),
+        Follows::Variadic => Ok((Suffix::Called(types, true, true), rest)),
+        Follows::Another => Err(Stop::NotCil),
     }
 }

@@ -10,7 +10,7 @@ ghost use Rattle.cil_text.specs.ReadGlobals.{declared_with, only_function, decla
 ghost use Rattle.cil_text.specs.TypesOf.{AddsParts};
 ghost use Rattle.cil_reader.specs.Said.{all_said, all_lines};
 ghost use Rattle.cil_reader.specs.Gives.{Gives};
-ghost use Rattle.cil_reader.specs.Settings.{env_in, locals_of};
+ghost use Rattle.cil_reader.specs.Settings.{Onward, env_in, locals_of};
 ghost use Rattle.cil_reader.specs.Pools.{KeepsNames};
 ghost use Rattle.cil_reader.specs.Globals.{EachDeclared, declaration_of, declarations_of, types_declared, declaration_behind, named_apart, next_definition, behind_line, global_with, defined_line, one_global, objects_left, DefinitionFlat, IsGlobal, GlobalKnown, globals_of, GlobalsKnown, WaitingKnown};
 
@@ -41,7 +41,7 @@ struct Waiting<'w, 'a> {
 }
 
 /// A declaration without its storage class (C11 6.7.1), up to the end of its line.
-#[tactic(auto, using(crate::proofs::GlobalLaws::declared_gives, crate::proofs::GlobalLaws::declared_open, crate::proofs::GlobalLaws::declared_nameless, crate::proofs::GlobalLaws::declared_fails))]
+#[tactic(auto, using(crate::proofs::GlobalLaws::declared_gives, crate::proofs::GlobalLaws::declared_open, crate::proofs::GlobalLaws::declared_nameless, crate::proofs::GlobalLaws::declared_fails, crate::proofs::OnwardLaws::onward_twice, crate::proofs::OnwardLaws::onward_env, crate::proofs::OnwardLaws::onward_grows, crate::proofs::OnwardLaws::onward_none))]
 fn declared_with<'a>(
     r: &mut Reader,
     left: u32,
@@ -51,9 +51,7 @@ fn declared_with<'a>(
     ensures gives { Gives (λ d. declaration_of r.new.graph.nodes d) result (option_and_then (declared_with internal) (read_decl (env_in r.old).tags left (all_said words.now))) }
     ensures there { IfOk result (λ d. d.ty.0 < length r.new.graph.nodes) }
     ensures adds { IfOk result (λ d. AddsParts r.old.graph r.new.graph (shape r.new.graph.nodes d.ty.0 ∷ [])) }
-    ensures grows { Grows r.old.graph r.new.graph }
-    ensures keeps { KeepsAggregates r.old.graph r.new.graph }
-    ensures env { env_in r.new ≡ env_in r.old }
+    ensures on { Onward r.old r.new }
 {
     let (named, rest) = r.read_decl(left, words)?;
     if !is_end(rest) {
@@ -67,7 +65,7 @@ fn declared_with<'a>(
 }
 
 /// A declaration without storage class: only a function has one.
-#[tactic(auto, using(crate::proofs::GlobalLaws::function_gives, crate::proofs::GlobalLaws::function_not, crate::proofs::GlobalLaws::function_fails))]
+#[tactic(auto, using(crate::proofs::GlobalLaws::function_gives, crate::proofs::GlobalLaws::function_not, crate::proofs::GlobalLaws::function_fails, crate::proofs::OnwardLaws::onward_twice, crate::proofs::OnwardLaws::onward_env, crate::proofs::OnwardLaws::onward_grows, crate::proofs::OnwardLaws::onward_none))]
 fn function_alone<'a>(
     r: &mut Reader,
     left: u32,
@@ -76,9 +74,7 @@ fn function_alone<'a>(
     ensures gives { Gives (λ d. declaration_of r.new.graph.nodes d) result (option_and_then only_function (option_and_then (declared_with false) (read_decl (env_in r.old).tags left (all_said words.now)))) }
     ensures there { IfOk result (λ d. d.ty.0 < length r.new.graph.nodes) }
     ensures adds { IfOk result (λ d. AddsParts r.old.graph r.new.graph (shape r.new.graph.nodes d.ty.0 ∷ [])) }
-    ensures grows { Grows r.old.graph r.new.graph }
-    ensures keeps { KeepsAggregates r.old.graph r.new.graph }
-    ensures env { env_in r.new ≡ env_in r.old }
+    ensures on { Onward r.old r.new }
 {
     let declaration = declared_with(r, left, false, words)?;
     if !r.is_function(declaration.ty) {
@@ -88,7 +84,7 @@ fn function_alone<'a>(
 }
 
 /// What declares a global, by its storage class.
-#[tactic(auto, using(crate::proofs::GlobalLaws::stored_next, crate::proofs::GlobalLaws::alone_next))]
+#[tactic(auto, using(crate::proofs::GlobalLaws::stored_next, crate::proofs::GlobalLaws::alone_next, crate::proofs::OnwardLaws::onward_twice, crate::proofs::OnwardLaws::onward_env, crate::proofs::OnwardLaws::onward_grows, crate::proofs::OnwardLaws::onward_none))]
 fn declaration_from<'a>(
     r: &mut Reader,
     left: u32,
@@ -97,9 +93,7 @@ fn declaration_from<'a>(
     ensures gives { Gives (λ d. declaration_of r.new.graph.nodes d) result (declaration_from (env_in r.old).tags left (all_said words.now)) }
     ensures there { IfOk result (λ d. d.ty.0 < length r.new.graph.nodes) }
     ensures adds { IfOk result (λ d. AddsParts r.old.graph r.new.graph (shape r.new.graph.nodes d.ty.0 ∷ [])) }
-    ensures grows { Grows r.old.graph r.new.graph }
-    ensures keeps { KeepsAggregates r.old.graph r.new.graph }
-    ensures env { env_in r.new ≡ env_in r.old }
+    ensures on { Onward r.old r.new }
 {
     match storage(words) {
         Some((internal, rest)) => declared_with(r, left, internal, rest),
@@ -108,7 +102,7 @@ fn declaration_from<'a>(
 }
 
 /// One declaration more.
-#[tactic(auto, using(crate::proofs::GlobalLaws::with_gives, crate::proofs::GlobalLaws::with_fails, crate::proofs::GlobalLaws::declared_more, crate::proofs::GlobalLaws::declared_added))]
+#[tactic(auto, using(crate::proofs::GlobalLaws::with_gives, crate::proofs::GlobalLaws::with_fails, crate::proofs::GlobalLaws::declared_more, crate::proofs::GlobalLaws::declared_added, crate::proofs::OnwardLaws::onward_twice, crate::proofs::OnwardLaws::onward_env, crate::proofs::OnwardLaws::onward_grows, crate::proofs::OnwardLaws::onward_none))]
 fn with_declaration<'a>(
     r: &mut Reader,
     left: u32,
@@ -119,9 +113,7 @@ fn with_declaration<'a>(
     ensures gives { Gives (λ ds. declarations_of r.new.graph.nodes ds.items) result (option_map (declaration_behind (declarations_of r.old.graph.nodes declarations.entry.items)) (declaration_from (env_in r.old).tags left (all_said words.now))) }
     ensures each { IfOk result (λ ds. EachDeclared (length r.new.graph.nodes) ds.items) }
     ensures adds { (f : Graph) → AddsParts f r.old.graph (types_declared r.old.graph.nodes declarations.entry.items) → IfOk result (λ ds. AddsParts f r.new.graph (types_declared r.new.graph.nodes ds.items)) }
-    ensures grows { Grows r.old.graph r.new.graph }
-    ensures keeps { KeepsAggregates r.old.graph r.new.graph }
-    ensures env { env_in r.new ≡ env_in r.old }
+    ensures on { Onward r.old r.new }
 {
     let declaration = declaration_from(r, left, words)?;
     let mut all = declarations;
@@ -130,7 +122,7 @@ fn with_declaration<'a>(
 }
 
 /// Declarations, and the lines behind them.
-#[tactic(auto, using(crate::proofs::GlobalLaws::no_declared, crate::proofs::GlobalLaws::no_added, crate::proofs::GlobalLaws::declarations_start, crate::proofs::GlobalLaws::declarations_end, crate::proofs::GlobalLaws::declarations_stop, crate::proofs::GlobalLaws::declarations_fail, crate::proofs::GlobalLaws::declarations_next, crate::proofs::GlobalLaws::keeps_twice, type_graph::proofs::GrowthLaws::grows_twice))]
+#[tactic(auto, using(crate::proofs::GlobalLaws::no_declared, crate::proofs::GlobalLaws::no_added, crate::proofs::GlobalLaws::declarations_start, crate::proofs::GlobalLaws::declarations_end, crate::proofs::GlobalLaws::declarations_stop, crate::proofs::GlobalLaws::declarations_fail, crate::proofs::GlobalLaws::declarations_next, crate::proofs::OnwardLaws::onward_twice, crate::proofs::OnwardLaws::onward_env, crate::proofs::OnwardLaws::onward_grows, crate::proofs::OnwardLaws::onward_none))]
 pub(crate) fn read_declarations<'w, 'a>(
     r: &mut Reader,
     left: u32,
@@ -139,9 +131,7 @@ pub(crate) fn read_declarations<'w, 'a>(
     ensures gives { Gives (λ x. (declarations_of r.new.graph.nodes x.0.items, all_lines x.1.now)) result (read_declarations (env_in r.old).tags left (all_lines lines.now)) }
     ensures each { IfOk result (λ x. EachDeclared (length r.new.graph.nodes) x.0.items) }
     ensures adds { IfOk result (λ x. AddsParts r.old.graph r.new.graph (types_declared r.new.graph.nodes x.0.items)) }
-    ensures grows { Grows r.old.graph r.new.graph }
-    ensures keeps { KeepsAggregates r.old.graph r.new.graph }
-    ensures env { env_in r.new ≡ env_in r.old }
+    ensures on { Onward r.old r.new }
 {
     let mut all = Vec::new(r.alloc());
     for i in 0..lines.len() {
@@ -179,15 +169,13 @@ fn without_static<'w, 'a>(words: &'w [Word<'a>]) -> &'w [Word<'a>]
 }
 
 /// Behind `=`: an object's scalars, up to the end of its line.
-#[tactic(auto, using(crate::proofs::GlobalLaws::image_gives, crate::proofs::GlobalLaws::image_open, crate::proofs::GlobalLaws::image_fails, crate::proofs::GlobalLaws::flat_image))]
+#[tactic(auto, using(crate::proofs::GlobalLaws::image_gives, crate::proofs::GlobalLaws::image_open, crate::proofs::GlobalLaws::image_fails, crate::proofs::GlobalLaws::flat_image, crate::proofs::OnwardLaws::onward_twice, crate::proofs::OnwardLaws::onward_env, crate::proofs::OnwardLaws::onward_grows, crate::proofs::OnwardLaws::onward_none))]
 fn image_of(r: &mut Reader, left: u32, ty: TypeId, words: &[Word]) -> Result<GlobalDef, Stop>
     requires { ty.0 < length r.old.graph.nodes }
     ensures gives { Gives (λ x. definition_of [] [] x) result (option_and_then image_end (read_image (env_in r.old) left (Some (shape r.old.graph.nodes ty.0)) (all_said words.now))) }
     ensures flat { IfOk result DefinitionFlat }
     ensures same { OnOk result (r.new.graph.nodes ≡ r.old.graph.nodes) }
-    ensures grows { Grows r.old.graph r.new.graph }
-    ensures keeps { KeepsAggregates r.old.graph r.new.graph }
-    ensures env { env_in r.new ≡ env_in r.old }
+    ensures on { Onward r.old r.new }
 {
     let (items, behind) = read_image(r, left, ty, words)?;
     if !is_end(behind) {
@@ -197,15 +185,13 @@ fn image_of(r: &mut Reader, left: u32, ty: TypeId, words: &[Word]) -> Result<Glo
 }
 
 /// What defines an object, behind its declarator.
-#[tactic(auto, using(crate::proofs::GlobalLaws::flat_zero))]
+#[tactic(auto, using(crate::proofs::GlobalLaws::flat_zero, crate::proofs::OnwardLaws::onward_twice, crate::proofs::OnwardLaws::onward_env, crate::proofs::OnwardLaws::onward_grows, crate::proofs::OnwardLaws::onward_none))]
 fn defined_by(r: &mut Reader, left: u32, ty: TypeId, words: &[Word]) -> Result<GlobalDef, Stop>
     requires { ty.0 < length r.old.graph.nodes }
     ensures gives { Gives (λ x. definition_of [] [] x) result (defined_by (env_in r.old) left (shape r.old.graph.nodes ty.0) (all_said words.now)) }
     ensures flat { IfOk result DefinitionFlat }
     ensures same { OnOk result (r.new.graph.nodes ≡ r.old.graph.nodes) }
-    ensures grows { Grows r.old.graph r.new.graph }
-    ensures keeps { KeepsAggregates r.old.graph r.new.graph }
-    ensures env { env_in r.new ≡ env_in r.old }
+    ensures on { Onward r.old r.new }
 {
     match words {
         [Word::Semicolon] => Ok(GlobalDef::Zero),
@@ -215,7 +201,7 @@ fn defined_by(r: &mut Reader, left: u32, ty: TypeId, words: &[Word]) -> Result<G
 }
 
 /// An object by its own line, whose declarator gives the type that is declared (C11 6.7p4).
-#[tactic(auto, using(crate::proofs::GlobalLaws::own_gives, crate::proofs::GlobalLaws::own_fails, crate::proofs::GlobalLaws::keeps_twice, type_graph::proofs::GrowthLaws::grows_twice))]
+#[tactic(auto, using(crate::proofs::GlobalLaws::own_gives, crate::proofs::GlobalLaws::own_fails, crate::proofs::OnwardLaws::onward_twice, crate::proofs::OnwardLaws::onward_env, crate::proofs::OnwardLaws::onward_grows, crate::proofs::OnwardLaws::onward_none))]
 fn own_definition(
     r: &mut Reader,
     left: u32,
@@ -226,9 +212,7 @@ fn own_definition(
     ensures gives { Gives (λ x. definition_of [] [] x) result (own_definition (env_in r.old) left (declaration_of r.old.graph.nodes declaration.now) (all_said words.now)) }
     ensures flat { IfOk result DefinitionFlat }
     ensures same { OnOk result (r.new.graph.nodes ≡ r.old.graph.nodes) }
-    ensures grows { Grows r.old.graph r.new.graph }
-    ensures keeps { KeepsAggregates r.old.graph r.new.graph }
-    ensures env { env_in r.new ≡ env_in r.old }
+    ensures on { Onward r.old r.new }
 {
     let ty = declaration.ty;
     let rest = read_typed(r, left, ty, without_static(words))?;
@@ -236,6 +220,7 @@ fn own_definition(
 }
 
 /// An object by the next line, which is its own.
+#[tactic(auto, using(crate::proofs::OnwardLaws::onward_none))]
 fn next_definition(
     r: &mut Reader,
     left: u32,
@@ -246,9 +231,7 @@ fn next_definition(
     ensures gives { Gives (λ x. definition_of [] [] x) result (next_definition (env_in r.old) left (declaration_of r.old.graph.nodes declaration.now) (all_lines lines.now)) }
     ensures flat { IfOk result DefinitionFlat }
     ensures same { OnOk result (r.new.graph.nodes ≡ r.old.graph.nodes) }
-    ensures grows { Grows r.old.graph r.new.graph }
-    ensures keeps { KeepsAggregates r.old.graph r.new.graph }
-    ensures env { env_in r.new ≡ env_in r.old }
+    ensures on { Onward r.old r.new }
 {
     match lines {
         [line, ..] => own_definition(r, left, declaration, line),
@@ -308,7 +291,7 @@ fn plain_global(r: &Reader, pool: &mut NamePool, x: &Declaration) -> Result<Glob
 }
 
 /// A global that the next line defines.
-#[tactic(auto, using(crate::proofs::GlobalLaws::defined_seen, crate::proofs::GlobalLaws::defined_known, crate::proofs::GlobalLaws::defined_fails, crate::proofs::PoolLaws::pool_same))]
+#[tactic(auto, using(crate::proofs::GlobalLaws::defined_seen, crate::proofs::GlobalLaws::defined_known, crate::proofs::GlobalLaws::defined_fails, crate::proofs::PoolLaws::pool_same, crate::proofs::OnwardLaws::onward_twice, crate::proofs::OnwardLaws::onward_env, crate::proofs::OnwardLaws::onward_grows, crate::proofs::OnwardLaws::onward_none))]
 fn defined_global(
     r: &mut Reader,
     pool: &mut NamePool,
@@ -321,9 +304,7 @@ fn defined_global(
     ensures known { IfOk result (GlobalKnown r.new.graph pool.new) }
     ensures pool { KeepsNames pool.old pool.new }
     ensures same { OnOk result (r.new.graph.nodes ≡ r.old.graph.nodes) }
-    ensures grows { Grows r.old.graph r.new.graph }
-    ensures keeps { KeepsAggregates r.old.graph r.new.graph }
-    ensures env { env_in r.new ≡ env_in r.old }
+    ensures on { Onward r.old r.new }
 {
     let def = next_definition(r, left, x, lines)?;
     Ok(global(pool, x, def)?)
@@ -340,7 +321,7 @@ fn waiting_at<'w, 'a>(lines: &'w [Vec<Word<'a>>]) -> Waiting<'w, 'a>
 }
 
 /// A global whose own line stands next.
-#[tactic(auto, using(crate::proofs::GlobalLaws::own_seen, crate::proofs::GlobalLaws::line_fails))]
+#[tactic(auto, using(crate::proofs::GlobalLaws::own_seen, crate::proofs::GlobalLaws::line_fails, crate::proofs::OnwardLaws::onward_twice, crate::proofs::OnwardLaws::onward_env, crate::proofs::OnwardLaws::onward_grows, crate::proofs::OnwardLaws::onward_none))]
 fn own_global<'w, 'a>(
     r: &mut Reader,
     pool: &mut NamePool,
@@ -354,9 +335,7 @@ fn own_global<'w, 'a>(
     ensures waiting { IfOk result (λ y. WaitingKnown y.1) }
     ensures pool { KeepsNames pool.old pool.new }
     ensures same { OnOk result (r.new.graph.nodes ≡ r.old.graph.nodes) }
-    ensures grows { Grows r.old.graph r.new.graph }
-    ensures keeps { KeepsAggregates r.old.graph r.new.graph }
-    ensures env { env_in r.new ≡ env_in r.old }
+    ensures on { Onward r.old r.new }
 {
     let global = defined_global(r, pool, left, x, lines)?;
     let waiting = waiting_at(behind_line(lines));
@@ -364,7 +343,7 @@ fn own_global<'w, 'a>(
 }
 
 /// A declared global with the line that stands next, if it is its own.
-#[tactic(auto, using(crate::proofs::GlobalLaws::plain_line, crate::proofs::GlobalLaws::own_line_next))]
+#[tactic(auto, using(crate::proofs::GlobalLaws::plain_line, crate::proofs::GlobalLaws::own_line_next, crate::proofs::OnwardLaws::onward_twice, crate::proofs::OnwardLaws::onward_env, crate::proofs::OnwardLaws::onward_grows, crate::proofs::OnwardLaws::onward_none))]
 fn next_global<'w, 'a>(
     r: &mut Reader,
     pool: &mut NamePool,
@@ -379,9 +358,7 @@ fn next_global<'w, 'a>(
     ensures waiting { IfOk result (λ y. WaitingKnown y.1) }
     ensures pool { KeepsNames pool.old pool.new }
     ensures same { OnOk result (r.new.graph.nodes ≡ r.old.graph.nodes) }
-    ensures grows { Grows r.old.graph r.new.graph }
-    ensures keeps { KeepsAggregates r.old.graph r.new.graph }
-    ensures env { env_in r.new ≡ env_in r.old }
+    ensures on { Onward r.old r.new }
 {
     if is_called(waiting.next, x.name) {
         return own_global(r, pool, left, x, waiting.lines);
@@ -390,7 +367,7 @@ fn next_global<'w, 'a>(
 }
 
 /// The declared globals, each with the line that stands next, if it is its own; and the lines behind those.
-#[tactic(auto, using(crate::proofs::GlobalLaws::declared_there, crate::proofs::GlobalLaws::declared_later, crate::proofs::GlobalLaws::no_globals, crate::proofs::GlobalLaws::globals_pushed, crate::proofs::GlobalLaws::objects_start, crate::proofs::GlobalLaws::objects_next, crate::proofs::GlobalLaws::objects_fail, crate::proofs::GlobalLaws::objects_end, crate::proofs::PoolLaws::pool_same, crate::proofs::PoolLaws::pool_twice, crate::proofs::GlobalLaws::keeps_twice, type_graph::proofs::GrowthLaws::grows_twice))]
+#[tactic(auto, using(crate::proofs::GlobalLaws::declared_there, crate::proofs::GlobalLaws::declared_later, crate::proofs::GlobalLaws::no_globals, crate::proofs::GlobalLaws::globals_pushed, crate::proofs::GlobalLaws::objects_start, crate::proofs::GlobalLaws::objects_next, crate::proofs::GlobalLaws::objects_fail, crate::proofs::GlobalLaws::objects_end, crate::proofs::PoolLaws::pool_same, crate::proofs::PoolLaws::pool_twice, crate::proofs::OnwardLaws::onward_twice, crate::proofs::OnwardLaws::onward_env, crate::proofs::OnwardLaws::onward_grows, crate::proofs::OnwardLaws::onward_none))]
 pub(crate) fn read_objects<'w, 'a>(
     r: &mut Reader,
     pool: &mut NamePool,
@@ -404,9 +381,7 @@ pub(crate) fn read_objects<'w, 'a>(
     ensures each { IfOk result (λ x. length x.0.items ≡ length declarations.now) }
     ensures pool { KeepsNames pool.old pool.new }
     ensures same { OnOk result (r.new.graph.nodes ≡ r.old.graph.nodes) }
-    ensures grows { Grows r.old.graph r.new.graph }
-    ensures keeps { KeepsAggregates r.old.graph r.new.graph }
-    ensures env { env_in r.new ≡ env_in r.old }
+    ensures on { Onward r.old r.new }
 {
     let mut globals = Vec::new(r.alloc());
     let mut waiting = waiting_at(lines);

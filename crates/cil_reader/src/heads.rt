@@ -2,38 +2,38 @@ ghost use Rattle.std.specs.Prelude.{◌≡◌, [], Some, None, IfOk, map, List, 
 ghost use Rattle.std.specs.Option.{option_map, option_and_then};
 ghost use Rattle.type_graph.specs.declared.nodes.Node.{Node};
 ghost use Rattle.type_graph.specs.Arena.{Graph};
-ghost use Rattle.type_graph.specs.Growth.{Grows, KeepsAggregates};
-ghost use Rattle.cil_tree.specs.Tree.{Do, Label, Goto};
-ghost use Rattle.cil_tree.specs.View.{exp_of};
+ghost use Rattle.cil_tree.specs.Tree.{Do, Label, Case, Goto};
+ghost use Rattle.cil_tree.specs.View.{exp_of, stmt_of};
 ghost use Rattle.cil_text.specs.ReadExps.{enclosed, read_exp};
 ghost use Rattle.cil_text.specs.ReadStmts.{Head as Line, Whole, Tested, Turned, is_end_of_line, read_tested, read_return, read_simple, read_head, read_heads, read_instr, read_number, case_of, label_text, is_label};
 ghost use Rattle.cil_text.specs.TypesOf.{AddsParts, types_in_exp};
 ghost use Rattle.cil_reader.specs.Added.{types_in_head, types_in_heads};
 ghost use Rattle.cil_reader.specs.Said.{all_said, all_lines};
 ghost use Rattle.cil_reader.specs.Gives.{Gives};
-ghost use Rattle.cil_reader.specs.Settings.{env_in};
+ghost use Rattle.cil_reader.specs.Settings.{Onward, env_in};
 ghost use Rattle.cil_reader.specs.Parts.{ExpKnown};
-ghost use Rattle.cil_reader.specs.Heads.{head_of, heads_of, HeadKnown, HeadsKnown, opens, opening, ends_opening, ends_case, labelled, brace_of, is_block, is_jump, block_line, jump_line};
+ghost use Rattle.cil_reader.specs.Heads.{head_of, heads_of, StmtKnown, HeadKnown, HeadsKnown, opens, opening, ends_opening, ends_case, labelled, brace_of, is_block, is_jump, block_line, jump_line};
 
 use crate::instructions::{is_end, read_instr};
 use crate::numbering::Numbering;
-use crate::numbers::read_number;
+use crate::numbers::{Numbered, read_number};
 use crate::operands::read_exp;
 use crate::parts::Operand;
 use crate::reader::Reader;
 use crate::stop::Stop;
 use crate::words::Word;
 use cil_base::LabelId;
+use cil_nodes::{boxed_statement, case, goto, label, return_value};
 use cil_tree::{Exp, Stmt};
 
 /// A line of a function's body (C11 6.8): a statement that is whole, or what opens or closes a block.
 #[derive(Drop)]
 pub(crate) enum Head {
-    Whole(Stmt),
+    Whole(Box<Stmt>),
     /// `if ( .. ) {`
-    Tested(Exp),
+    Tested(Box<Exp>),
     /// `switch ( .. ) {`
-    Turned(Exp),
+    Turned(Box<Exp>),
     /// `while ( 1 ) {`
     Looped,
     /// `{`
@@ -97,12 +97,10 @@ pub(crate) fn label_text<'w, 'a>(words: &'w [Word<'a>]) -> &'a [u8]
 /// Behind the `(` of an `if` or `switch`: its expression, and the end of its line.
 #[tactic(auto, using(crate::proofs::HeadsLaws::opened_gives, crate::proofs::HeadsLaws::opened_open, crate::proofs::HeadsLaws::opened_fails))]
 fn opened(r: &mut Reader, left: u32, words: &[Word]) -> Result<Operand, Stop>
-    ensures gives { Gives (λ x. exp_of r.new.graph.nodes x.exp) result (option_and_then opens (enclosed (λ e. e) (read_exp (env_in r.old) left (all_said words.now)))) }
-    ensures known { IfOk result (λ x. ExpKnown r.new.graph (env_in r.new) x.exp x.to) }
-    ensures grows { Grows r.old.graph r.new.graph }
-    ensures env { env_in r.new ≡ env_in r.old }
-    ensures keeps { KeepsAggregates r.old.graph r.new.graph }
-    ensures adds { IfOk result (λ x. AddsParts r.old.graph r.new.graph (types_in_exp (exp_of r.new.graph.nodes x.exp))) }
+    ensures gives { Gives (λ x. exp_of r.new.graph.nodes x.exp.value) result (option_and_then opens (enclosed (λ e. e) (read_exp (env_in r.old) left (all_said words.now)))) }
+    ensures known { IfOk result (λ x. ExpKnown r.new.graph (env_in r.new) x.exp.value x.to) }
+    ensures on { Onward r.old r.new }
+    ensures adds { IfOk result (λ x. AddsParts r.old.graph r.new.graph (types_in_exp (exp_of r.new.graph.nodes x.exp.value))) }
 {
     let (value, rest) = read_exp(r, left, words)?;
     if !ends_opening(rest) {
@@ -112,13 +110,12 @@ fn opened(r: &mut Reader, left: u32, words: &[Word]) -> Result<Operand, Stop>
 }
 
 /// The expression of an `if` or `switch` (C11 6.8.4), and the end of its line.
+#[tactic(auto, using(crate::proofs::OnwardLaws::onward_none))]
 fn opening(r: &mut Reader, left: u32, words: &[Word]) -> Result<Operand, Stop>
-    ensures gives { Gives (λ x. exp_of r.new.graph.nodes x.exp) result (opening (env_in r.old) left (all_said words.now)) }
-    ensures known { IfOk result (λ x. ExpKnown r.new.graph (env_in r.new) x.exp x.to) }
-    ensures grows { Grows r.old.graph r.new.graph }
-    ensures env { env_in r.new ≡ env_in r.old }
-    ensures keeps { KeepsAggregates r.old.graph r.new.graph }
-    ensures adds { IfOk result (λ x. AddsParts r.old.graph r.new.graph (types_in_exp (exp_of r.new.graph.nodes x.exp))) }
+    ensures gives { Gives (λ x. exp_of r.new.graph.nodes x.exp.value) result (opening (env_in r.old) left (all_said words.now)) }
+    ensures known { IfOk result (λ x. ExpKnown r.new.graph (env_in r.new) x.exp.value x.to) }
+    ensures on { Onward r.old r.new }
+    ensures adds { IfOk result (λ x. AddsParts r.old.graph r.new.graph (types_in_exp (exp_of r.new.graph.nodes x.exp.value))) }
 {
     match words {
         [Word::LeftParen, rest @ ..] => opened(r, left, rest),
@@ -131,9 +128,7 @@ fn opening(r: &mut Reader, left: u32, words: &[Word]) -> Result<Operand, Stop>
 fn read_if(r: &mut Reader, left: u32, words: &[Word]) -> Result<Head, Stop>
     ensures gives { Gives (λ h. head_of r.new.graph.nodes h) result (read_tested (env_in r.old) left Tested (all_said words.now)) }
     ensures known { IfOk result (HeadKnown r.new.graph) }
-    ensures grows { Grows r.old.graph r.new.graph }
-    ensures env { env_in r.new ≡ env_in r.old }
-    ensures keeps { KeepsAggregates r.old.graph r.new.graph }
+    ensures on { Onward r.old r.new }
     ensures adds { IfOk result (λ h. AddsParts r.old.graph r.new.graph (types_in_head (head_of r.new.graph.nodes h))) }
 {
     let test = opening(r, left, words)?;
@@ -145,9 +140,7 @@ fn read_if(r: &mut Reader, left: u32, words: &[Word]) -> Result<Head, Stop>
 fn read_switch(r: &mut Reader, left: u32, words: &[Word]) -> Result<Head, Stop>
     ensures gives { Gives (λ h. head_of r.new.graph.nodes h) result (read_tested (env_in r.old) left Turned (all_said words.now)) }
     ensures known { IfOk result (HeadKnown r.new.graph) }
-    ensures grows { Grows r.old.graph r.new.graph }
-    ensures env { env_in r.new ≡ env_in r.old }
-    ensures keeps { KeepsAggregates r.old.graph r.new.graph }
+    ensures on { Onward r.old r.new }
     ensures adds { IfOk result (λ h. AddsParts r.old.graph r.new.graph (types_in_head (head_of r.new.graph.nodes h))) }
 {
     let value = opening(r, left, words)?;
@@ -155,64 +148,43 @@ fn read_switch(r: &mut Reader, left: u32, words: &[Word]) -> Result<Head, Stop>
 }
 
 /// Behind `return` (C11 6.8.6.4).
-#[tactic(auto, using(crate::proofs::HeadsLaws::return_nothing, crate::proofs::HeadsLaws::return_gives, crate::proofs::HeadsLaws::return_open, crate::proofs::HeadsLaws::return_fails, crate::proofs::HeadsLaws::known_nothing, crate::proofs::HeadsLaws::known_return, cil_text::proofs::PartsAdded::adds_none))]
+#[tactic(auto, using(crate::proofs::HeadsLaws::return_nothing, crate::proofs::HeadsLaws::return_gives, crate::proofs::HeadsLaws::return_open, crate::proofs::HeadsLaws::return_fails, crate::proofs::HeadsLaws::known_nothing, crate::proofs::HeadsLaws::known_return, crate::proofs::OnwardLaws::onward_none, cil_text::proofs::PartsAdded::adds_none))]
 fn read_return(r: &mut Reader, left: u32, words: &[Word]) -> Result<Head, Stop>
     ensures gives { Gives (λ h. head_of r.new.graph.nodes h) result (read_return (env_in r.old) left (all_said words.now)) }
     ensures known { IfOk result (HeadKnown r.new.graph) }
-    ensures grows { Grows r.old.graph r.new.graph }
-    ensures env { env_in r.new ≡ env_in r.old }
-    ensures keeps { KeepsAggregates r.old.graph r.new.graph }
+    ensures on { Onward r.old r.new }
     ensures adds { IfOk result (λ h. AddsParts r.old.graph r.new.graph (types_in_head (head_of r.new.graph.nodes h))) }
 {
     if is_end_of_line(words) {
-        return Ok(Head::Whole(Stmt::Return(None)));
+        return whole(r, Stmt::Return(None));
     }
     let (value, rest) = read_exp(r, left, words)?;
     if !is_end(rest) {
         return Err(Stop::NotCil);
     }
-    Ok(Head::Whole(Stmt::Return(Some(value.exp))))
+    whole(r, return_value(value.exp))
 }
 
-/// Behind `case`: its value, and the end of its line.
+/// Behind `case`: its value, if its line ends behind it.
 #[tactic(auto, using(crate::proofs::HeadsLaws::case_gives, crate::proofs::HeadsLaws::case_open, crate::proofs::HeadsLaws::case_fails))]
-fn read_case(words: &[Word]) -> Option<Head>
-    ensures { (nodes : List Node) → option_map (head_of nodes) result ≡ option_and_then case_of (read_number (all_said words.now)) }
+fn read_case(words: &[Word]) -> Option<Numbered>
+    ensures { option_map (λ x. Whole (Case x.kind x.value)) result ≡ option_and_then case_of (read_number (all_said words.now)) }
 {
     let (number, rest) = read_number(words)?;
     if !ends_case(rest) {
         return None;
     }
-    Some(Head::Whole(Stmt::Case(number.kind, number.value)))
+    Some(number)
 }
 
-/// A label with a name that is among these.
-fn labelled(labels: &Numbering, name: &[u8]) -> Option<Head>
-    ensures { (nodes : List Node) → option_map (head_of nodes) result ≡ labelled labels.now Label name.now }
+/// A line that is a statement of its own.
+#[tactic(auto, using(crate::proofs::HeadsLaws::known_whole))]
+fn whole(r: &Reader, statement: Stmt) -> Result<Head, Stop>
+    requires { StmtKnown r.now.graph statement }
+    ensures gives { Gives (λ h. head_of r.now.graph.nodes h) result (Some (Whole (stmt_of r.now.graph.nodes statement))) }
+    ensures known { IfOk result (HeadKnown r.now.graph) }
 {
-    let number = labels.find(name)?;
-    Some(Head::Whole(Stmt::Label(LabelId(number))))
-}
-
-/// A jump to such a label.
-fn jump(labels: &Numbering, name: &[u8]) -> Option<Head>
-    ensures { (nodes : List Node) → option_map (head_of nodes) result ≡ labelled labels.now Goto name.now }
-{
-    let number = labels.find(name)?;
-    Some(Head::Whole(Stmt::Goto(LabelId(number))))
-}
-
-/// What does not depend on a graph, as a part of one.
-#[tactic(auto, using(crate::proofs::HeadsLaws::flat_known, cil_text::proofs::PartsAdded::adds_none))]
-fn told(r: &Reader, found: Option<Head>) -> Result<Head, Stop>
-    ensures gives { (o : Option Line) → ((nodes : List Node) → option_map (head_of nodes) found ≡ o) → Gives (λ h. head_of r.now.graph.nodes h) result o }
-    ensures known { (o : Option Line) → ((nodes : List Node) → option_map (head_of nodes) found ≡ o) → IfOk result (HeadKnown r.now.graph) }
-    ensures adds { IfOk result (λ h. AddsParts r.now.graph r.now.graph (types_in_head (head_of r.now.graph.nodes h))) }
-{
-    match found {
-        Some(head) => Ok(head),
-        None => Err(Stop::NotCil),
-    }
+    Ok(Head::Whole(boxed_statement(r.alloc(), statement)?))
 }
 
 /// A line that is an instruction.
@@ -220,50 +192,58 @@ fn told(r: &Reader, found: Option<Head>) -> Result<Head, Stop>
 fn whole_instr(r: &mut Reader, left: u32, words: &[Word]) -> Result<Head, Stop>
     ensures gives { Gives (λ h. head_of r.new.graph.nodes h) result (option_map (λ i. Whole (Do i)) (read_instr (env_in r.old) left (all_said words.now))) }
     ensures known { IfOk result (HeadKnown r.new.graph) }
-    ensures grows { Grows r.old.graph r.new.graph }
-    ensures env { env_in r.new ≡ env_in r.old }
-    ensures keeps { KeepsAggregates r.old.graph r.new.graph }
+    ensures on { Onward r.old r.new }
     ensures adds { IfOk result (λ h. AddsParts r.old.graph r.new.graph (types_in_head (head_of r.new.graph.nodes h))) }
 {
     let instr = read_instr(r, left, words)?;
-    Ok(Head::Whole(Stmt::Instr(instr)))
+    whole(r, Stmt::Instr(instr))
 }
 
 /// Behind `case` (C11 6.8.1): the line of a label.
+#[tactic(auto, using(crate::proofs::HeadsLaws::known_case, cil_text::proofs::PartsAdded::adds_none))]
 fn case_line(r: &Reader, words: &[Word]) -> Result<Head, Stop>
     ensures gives { Gives (λ h. head_of r.now.graph.nodes h) result (option_and_then case_of (read_number (all_said words.now))) }
     ensures known { IfOk result (HeadKnown r.now.graph) }
     ensures adds { IfOk result (λ h. AddsParts r.now.graph r.now.graph (types_in_head (head_of r.now.graph.nodes h))) }
 {
-    told(r, read_case(words))
+    match read_case(words) {
+        Some(number) => whole(r, case(number.kind, number.value)),
+        None => Err(Stop::NotCil),
+    }
 }
 
 /// Behind `goto` (C11 6.8.6.1): a jump to one of these labels.
+#[tactic(auto, using(crate::proofs::HeadsLaws::known_goto, cil_text::proofs::PartsAdded::adds_none))]
 fn goto_line(r: &Reader, labels: &Numbering, words: &[Word]) -> Result<Head, Stop>
     ensures gives { Gives (λ h. head_of r.now.graph.nodes h) result (labelled labels.now Goto (label_text (all_said words.now))) }
     ensures known { IfOk result (HeadKnown r.now.graph) }
     ensures adds { IfOk result (λ h. AddsParts r.now.graph r.now.graph (types_in_head (head_of r.now.graph.nodes h))) }
 {
-    told(r, jump(labels, label_text(words)))
+    match labels.find(label_text(words)) {
+        Some(number) => whole(r, goto(LabelId(number))),
+        None => Err(Stop::NotCil),
+    }
 }
 
 /// The line of one of these labels, whose name stands in front (C11 6.8.1).
+#[tactic(auto, using(crate::proofs::HeadsLaws::known_label, cil_text::proofs::PartsAdded::adds_none))]
 fn label_line(r: &Reader, labels: &Numbering, words: &[Word]) -> Result<Head, Stop>
     ensures gives { Gives (λ h. head_of r.now.graph.nodes h) result (labelled labels.now Label (label_text (all_said words.now))) }
     ensures known { IfOk result (HeadKnown r.now.graph) }
     ensures adds { IfOk result (λ h. AddsParts r.now.graph r.now.graph (types_in_head (head_of r.now.graph.nodes h))) }
 {
-    told(r, labelled(labels, label_text(words)))
+    match labels.find(label_text(words)) {
+        Some(number) => whole(r, label(LabelId(number))),
+        None => Err(Stop::NotCil),
+    }
 }
 
 /// A line that is a label or an instruction.
-#[tactic(auto, using(crate::proofs::HeadsLaws::simple_label, crate::proofs::HeadsLaws::simple_instr))]
+#[tactic(auto, using(crate::proofs::HeadsLaws::simple_label, crate::proofs::HeadsLaws::simple_instr, crate::proofs::OnwardLaws::onward_none))]
 fn read_simple(r: &mut Reader, labels: &Numbering, left: u32, words: &[Word]) -> Result<Head, Stop>
     ensures gives { Gives (λ h. head_of r.new.graph.nodes h) result (read_simple (env_in r.old) labels.now left (all_said words.now)) }
     ensures known { IfOk result (HeadKnown r.new.graph) }
-    ensures grows { Grows r.old.graph r.new.graph }
-    ensures env { env_in r.new ≡ env_in r.old }
-    ensures keeps { KeepsAggregates r.old.graph r.new.graph }
+    ensures on { Onward r.old r.new }
     ensures adds { IfOk result (λ h. AddsParts r.old.graph r.new.graph (types_in_head (head_of r.new.graph.nodes h))) }
 {
     if is_label(words) {
@@ -313,13 +293,11 @@ fn is_jump(words: &[Word]) -> bool
 }
 
 /// A line that opens a part of a statement, or closes one.
-#[tactic(auto, using(crate::proofs::HeadsLaws::known_looped, crate::proofs::HeadsLaws::known_opened, cil_text::proofs::PartsAdded::adds_none))]
+#[tactic(auto, using(crate::proofs::HeadsLaws::known_looped, crate::proofs::HeadsLaws::known_opened, cil_text::proofs::PartsAdded::adds_none, crate::proofs::OnwardLaws::onward_none))]
 fn block_line(r: &mut Reader, left: u32, words: &[Word]) -> Result<Head, Stop>
     ensures gives { Gives (λ h. head_of r.new.graph.nodes h) result (block_line (env_in r.old) left (all_said words.now)) }
     ensures known { IfOk result (HeadKnown r.new.graph) }
-    ensures grows { Grows r.old.graph r.new.graph }
-    ensures env { env_in r.new ≡ env_in r.old }
-    ensures keeps { KeepsAggregates r.old.graph r.new.graph }
+    ensures on { Onward r.old r.new }
     ensures adds { IfOk result (λ h. AddsParts r.old.graph r.new.graph (types_in_head (head_of r.new.graph.nodes h))) }
 {
     match words {
@@ -333,20 +311,18 @@ fn block_line(r: &mut Reader, left: u32, words: &[Word]) -> Result<Head, Stop>
 }
 
 /// A line with a case label or a jump.
-#[tactic(auto, using(crate::proofs::HeadsLaws::known_default, crate::proofs::HeadsLaws::known_break, cil_text::proofs::PartsAdded::adds_none))]
+#[tactic(auto, using(crate::proofs::HeadsLaws::known_default, crate::proofs::HeadsLaws::known_break, cil_text::proofs::PartsAdded::adds_none, crate::proofs::OnwardLaws::onward_none))]
 fn jump_line(r: &mut Reader, labels: &Numbering, left: u32, words: &[Word]) -> Result<Head, Stop>
     ensures gives { Gives (λ h. head_of r.new.graph.nodes h) result (jump_line (env_in r.old) labels.now left (all_said words.now)) }
     ensures known { IfOk result (HeadKnown r.new.graph) }
-    ensures grows { Grows r.old.graph r.new.graph }
-    ensures env { env_in r.new ≡ env_in r.old }
-    ensures keeps { KeepsAggregates r.old.graph r.new.graph }
+    ensures on { Onward r.old r.new }
     ensures adds { IfOk result (λ h. AddsParts r.old.graph r.new.graph (types_in_head (head_of r.new.graph.nodes h))) }
 {
     match words {
         [Word::CaseWord, rest @ ..] => case_line(r, rest),
-        [Word::DefaultWord, ..] => Ok(Head::Whole(Stmt::Default)),
+        [Word::DefaultWord, ..] => whole(r, Stmt::Default),
         [Word::GotoWord, rest @ ..] => goto_line(r, labels, rest),
-        [Word::BreakWord, ..] => Ok(Head::Whole(Stmt::Break)),
+        [Word::BreakWord, ..] => whole(r, Stmt::Break),
         [Word::ReturnWord, rest @ ..] => read_return(r, left, rest),
         _ => Err(Stop::NotCil),
     }
@@ -361,9 +337,7 @@ pub(crate) fn read_head(
 ) -> Result<Head, Stop>
     ensures gives { Gives (λ h. head_of r.new.graph.nodes h) result (read_head (env_in r.old) labels.now left (all_said words.now)) }
     ensures known { IfOk result (HeadKnown r.new.graph) }
-    ensures grows { Grows r.old.graph r.new.graph }
-    ensures env { env_in r.new ≡ env_in r.old }
-    ensures keeps { KeepsAggregates r.old.graph r.new.graph }
+    ensures on { Onward r.old r.new }
     ensures adds { IfOk result (λ h. AddsParts r.old.graph r.new.graph (types_in_head (head_of r.new.graph.nodes h))) }
 {
     if is_block(words) {
@@ -376,7 +350,7 @@ pub(crate) fn read_head(
 }
 
 /// The lines of a function's body whose labels have these names.
-#[tactic(auto, using(crate::proofs::HeadsLaws::heads_fail, crate::proofs::HeadsLaws::heads_end, crate::proofs::HeadsLaws::no_heads, type_graph::proofs::GrowthLaws::grows_twice, crate::proofs::GlobalLaws::keeps_twice, cil_text::proofs::PartsAdded::adds_none))]
+#[tactic(auto, using(crate::proofs::HeadsLaws::heads_fail, crate::proofs::HeadsLaws::heads_end, crate::proofs::HeadsLaws::no_heads, crate::proofs::OnwardLaws::onward_twice, crate::proofs::OnwardLaws::onward_none, cil_text::proofs::PartsAdded::adds_none))]
 pub(crate) fn read_heads(
     r: &mut Reader,
     labels: &Numbering,
@@ -385,9 +359,7 @@ pub(crate) fn read_heads(
 ) -> Result<Vec<Head>, Stop>
     ensures gives { Gives (λ hs. heads_of r.new.graph.nodes hs.items) result (read_heads (env_in r.old) labels.now left (all_lines lines.now)) }
     ensures known { IfOk result (λ hs. HeadsKnown r.new.graph hs.items) }
-    ensures grows { Grows r.old.graph r.new.graph }
-    ensures env { env_in r.new ≡ env_in r.old }
-    ensures keeps { KeepsAggregates r.old.graph r.new.graph }
+    ensures on { Onward r.old r.new }
     ensures adds { IfOk result (λ hs. AddsParts r.old.graph r.new.graph (types_in_heads (heads_of r.new.graph.nodes hs.items))) }
 {
     let mut heads = Vec::new(r.alloc());

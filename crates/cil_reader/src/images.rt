@@ -8,8 +8,8 @@ ghost use Rattle.cil_text.specs.ReadExps.{host_named};
 ghost use Rattle.cil_text.specs.ReadImages.{integer_of, integer_as, only_global, function_named, offset_at, read_path, read_address, read_pointer, read_converted, read_constant, read_item, read_items, only_item, is_brace, read_image};
 ghost use Rattle.cil_reader.specs.Said.{all_said};
 ghost use Rattle.cil_reader.specs.Gives.{Gives};
-ghost use Rattle.cil_reader.specs.Settings.{env_in, type_in, TypeBelow};
-ghost use Rattle.cil_reader.specs.Images.{path_step, path_behind, assigned, behind_item, items_of, item_more, offset_in, converted_from, constant_of};
+ghost use Rattle.cil_reader.specs.Settings.{Onward, env_in, type_in, TypeBelow};
+ghost use Rattle.cil_reader.specs.Images.{path_step, path_more, path_of, assigned, behind_item, items_of, item_more, offset_in, converted_from, constant_of};
 
 use crate::declarators::closing;
 use crate::numbers::read_number;
@@ -21,11 +21,14 @@ use crate::words::Word;
 use cil_base::{BinOp, Constant, EntityId, IntKind, TypeId};
 use cil_tree::{Host, ImageItem, Step};
 
-/// A path to a part of an object, and the type of the place that it leads to.
+/// A path to a part of an object, the type of the place that it leads to, what stands behind it, and whether `=` was
+/// read there.
 #[derive(Drop)]
-struct Path {
+struct Path<'w, 'a> {
     steps: Vec<Step>,
     ty: Option<TypeId>,
+    rest: &'w [Word<'a>],
+    ended: bool,
 }
 
 /// A step of a path, and the type of the place that it leads to.
@@ -84,48 +87,63 @@ fn one_step<'w, 'a>(
     }
 }
 
-/// The steps up to `=` behind those that were read.
-#[tactic(auto, using(crate::proofs::ImageLaws::path_none, crate::proofs::ImageLaws::path_end, crate::proofs::ImageLaws::path_fails, crate::proofs::ImageLaws::path_next))]
-fn path_on<'w, 'a>(
-    r: &Reader,
-    left: u32,
-    path: Path,
-    words: &'w [Word<'a>],
-) -> Result<(Path, &'w [Word<'a>]), Stop>
+/// One step more, or the `=` behind a path.
+#[tactic(auto, using(crate::proofs::ImageLaws::path_ended, crate::proofs::ImageLaws::path_open, crate::proofs::ImageLaws::path_stepped))]
+fn step_on<'w, 'a>(r: &Reader, path: Path<'w, 'a>) -> Result<Path<'w, 'a>, Stop>
     requires { TypeBelow (length r.now.graph.nodes) path.ty }
-    ensures gives { Gives (λ x. ((map step_of x.0.steps.items, type_in r.now.graph.nodes x.0.ty), all_said x.1.now)) result (option_map (path_behind (map step_of path.steps.items)) (read_path (env_in r.now) left (type_in r.now.graph.nodes path.ty) (all_said words.now))) }
-    ensures below { IfOk result (λ x. TypeBelow (length r.now.graph.nodes) x.0.ty) }
+    ensures gives { Gives (λ x. path_of r.now.graph.nodes x) result (path_more (env_in r.now) (map step_of path.entry.steps.items) (type_in r.now.graph.nodes path.entry.ty) (all_said path.entry.rest.now)) }
+    ensures below { IfOk result (λ x. TypeBelow (length r.now.graph.nodes) x.ty) }
 {
-    if left == 0 {
-        return Err(Stop::NotCil);
+    let mut steps = path.steps;
+    let ty = path.ty;
+    if let Some(rest) = assigned(path.rest) {
+        let ended = true;
+        return Ok(Path {
+            steps,
+            ty,
+            rest,
+            ended,
+        });
     }
-    if let Some(behind) = assigned(words) {
-        return Ok((path, behind));
-    }
-    let Some((stepped, rest)) = one_step(r, path.ty, words) else {
+    let Some((stepped, rest)) = one_step(r, ty, path.rest) else {
         return Err(Stop::NotCil);
     };
-    let mut steps = path.steps;
     steps.push(stepped.step)?;
-    let ty = stepped.ty;
-    path_on(r, left - 1, Path { steps, ty }, rest)
+    Ok(Path {
+        steps,
+        ty: stepped.ty,
+        rest,
+        ended: false,
+    })
 }
 
-/// The steps up to `=` from a place of a type.
-#[tactic(auto, using(crate::proofs::ImageLaws::path_start))]
+/// The steps up to `=` from a place of a type. Their number is bounded.
+#[tactic(auto, using(crate::proofs::ImageLaws::path_start, crate::proofs::ImageLaws::path_over, crate::proofs::ImageLaws::path_closed, crate::proofs::ImageLaws::path_stop))]
 fn read_path<'w, 'a>(
     r: &Reader,
     left: u32,
     ty: TypeId,
     words: &'w [Word<'a>],
-) -> Result<(Path, &'w [Word<'a>]), Stop>
+) -> Result<Path<'w, 'a>, Stop>
     requires { ty.0 < length r.now.graph.nodes }
-    ensures gives { Gives (λ x. ((map step_of x.0.steps.items, type_in r.now.graph.nodes x.0.ty), all_said x.1.now)) result (read_path (env_in r.now) left (Some (shape r.now.graph.nodes ty.0)) (all_said words.now)) }
-    ensures below { IfOk result (λ x. TypeBelow (length r.now.graph.nodes) x.0.ty) }
+    ensures gives { Gives (λ x. ((map step_of x.steps.items, type_in r.now.graph.nodes x.ty), all_said x.rest.now)) result (read_path (env_in r.now) left (Some (shape r.now.graph.nodes ty.0)) (all_said words.now)) }
+    ensures below { IfOk result (λ x. TypeBelow (length r.now.graph.nodes) x.ty) }
 {
-    let steps = Vec::new(r.alloc());
-    let ty = Some(ty);
-    path_on(r, left, Path { steps, ty }, words)
+    let mut path = Path {
+        steps: Vec::new(r.alloc()),
+        ty: Some(ty),
+        rest: words,
+        ended: false,
+    };
+    let mut turns = left;
+    while turns > 0 && !path.ended {
+        path = step_on(r, path)?;
+        turns -= 1;
+    }
+    if !path.ended {
+        return Err(Stop::NotCil);
+    }
+    Ok(path)
 }
 
 /// A number as a value of a kind, however it is spelled.
@@ -232,7 +250,7 @@ fn there<'w, 'a>(
 }
 
 /// Behind the `(` of a conversion: the type of the place, which is a pointer's, `)` and the pointer's value.
-#[tactic(auto, using(crate::proofs::ImageLaws::converted_next, crate::proofs::ImageLaws::converted_open, crate::proofs::ImageLaws::converted_fails))]
+#[tactic(auto, using(crate::proofs::ImageLaws::converted_next, crate::proofs::ImageLaws::converted_open, crate::proofs::ImageLaws::converted_fails, crate::proofs::OnwardLaws::onward_twice, crate::proofs::OnwardLaws::onward_env, crate::proofs::OnwardLaws::onward_grows, crate::proofs::OnwardLaws::onward_none))]
 fn read_converted<'w, 'a>(
     r: &mut Reader,
     left: u32,
@@ -242,9 +260,7 @@ fn read_converted<'w, 'a>(
     requires { ty.0 < length r.old.graph.nodes }
     ensures gives { Gives (λ x. (x.0, all_said x.1.now)) result (converted_from (env_in r.old) left (shape r.old.graph.nodes ty.0) (all_said words.now)) }
     ensures same { OnOk result (r.new.graph.nodes ≡ r.old.graph.nodes) }
-    ensures grows { Grows r.old.graph r.new.graph }
-    ensures keeps { KeepsAggregates r.old.graph r.new.graph }
-    ensures env { env_in r.new ≡ env_in r.old }
+    ensures on { Onward r.old r.new }
 {
     let rest = read_typed(r, left, ty, words)?;
     match closing(rest) {
@@ -254,6 +270,7 @@ fn read_converted<'w, 'a>(
 }
 
 /// The value of a pointer of a type.
+#[tactic(auto, using(crate::proofs::OnwardLaws::onward_none))]
 fn pointer_value<'w, 'a>(
     r: &mut Reader,
     left: u32,
@@ -263,9 +280,7 @@ fn pointer_value<'w, 'a>(
     requires { ty.0 < length r.old.graph.nodes }
     ensures gives { Gives (λ x. (x.0, all_said x.1.now)) result (read_converted (env_in r.old) left (shape r.old.graph.nodes ty.0) (all_said words.now)) }
     ensures same { OnOk result (r.new.graph.nodes ≡ r.old.graph.nodes) }
-    ensures grows { Grows r.old.graph r.new.graph }
-    ensures keeps { KeepsAggregates r.old.graph r.new.graph }
-    ensures env { env_in r.new ≡ env_in r.old }
+    ensures on { Onward r.old r.new }
 {
     match words {
         [Word::LeftParen, rest @ ..] => read_converted(r, left, ty, rest),
@@ -274,7 +289,7 @@ fn pointer_value<'w, 'a>(
 }
 
 /// The value of a scalar of a type.
-#[tactic(auto, using(crate::proofs::ImageLaws::scalar_int, crate::proofs::ImageLaws::scalar_pointer, crate::proofs::ImageLaws::scalar_other))]
+#[tactic(auto, using(crate::proofs::ImageLaws::scalar_int, crate::proofs::ImageLaws::scalar_pointer, crate::proofs::ImageLaws::scalar_other, crate::proofs::OnwardLaws::onward_twice, crate::proofs::OnwardLaws::onward_env, crate::proofs::OnwardLaws::onward_grows, crate::proofs::OnwardLaws::onward_none))]
 fn read_constant<'w, 'a>(
     r: &mut Reader,
     left: u32,
@@ -284,9 +299,7 @@ fn read_constant<'w, 'a>(
     requires { ty.0 < length r.old.graph.nodes }
     ensures gives { Gives (λ x. (x.0, all_said x.1.now)) result (read_constant (env_in r.old) left (Some (shape r.old.graph.nodes ty.0)) (all_said words.now)) }
     ensures same { OnOk result (r.new.graph.nodes ≡ r.old.graph.nodes) }
-    ensures grows { Grows r.old.graph r.new.graph }
-    ensures keeps { KeepsAggregates r.old.graph r.new.graph }
-    ensures env { env_in r.new ≡ env_in r.old }
+    ensures on { Onward r.old r.new }
 {
     match r.scalar(ty) {
         Scalar::Int(kind) => there(integer(kind, words)),
@@ -296,7 +309,7 @@ fn read_constant<'w, 'a>(
 }
 
 /// A path and its value.
-#[tactic(auto, using(crate::proofs::ImageLaws::item_gives, crate::proofs::ImageLaws::item_typeless, crate::proofs::ImageLaws::item_valueless, crate::proofs::ImageLaws::item_fails))]
+#[tactic(auto, using(crate::proofs::ImageLaws::item_gives, crate::proofs::ImageLaws::item_typeless, crate::proofs::ImageLaws::item_valueless, crate::proofs::ImageLaws::item_fails, crate::proofs::OnwardLaws::onward_twice, crate::proofs::OnwardLaws::onward_env, crate::proofs::OnwardLaws::onward_grows, crate::proofs::OnwardLaws::onward_none))]
 fn read_item<'w, 'a>(
     r: &mut Reader,
     left: u32,
@@ -306,15 +319,13 @@ fn read_item<'w, 'a>(
     requires { ty.0 < length r.old.graph.nodes }
     ensures gives { Gives (λ x. (item_of x.0, all_said x.1.now)) result (read_item (env_in r.old) left (Some (shape r.old.graph.nodes ty.0)) (all_said words.now)) }
     ensures same { OnOk result (r.new.graph.nodes ≡ r.old.graph.nodes) }
-    ensures grows { Grows r.old.graph r.new.graph }
-    ensures keeps { KeepsAggregates r.old.graph r.new.graph }
-    ensures env { env_in r.new ≡ env_in r.old }
+    ensures on { Onward r.old r.new }
 {
-    let (path, rest) = read_path(r, left, ty, words)?;
+    let path = read_path(r, left, ty, words)?;
     let Some(at) = path.ty else {
         return Err(Stop::NotCil);
     };
-    let (value, behind) = read_constant(r, left, at, rest)?;
+    let (value, behind) = read_constant(r, left, at, path.rest)?;
     let path = path.steps;
     Ok((ImageItem { path, value }, behind))
 }
@@ -331,7 +342,7 @@ fn behind_item<'w, 'a>(words: &'w [Word<'a>]) -> Option<(bool, &'w [Word<'a>])>
 }
 
 /// One item more.
-#[tactic(auto, using(crate::proofs::ImageLaws::item_end, crate::proofs::ImageLaws::item_open, crate::proofs::ImageLaws::item_none))]
+#[tactic(auto, using(crate::proofs::ImageLaws::item_end, crate::proofs::ImageLaws::item_open, crate::proofs::ImageLaws::item_none, crate::proofs::OnwardLaws::onward_twice, crate::proofs::OnwardLaws::onward_env, crate::proofs::OnwardLaws::onward_grows, crate::proofs::OnwardLaws::onward_none))]
 fn one_item<'w, 'a>(
     r: &mut Reader,
     left: u32,
@@ -341,9 +352,7 @@ fn one_item<'w, 'a>(
     requires { ty.0 < length r.old.graph.nodes }
     ensures gives { Gives (λ x. items_of x) result (item_more (map item_of items.entry.all.items) (read_item (env_in r.old) left (Some (shape r.old.graph.nodes ty.0)) (all_said items.entry.rest.now))) }
     ensures same { OnOk result (r.new.graph.nodes ≡ r.old.graph.nodes) }
-    ensures grows { Grows r.old.graph r.new.graph }
-    ensures keeps { KeepsAggregates r.old.graph r.new.graph }
-    ensures env { env_in r.new ≡ env_in r.old }
+    ensures on { Onward r.old r.new }
 {
     let (item, after) = read_item(r, left, ty, items.rest)?;
     let mut all = items.all;
@@ -355,7 +364,7 @@ fn one_item<'w, 'a>(
 }
 
 /// Behind `{`: items up to `}`.
-#[tactic(auto, using(crate::proofs::ImageLaws::items_start, crate::proofs::ImageLaws::items_stop, crate::proofs::ImageLaws::items_over, crate::proofs::PartsLaws::there_later, crate::proofs::GlobalLaws::keeps_twice, type_graph::proofs::GrowthLaws::grows_twice))]
+#[tactic(auto, using(crate::proofs::ImageLaws::items_start, crate::proofs::ImageLaws::items_stop, crate::proofs::ImageLaws::items_over, crate::proofs::PartsLaws::there_later, crate::proofs::OnwardLaws::onward_twice, crate::proofs::OnwardLaws::onward_env, crate::proofs::OnwardLaws::onward_grows, crate::proofs::OnwardLaws::onward_none))]
 fn read_items<'w, 'a>(
     r: &mut Reader,
     left: u32,
@@ -365,9 +374,7 @@ fn read_items<'w, 'a>(
     requires { ty.0 < length r.old.graph.nodes }
     ensures gives { Gives (λ x. (map item_of x.0.items, all_said x.1.now)) result (read_items (env_in r.old) left left (Some (shape r.old.graph.nodes ty.0)) (all_said words.now)) }
     ensures same { OnOk result (r.new.graph.nodes ≡ r.old.graph.nodes) }
-    ensures grows { Grows r.old.graph r.new.graph }
-    ensures keeps { KeepsAggregates r.old.graph r.new.graph }
-    ensures env { env_in r.new ≡ env_in r.old }
+    ensures on { Onward r.old r.new }
 {
     let mut items = Items {
         all: Vec::new(r.alloc()),
@@ -384,7 +391,7 @@ fn read_items<'w, 'a>(
 }
 
 /// The one value of a scalar.
-#[tactic(auto, using(crate::proofs::ImageLaws::only_gives, crate::proofs::ImageLaws::only_fails))]
+#[tactic(auto, using(crate::proofs::ImageLaws::only_gives, crate::proofs::ImageLaws::only_fails, crate::proofs::OnwardLaws::onward_twice, crate::proofs::OnwardLaws::onward_env, crate::proofs::OnwardLaws::onward_grows, crate::proofs::OnwardLaws::onward_none))]
 fn only_value<'w, 'a>(
     r: &mut Reader,
     left: u32,
@@ -394,9 +401,7 @@ fn only_value<'w, 'a>(
     requires { ty.0 < length r.old.graph.nodes }
     ensures gives { Gives (λ x. (map item_of x.0.items, all_said x.1.now)) result (option_map only_item (read_constant (env_in r.old) left (Some (shape r.old.graph.nodes ty.0)) (all_said words.now))) }
     ensures same { OnOk result (r.new.graph.nodes ≡ r.old.graph.nodes) }
-    ensures grows { Grows r.old.graph r.new.graph }
-    ensures keeps { KeepsAggregates r.old.graph r.new.graph }
-    ensures env { env_in r.new ≡ env_in r.old }
+    ensures on { Onward r.old r.new }
 {
     let (value, rest) = read_constant(r, left, ty, words)?;
     let path = Vec::new(r.alloc());
@@ -416,7 +421,7 @@ fn is_brace(words: &[Word]) -> bool
 }
 
 /// Behind `=`: an object's scalars in braces, or the one value of a scalar (C11 6.7.9).
-#[tactic(auto, using(crate::proofs::ImageLaws::image_braced, crate::proofs::ImageLaws::image_single))]
+#[tactic(auto, using(crate::proofs::ImageLaws::image_braced, crate::proofs::ImageLaws::image_single, crate::proofs::OnwardLaws::onward_twice, crate::proofs::OnwardLaws::onward_env, crate::proofs::OnwardLaws::onward_grows, crate::proofs::OnwardLaws::onward_none))]
 pub(crate) fn read_image<'w, 'a>(
     r: &mut Reader,
     left: u32,
@@ -426,9 +431,7 @@ pub(crate) fn read_image<'w, 'a>(
     requires { ty.0 < length r.old.graph.nodes }
     ensures gives { Gives (λ x. (map item_of x.0.items, all_said x.1.now)) result (read_image (env_in r.old) left (Some (shape r.old.graph.nodes ty.0)) (all_said words.now)) }
     ensures same { OnOk result (r.new.graph.nodes ≡ r.old.graph.nodes) }
-    ensures grows { Grows r.old.graph r.new.graph }
-    ensures keeps { KeepsAggregates r.old.graph r.new.graph }
-    ensures env { env_in r.new ≡ env_in r.old }
+    ensures on { Onward r.old r.new }
 {
     if is_brace(words) {
         return read_items(r, left, ty, skip_one(words));

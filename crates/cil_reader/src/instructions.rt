@@ -1,18 +1,18 @@
-ghost use Rattle.std.specs.Prelude.{◌≡◌, ◌++◌, Some, None, IfOk};
+ghost use Rattle.std.specs.Prelude.{◌≡◌, ◌++◌, Some, None, IfOk, List};
 ghost use Rattle.std.specs.Option.{option_map, option_and_then};
 ghost use Rattle.std.specs.Str.{bytes_eq};
+ghost use Rattle.type_graph.specs.declared.nodes.Node.{Node};
 ghost use Rattle.type_graph.specs.Arena.{Graph};
-ghost use Rattle.type_graph.specs.Growth.{Grows, KeepsAggregates};
-ghost use Rattle.cil_tree.specs.Tree.{Set};
-ghost use Rattle.cil_tree.specs.View.{exp_of, lval_of, instr_of, callee_of as callee_seen};
+ghost use Rattle.cil_tree.specs.Tree.{Set, Call};
+ghost use Rattle.cil_tree.specs.View.{exp_of, lval_of, instr_of, callee_of};
 ghost use Rattle.cil_text.specs.ReadExps.{read_exp, read_place};
 ghost use Rattle.cil_text.specs.ReadStmts.{line_end, zero_from, read_call, read_assigned, read_effect, read_instr, memset, is_zero, opens_address, behind_address};
 ghost use Rattle.cil_text.specs.TypesOf.{AddsParts, types_in_exp, types_in_place, types_in_result, types_in_callee, types_in_instr};
 ghost use Rattle.cil_reader.specs.Said.{all_said};
 ghost use Rattle.cil_reader.specs.Gives.{Gives};
-ghost use Rattle.cil_reader.specs.Settings.{env_in};
+ghost use Rattle.cil_reader.specs.Settings.{Onward, env_in};
 ghost use Rattle.cil_reader.specs.Parts.{ExpKnown, PlaceKnown};
-ghost use Rattle.cil_reader.specs.Instructions.{result_of, ResultKnown, CalleeKnown, InstrKnown, IsCallee, IsCalled, is_end};
+ghost use Rattle.cil_reader.specs.Instructions.{args_of, called_seen, result_of, ResultKnown, CalleeKnown, InstrKnown, IsCallee, IsCalled, is_end};
 
 use crate::arguments::read_args;
 use crate::operands::{read_exp, read_place};
@@ -20,8 +20,16 @@ use crate::parts::{Located, Operand};
 use crate::reader::Reader;
 use crate::stop::Stop;
 use crate::words::Word;
-use cil_base::BinOp;
+use cil_base::{BinOp, EntityId};
+use cil_nodes::{direct, set, through, zero};
 use cil_tree::{Callee, Exp, Host, Instr, Lval};
+
+/// What is called: a function by its name, or what a pointer points to.
+#[derive(Drop)]
+pub(crate) enum Called {
+    Direct(EntityId),
+    Through(Box<Exp>),
+}
 
 /// Whether a line ends here.
 pub(crate) fn is_end(words: &[Word]) -> bool
@@ -76,7 +84,7 @@ fn behind_address<'w, 'a>(words: &'w [Word<'a>]) -> &'w [Word<'a>]
 
 /// What is called where a place stands before `(`: a function by its name, or what a pointer points to.
 #[tactic(auto, using(crate::proofs::InstructionLaws::direct_is, crate::proofs::InstructionLaws::through_is, crate::proofs::InstructionLaws::var_is, crate::proofs::InstructionLaws::part_is))]
-fn callee_of(place: Lval) -> Option<Callee>
+fn callee_of(place: Lval) -> Option<Called>
     ensures { IsCallee place result }
 {
     let Lval { host, offsets } = place;
@@ -84,50 +92,65 @@ fn callee_of(place: Lval) -> Option<Callee>
         return None;
     }
     match host {
-        Host::Global(function) => Some(Callee::Direct(function)),
-        Host::At(pointer) => Some(Callee::Through(Box::into_inner(pointer))),
+        Host::Global(function) => Some(Called::Direct(function)),
+        Host::At(pointer) => Some(Called::Through(pointer)),
         Host::Var(_) => None,
     }
 }
 
 /// What is called where an expression stands before `(`.
 #[tactic(auto, using(crate::proofs::InstructionLaws::called_is))]
-fn called_place(value: Exp) -> Option<Callee>
-    ensures { IsCalled value result }
+fn called_place(value: Box<Exp>) -> Option<Called>
+    ensures { IsCalled value.value result }
 {
-    match value {
+    match Box::into_inner(value) {
         Exp::Lval(place) => callee_of(place),
         _ => None,
     }
 }
 
+/// What is called, as a call has it.
+fn callee(called: Called) -> Callee
+    ensures { (nodes : List Node) → callee_of nodes result ≡ called_seen nodes called }
+{
+    match called {
+        Called::Direct(function) => direct(function),
+        Called::Through(pointer) => through(pointer),
+    }
+}
+
+/// A call of its parts.
+fn call(to: Option<Lval>, called: Called, args: Vec<Exp>) -> Instr
+    ensures { (nodes : List Node) → instr_of nodes result ≡ Call (result_of nodes to) (called_seen nodes called) (args_of nodes args.items) }
+{
+    Instr::Call(to, callee(called), args)
+}
+
 /// Behind the `(` of a call: its arguments, `)` and the end of the line.
-#[tactic(auto, using(crate::proofs::InstructionLaws::call_gives, crate::proofs::InstructionLaws::call_open, crate::proofs::InstructionLaws::call_fails, crate::proofs::InstructionLaws::call_known, crate::proofs::AddedTrees::call_adds))]
+#[tactic(auto, using(crate::proofs::InstructionLaws::call_gives, crate::proofs::InstructionLaws::call_open, crate::proofs::InstructionLaws::call_fails, crate::proofs::InstructionLaws::call_known, crate::proofs::AddedTrees::call_adds, crate::proofs::OnwardLaws::onward_grows))]
 fn read_call(
     r: &mut Reader,
     left: u32,
     to: Option<Lval>,
-    callee: Callee,
+    callee: Called,
     words: &[Word],
 ) -> Result<Instr, Stop>
     requires to { ResultKnown r.old.graph to }
     requires callee { CalleeKnown r.old.graph callee }
-    ensures gives { Gives (λ i. instr_of r.new.graph.nodes i) result (read_call (read_exp (env_in r.old) left) left (result_of r.old.graph.nodes to) (callee_seen r.old.graph.nodes callee) (all_said words.now)) }
+    ensures gives { Gives (λ i. instr_of r.new.graph.nodes i) result (read_call (read_exp (env_in r.old) left) left (result_of r.old.graph.nodes to) (called_seen r.old.graph.nodes callee) (all_said words.now)) }
     ensures known { IfOk result (InstrKnown r.new.graph) }
-    ensures grows { Grows r.old.graph r.new.graph }
-    ensures env { env_in r.new ≡ env_in r.old }
-    ensures keeps { KeepsAggregates r.old.graph r.new.graph }
-    ensures adds { (f : Graph) → AddsParts f r.old.graph (types_in_result (result_of r.old.graph.nodes to) ++ types_in_callee (callee_seen r.old.graph.nodes callee)) → IfOk result (λ i. AddsParts f r.new.graph (types_in_instr (instr_of r.new.graph.nodes i))) }
+    ensures on { Onward r.old r.new }
+    ensures adds { (f : Graph) → AddsParts f r.old.graph (types_in_result (result_of r.old.graph.nodes to) ++ types_in_callee (called_seen r.old.graph.nodes callee)) → IfOk result (λ i. AddsParts f r.new.graph (types_in_instr (instr_of r.new.graph.nodes i))) }
 {
     let (args, rest) = read_args(r, left, words)?;
     if !is_end(rest) {
         return Err(Stop::NotCil);
     }
-    Ok(Instr::Call(to, callee, args))
+    Ok(call(to, callee, args))
 }
 
 /// Behind the expression that is assigned: the end of the line, or a call's arguments (C11 6.5.16.1).
-#[tactic(auto, using(crate::proofs::InstructionLaws::called_next, crate::proofs::InstructionLaws::called_none, crate::proofs::InstructionLaws::called_known, crate::proofs::InstructionLaws::result_known, crate::proofs::AddedTrees::called_adds))]
+#[tactic(auto, using(crate::proofs::InstructionLaws::called_next, crate::proofs::InstructionLaws::called_none, crate::proofs::InstructionLaws::called_known, crate::proofs::InstructionLaws::result_known, crate::proofs::OnwardLaws::onward_none))]
 fn read_assigned(
     r: &mut Reader,
     left: u32,
@@ -136,13 +159,11 @@ fn read_assigned(
     words: &[Word],
 ) -> Result<Instr, Stop>
     requires place { PlaceKnown r.old.graph (env_in r.old) x.place x.ty }
-    requires operand { ExpKnown r.old.graph (env_in r.old) value.exp value.to }
-    ensures gives { Gives (λ i. instr_of r.new.graph.nodes i) result (read_assigned (read_exp (env_in r.old) left) left (lval_of r.old.graph.nodes x.place) (exp_of r.old.graph.nodes value.exp) (all_said words.now)) }
+    requires operand { ExpKnown r.old.graph (env_in r.old) value.exp.value value.to }
+    ensures gives { Gives (λ i. instr_of r.new.graph.nodes i) result (read_assigned (read_exp (env_in r.old) left) left (lval_of r.old.graph.nodes x.place) (exp_of r.old.graph.nodes value.exp.value) (all_said words.now)) }
     ensures known { IfOk result (InstrKnown r.new.graph) }
-    ensures grows { Grows r.old.graph r.new.graph }
-    ensures env { env_in r.new ≡ env_in r.old }
-    ensures keeps { KeepsAggregates r.old.graph r.new.graph }
-    ensures adds { (f : Graph) → AddsParts f r.old.graph (types_in_place (lval_of r.old.graph.nodes x.place) ++ types_in_exp (exp_of r.old.graph.nodes value.exp)) → IfOk result (λ i. AddsParts f r.new.graph (types_in_instr (instr_of r.new.graph.nodes i))) }
+    ensures on { Onward r.old r.new }
+    ensures adds { (f : Graph) → AddsParts f r.old.graph (types_in_place (lval_of r.old.graph.nodes x.place) ++ types_in_exp (exp_of r.old.graph.nodes value.exp.value)) → IfOk result (λ i. AddsParts f r.new.graph (types_in_instr (instr_of r.new.graph.nodes i))) }
 {
     match words {
         [Word::LeftParen, rest @ ..] => match called_place(value.exp) {
@@ -157,26 +178,24 @@ fn read_assigned(
 #[tactic(auto, using(crate::proofs::InstructionLaws::ended, crate::proofs::InstructionLaws::unended, crate::proofs::InstructionLaws::set_known))]
 fn stored(r: &Reader, x: Located, value: Operand, words: &[Word]) -> Result<Instr, Stop>
     requires place { PlaceKnown r.now.graph (env_in r.now) x.place x.ty }
-    requires operand { ExpKnown r.now.graph (env_in r.now) value.exp value.to }
-    ensures gives { Gives (λ i. instr_of r.now.graph.nodes i) result (line_end (Set (lval_of r.now.graph.nodes x.place) (exp_of r.now.graph.nodes value.exp)) (all_said words.now)) }
+    requires operand { ExpKnown r.now.graph (env_in r.now) value.exp.value value.to }
+    ensures gives { Gives (λ i. instr_of r.now.graph.nodes i) result (line_end (Set (lval_of r.now.graph.nodes x.place) (exp_of r.now.graph.nodes value.exp.value)) (all_said words.now)) }
     ensures known { IfOk result (InstrKnown r.now.graph) }
-    ensures adds { (f : Graph) → AddsParts f r.now.graph (types_in_place (lval_of r.now.graph.nodes x.place) ++ types_in_exp (exp_of r.now.graph.nodes value.exp)) → IfOk result (λ i. AddsParts f r.now.graph (types_in_instr (instr_of r.now.graph.nodes i))) }
+    ensures adds { (f : Graph) → AddsParts f r.now.graph (types_in_place (lval_of r.now.graph.nodes x.place) ++ types_in_exp (exp_of r.now.graph.nodes value.exp.value)) → IfOk result (λ i. AddsParts f r.now.graph (types_in_instr (instr_of r.now.graph.nodes i))) }
 {
     if !is_end(words) {
         return Err(Stop::NotCil);
     }
-    Ok(Instr::Set(x.place, value.exp))
+    Ok(set(x.place, value.exp))
 }
 
 /// Behind `=`: an expression, or a call.
-#[tactic(auto, using(crate::proofs::InstructionLaws::assigned_next, crate::proofs::InstructionLaws::assigned_fails, crate::proofs::PartsLaws::place_later, type_graph::proofs::GrowthLaws::grows_twice, crate::proofs::GlobalLaws::keeps_twice, crate::proofs::AddedTrees::assigned_adds))]
+#[tactic(auto, using(crate::proofs::InstructionLaws::assigned_next, crate::proofs::InstructionLaws::assigned_fails, crate::proofs::PartsLaws::place_later, crate::proofs::OnwardLaws::onward_twice, crate::proofs::AddedTrees::assigned_adds, crate::proofs::OnwardLaws::onward_grows))]
 fn read_assignment(r: &mut Reader, left: u32, x: Located, words: &[Word]) -> Result<Instr, Stop>
     requires { PlaceKnown r.old.graph (env_in r.old) x.place x.ty }
     ensures gives { Gives (λ i. instr_of r.new.graph.nodes i) result (option_and_then (λ y. read_assigned (read_exp (env_in r.old) left) left (lval_of r.old.graph.nodes x.place) y.0 y.1) (read_exp (env_in r.old) left (all_said words.now))) }
     ensures known { IfOk result (InstrKnown r.new.graph) }
-    ensures grows { Grows r.old.graph r.new.graph }
-    ensures env { env_in r.new ≡ env_in r.old }
-    ensures keeps { KeepsAggregates r.old.graph r.new.graph }
+    ensures on { Onward r.old r.new }
     ensures adds { (f : Graph) → AddsParts f r.old.graph (types_in_place (lval_of r.old.graph.nodes x.place)) → IfOk result (λ i. AddsParts f r.new.graph (types_in_instr (instr_of r.new.graph.nodes i))) }
 {
     let (value, rest) = read_exp(r, left, words)?;
@@ -184,14 +203,12 @@ fn read_assignment(r: &mut Reader, left: u32, x: Located, words: &[Word]) -> Res
 }
 
 /// Behind the place in front of an instruction: what is assigned to it, or the arguments of a call.
-#[tactic(auto, using(crate::proofs::InstructionLaws::callee_next, crate::proofs::InstructionLaws::callee_none, crate::proofs::InstructionLaws::callee_known, crate::proofs::InstructionLaws::no_result, crate::proofs::AddedTrees::callee_adds))]
+#[tactic(auto, using(crate::proofs::InstructionLaws::callee_next, crate::proofs::InstructionLaws::callee_none, crate::proofs::InstructionLaws::callee_known, crate::proofs::InstructionLaws::no_result, crate::proofs::AddedTrees::callee_adds, crate::proofs::OnwardLaws::onward_none))]
 fn read_effect(r: &mut Reader, left: u32, x: Located, words: &[Word]) -> Result<Instr, Stop>
     requires { PlaceKnown r.old.graph (env_in r.old) x.place x.ty }
     ensures gives { Gives (λ i. instr_of r.new.graph.nodes i) result (read_effect (read_exp (env_in r.old) left) left (lval_of r.old.graph.nodes x.place) (all_said words.now)) }
     ensures known { IfOk result (InstrKnown r.new.graph) }
-    ensures grows { Grows r.old.graph r.new.graph }
-    ensures env { env_in r.new ≡ env_in r.old }
-    ensures keeps { KeepsAggregates r.old.graph r.new.graph }
+    ensures on { Onward r.old r.new }
     ensures adds { (f : Graph) → AddsParts f r.old.graph (types_in_place (lval_of r.old.graph.nodes x.place)) → IfOk result (λ i. AddsParts f r.new.graph (types_in_instr (instr_of r.new.graph.nodes i))) }
 {
     match words {
@@ -209,23 +226,19 @@ fn read_effect(r: &mut Reader, left: u32, x: Located, words: &[Word]) -> Result<
 fn read_zero(r: &mut Reader, left: u32, words: &[Word]) -> Result<Instr, Stop>
     ensures gives { Gives (λ i. instr_of r.new.graph.nodes i) result (option_and_then zero_from (read_place (env_in r.old) (read_exp (env_in r.old) left) left (all_said words.now))) }
     ensures known { IfOk result (InstrKnown r.new.graph) }
-    ensures grows { Grows r.old.graph r.new.graph }
-    ensures env { env_in r.new ≡ env_in r.old }
-    ensures keeps { KeepsAggregates r.old.graph r.new.graph }
+    ensures on { Onward r.old r.new }
     ensures adds { IfOk result (λ i. AddsParts r.old.graph r.new.graph (types_in_instr (instr_of r.new.graph.nodes i))) }
 {
     let (x, _rest) = read_place(r, left, words)?;
-    Ok(Instr::Zero(x.place))
+    Ok(zero(x.place))
 }
 
 /// A line that is an instruction.
-#[tactic(auto, using(crate::proofs::InstructionLaws::instr_zero, crate::proofs::InstructionLaws::instr_next, crate::proofs::InstructionLaws::instr_fails, type_graph::proofs::GrowthLaws::grows_twice, crate::proofs::GlobalLaws::keeps_twice))]
+#[tactic(auto, using(crate::proofs::InstructionLaws::instr_zero, crate::proofs::InstructionLaws::instr_next, crate::proofs::InstructionLaws::instr_fails, crate::proofs::OnwardLaws::onward_twice))]
 pub(crate) fn read_instr(r: &mut Reader, left: u32, words: &[Word]) -> Result<Instr, Stop>
     ensures gives { Gives (λ i. instr_of r.new.graph.nodes i) result (read_instr (env_in r.old) left (all_said words.now)) }
     ensures known { IfOk result (InstrKnown r.new.graph) }
-    ensures grows { Grows r.old.graph r.new.graph }
-    ensures env { env_in r.new ≡ env_in r.old }
-    ensures keeps { KeepsAggregates r.old.graph r.new.graph }
+    ensures on { Onward r.old r.new }
     ensures adds { IfOk result (λ i. AddsParts r.old.graph r.new.graph (types_in_instr (instr_of r.new.graph.nodes i))) }
 {
     if is_zero(words) {

@@ -1,15 +1,16 @@
 ghost use Rattle.std.specs.Prelude.{◌≡◌, ◌++◌, ◌∷◌, [], Some, None, if◌then◌else◌, List, IfOk};
-ghost use Rattle.std.specs.Option.{option_map};
 ghost use Rattle.cil_tree.specs.Tree.{Switch, Loop, Block};
-ghost use Rattle.cil_tree.specs.View.{exp_of, stmt_of, stmts_of};
+ghost use Rattle.cil_tree.specs.View.{exp_of, stmts_of};
 ghost use Rattle.cil_text.specs.ReadStmts.{Head as Line, read_nested};
 ghost use Rattle.cil_reader.specs.Gives.{Gives};
 ghost use Rattle.cil_reader.specs.Heads.{head_of};
-ghost use Rattle.cil_reader.specs.Nesting.{waiting, closed_next, otherwise_next, part_read, two_parts, one_read, IsIf, IsMade, IfMade, BlockMade, switch_on, always, Carries, CarriesOne};
+ghost use Rattle.cil_reader.specs.declared.heads.Head.TheVariants as seen;
+ghost use Rattle.cil_reader.specs.Nesting.{waiting, closed_next, otherwise_next, part_read, two_parts, one_read, one_if, one_block, maybe_seen, Carries, CarriesOne};
 
 use crate::heads::Head;
 use crate::reader::Reader;
 use crate::stop::Stop;
+use cil_nodes::{boxed_statement, if_else, looped, push_statement, switch};
 use cil_tree::{Exp, Stmt};
 
 /// Whether a line closes a block.
@@ -99,88 +100,91 @@ fn both_parts(r: &Reader, lines: &mut Vec<Head>, left: u32) -> Result<(Vec<Stmt>
     Ok((holds, fails))
 }
 
-/// An `if` of its test and its parts, where those were read.
-fn with_parts(
+/// An `if` with this test: its parts (C11 6.8.4.1).
+#[cycle(nesting)]
+#[tactic(auto, using(crate::proofs::NestingLaws::made_if, crate::proofs::NestingLaws::if_fails, crate::proofs::CarryLaws::carries_if))]
+fn read_if(
     r: &Reader,
-    test: Exp,
-    parts: Result<(Vec<Stmt>, Vec<Stmt>), Stop>,
-) -> Result<Option<Stmt>, Stop>
-    ensures is { IsIf r.now.graph.nodes test parts result }
-    ensures made { IfMade test parts result }
+    lines: &mut Vec<Head>,
+    left: u32,
+    test: Box<Exp>,
+) -> Result<Option<Box<Stmt>>, Stop>
+    ensures gives { Gives (λ o. (maybe_seen r.now.graph.nodes o, waiting r.now.graph.nodes lines.new.items)) result (one_if (read_nested left) (exp_of r.now.graph.nodes test.value) (waiting r.now.graph.nodes lines.old.items)) }
+    ensures known { IfOk result (λ o. CarriesOne r.now.graph (lines.old.items ++ seen.Tested test ∷ []) lines.new.items o) }
 {
-    match parts {
-        Ok((holds, fails)) => Ok(Some(Stmt::If(test, holds, fails))),
-        Err(stop) => Err(stop),
-    }
+    let (holds, fails) = both_parts(r, lines, left)?;
+    let statement = boxed_statement(r.alloc(), if_else(test, holds, fails))?;
+    Ok(Some(statement))
 }
 
-/// A `switch` of its value and its block, where that was read.
-fn with_block(r: &Reader, value: Exp, block: Result<Vec<Stmt>, Stop>) -> Result<Option<Stmt>, Stop>
-    ensures is { IsMade r.now.graph.nodes (Switch (exp_of r.now.graph.nodes value)) block result }
-    ensures made { BlockMade (switch_on value) block result }
+/// A `switch` on this value: its block (C11 6.8.4.2).
+#[cycle(nesting)]
+#[tactic(auto, using(crate::proofs::NestingLaws::made_switch, crate::proofs::NestingLaws::block_fails, crate::proofs::CarryLaws::carries_switch))]
+fn read_switch(
+    r: &Reader,
+    lines: &mut Vec<Head>,
+    left: u32,
+    value: Box<Exp>,
+) -> Result<Option<Box<Stmt>>, Stop>
+    ensures gives { Gives (λ o. (maybe_seen r.now.graph.nodes o, waiting r.now.graph.nodes lines.new.items)) result (one_block (read_nested left) (Switch (exp_of r.now.graph.nodes value.value)) (waiting r.now.graph.nodes lines.old.items)) }
+    ensures known { IfOk result (λ o. CarriesOne r.now.graph (lines.old.items ++ seen.Turned value ∷ []) lines.new.items o) }
 {
-    match block {
-        Ok(stmts) => Ok(Some(Stmt::Switch(value, stmts))),
-        Err(stop) => Err(stop),
-    }
+    let body = block(r, lines, left)?;
+    let statement = boxed_statement(r.alloc(), switch(value, body))?;
+    Ok(Some(statement))
 }
 
-/// A `while` of its block, where that was read.
-fn with_loop(r: &Reader, block: Result<Vec<Stmt>, Stop>) -> Result<Option<Stmt>, Stop>
-    ensures is { IsMade r.now.graph.nodes Loop block result }
-    ensures made { BlockMade (always Loop) block result }
+/// A `while`: its block (C11 6.8.5).
+#[cycle(nesting)]
+#[tactic(auto, using(crate::proofs::NestingLaws::made_loop, crate::proofs::NestingLaws::block_fails, crate::proofs::CarryLaws::carries_loop))]
+fn read_loop(r: &Reader, lines: &mut Vec<Head>, left: u32) -> Result<Option<Box<Stmt>>, Stop>
+    ensures gives { Gives (λ o. (maybe_seen r.now.graph.nodes o, waiting r.now.graph.nodes lines.new.items)) result (one_block (read_nested left) Loop (waiting r.now.graph.nodes lines.old.items)) }
+    ensures known { IfOk result (λ o. CarriesOne r.now.graph (lines.old.items ++ seen.Looped ∷ []) lines.new.items o) }
 {
-    match block {
-        Ok(stmts) => Ok(Some(Stmt::Loop(stmts))),
-        Err(stop) => Err(stop),
-    }
+    let body = block(r, lines, left)?;
+    let statement = boxed_statement(r.alloc(), looped(body))?;
+    Ok(Some(statement))
 }
 
-/// A block, where it was read.
-fn with_inner(r: &Reader, block: Result<Vec<Stmt>, Stop>) -> Result<Option<Stmt>, Stop>
-    ensures is { IsMade r.now.graph.nodes Block block result }
-    ensures made { BlockMade (always Block) block result }
+/// A block: its statements (C11 6.8.2).
+#[cycle(nesting)]
+#[tactic(auto, using(crate::proofs::NestingLaws::made_inner, crate::proofs::NestingLaws::block_fails, crate::proofs::CarryLaws::carries_block))]
+fn read_inner(r: &Reader, lines: &mut Vec<Head>, left: u32) -> Result<Option<Box<Stmt>>, Stop>
+    ensures gives { Gives (λ o. (maybe_seen r.now.graph.nodes o, waiting r.now.graph.nodes lines.new.items)) result (one_block (read_nested left) Block (waiting r.now.graph.nodes lines.old.items)) }
+    ensures known { IfOk result (λ o. CarriesOne r.now.graph (lines.old.items ++ seen.Opened ∷ []) lines.new.items o) }
 {
-    match block {
-        Ok(stmts) => Ok(Some(Stmt::Block(stmts))),
-        Err(stop) => Err(stop),
-    }
+    let body = block(r, lines, left)?;
+    let statement = boxed_statement(r.alloc(), cil_nodes::block(body))?;
+    Ok(Some(statement))
+}
+
+/// A line that belongs to what holds these statements: it is left.
+#[tactic(auto, using(crate::proofs::CarryLaws::carries_same))]
+fn put_back(r: &Reader, lines: &mut Vec<Head>, line: Head) -> Result<Option<Box<Stmt>>, Stop>
+    ensures gives { Gives (λ o. lines.new.items) result (Some (lines.old.items ++ line ∷ [])) }
+    ensures nothing { IfOk result (λ o. o ≡ None) }
+    ensures known { IfOk result (λ o. CarriesOne r.now.graph (lines.old.items ++ line ∷ []) lines.new.items o) }
+{
+    lines.push(line)?;
+    Ok(None)
 }
 
 /// A statement, if one stands next (C11 6.8).
 #[cycle(nesting)]
-#[tactic(auto, using(crate::proofs::NestingLaws::if_gives, crate::proofs::NestingLaws::if_fails, crate::proofs::NestingLaws::block_gives, crate::proofs::NestingLaws::block_fails, crate::proofs::CarryLaws::carries_same, crate::proofs::CarryLaws::carries_whole, crate::proofs::CarryLaws::carries_if, crate::proofs::CarryLaws::carries_switch, crate::proofs::CarryLaws::carries_block))]
-fn one_statement(r: &Reader, lines: &mut Vec<Head>, left: u32) -> Result<Option<Stmt>, Stop>
-    ensures gives { Gives (λ o. (option_map (stmt_of r.now.graph.nodes) o, waiting r.now.graph.nodes lines.new.items)) result (one_read (read_nested left) (waiting r.now.graph.nodes lines.old.items)) }
+#[tactic(auto, using(crate::proofs::NestingLaws::waiting_more, crate::proofs::CarryLaws::carries_same, crate::proofs::CarryLaws::carries_whole))]
+fn one_statement(r: &Reader, lines: &mut Vec<Head>, left: u32) -> Result<Option<Box<Stmt>>, Stop>
+    ensures gives { Gives (λ o. (maybe_seen r.now.graph.nodes o, waiting r.now.graph.nodes lines.new.items)) result (one_read (read_nested left) (waiting r.now.graph.nodes lines.old.items)) }
     ensures known { IfOk result (λ o. CarriesOne r.now.graph lines.old.items lines.new.items o) }
 {
     match lines.pop() {
         None => Ok(None),
         Some(Head::Whole(s)) => Ok(Some(s)),
-        Some(Head::Tested(test)) => {
-            let parts = both_parts(r, lines, left);
-            with_parts(r, test, parts)
-        }
-        Some(Head::Turned(value)) => {
-            let block = block(r, lines, left);
-            with_block(r, value, block)
-        }
-        Some(Head::Looped) => {
-            let block = block(r, lines, left);
-            with_loop(r, block)
-        }
-        Some(Head::Opened) => {
-            let block = block(r, lines, left);
-            with_inner(r, block)
-        }
-        Some(Head::Otherwise) => {
-            lines.push(Head::Otherwise)?;
-            Ok(None)
-        }
-        Some(Head::Closed) => {
-            lines.push(Head::Closed)?;
-            Ok(None)
-        }
+        Some(Head::Tested(test)) => read_if(r, lines, left, test),
+        Some(Head::Turned(value)) => read_switch(r, lines, left, value),
+        Some(Head::Looped) => read_loop(r, lines, left),
+        Some(Head::Opened) => read_inner(r, lines, left),
+        Some(Head::Otherwise) => put_back(r, lines, Head::Otherwise),
+        Some(Head::Closed) => put_back(r, lines, Head::Closed),
     }
 }
 
@@ -195,7 +199,7 @@ pub(crate) fn read_nested(r: &Reader, lines: &mut Vec<Head>, left: u32) -> Resul
     for step in 0..left {
         match one_statement(r, lines, left - 1 - step)? {
             None => return Ok(stmts),
-            Some(s) => stmts.push(s)?,
+            Some(s) => push_statement(&mut stmts, s)?,
         }
     }
     Err(Stop::NotCil)

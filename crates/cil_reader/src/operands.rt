@@ -1,44 +1,63 @@
-ghost use Rattle.std.specs.Prelude.{◌≡◌, ◌<◌, Some, IfOk, IfSome, length, [], ◌∷◌};
+ghost use Rattle.std.specs.Prelude.{◌≡◌, ◌<◌, Some, IfOk, length, [], ◌∷◌};
 ghost use Rattle.std.specs.Option.{option_map, option_and_then};
 ghost use Rattle.type_graph.specs.Shapes.{shape};
 ghost use Rattle.type_graph.specs.Arena.{Graph};
-ghost use Rattle.type_graph.specs.Growth.{Grows, KeepsAggregates};
 ghost use Rattle.cil_tree.specs.Tree.{Un, Bin, Cast, AddrOf, At, Place, Here};
 ghost use Rattle.cil_tree.specs.View.{exp_of, host_of, lval_of};
 ghost use Rattle.cil_text.specs.Words.{LeftParen};
 ghost use Rattle.cil_text.specs.ReadTypes.{read_decl};
-ghost use Rattle.cil_text.specs.ReadExps.{enclosed, read_exp, read_formed, read_chosen, read_place, read_host, read_offsets, read_cast, read_binary, read_right, type_at_host, find_named, fields, in_brackets};
+ghost use Rattle.cil_text.specs.ReadExps.{enclosed, read_exp, read_formed, read_chosen, read_place, read_host, read_offsets, read_cast, read_binary, read_right, type_at_host, host_named, find_named, fields, in_brackets};
 ghost use Rattle.cil_text.specs.TypesOf.{AddsParts, types_in_exp, types_in_host, types_in_place};
 ghost use Rattle.cil_reader.specs.Said.{all_said};
 ghost use Rattle.cil_reader.specs.Gives.{Gives};
-ghost use Rattle.cil_reader.specs.Settings.{env_in, type_in};
-ghost use Rattle.cil_reader.specs.Parts.{ExpKnown, HostKnown, PlaceKnown, exp_within, form_said, part_behind, one_step, to_field, to_element};
+ghost use Rattle.cil_reader.specs.Settings.{Onward, env_in, type_in};
+ghost use Rattle.cil_reader.specs.Parts.{ExpKnown, HostKnown, PlaceKnown, constant_read, host_read, exp_within, form_said, part_behind, walked, one_step, to_field, to_element};
 
 use crate::declarators::closing;
 use crate::parts::{
-    Based, Form, Located, Operand, bracketed, chosen, form_of, is_offset, skip_one, with_address,
-    with_base, with_binary, with_cast, with_element, with_member, with_pointer, with_unary,
+    Based, Form, Located, Operand, bracketed, chosen, form_of, is_offset, skip_one,
+    step_to_element, step_to_member, with_address, with_base, with_binary, with_cast,
+    with_constant, with_pointer, with_unary,
 };
 use crate::reader::Reader;
 use crate::stop::Stop;
 use crate::words::Word;
-use cil_base::{BinOp, TypeId, UnOp};
-use cil_tree::Exp;
+use cil_base::{BinOp, IntKind, TypeId, UnOp};
+
+/// A place with its type, and what stands behind it.
+#[derive(Drop)]
+struct Walk<'w, 'a> {
+    located: Located,
+    rest: &'w [Word<'a>],
+}
+
+/// A constant, and what stands behind it.
+#[tactic(auto, using(cil_text::proofs::PartsAdded::adds_none))]
+fn one_constant<'w, 'a>(
+    r: &Reader,
+    kind: IntKind,
+    n: u64,
+    rest: &'w [Word<'a>],
+) -> Result<(Operand, &'w [Word<'a>]), Stop>
+    ensures gives { Gives (λ x. (exp_of r.now.graph.nodes x.0.exp.value, all_said x.1.now)) result (constant_read kind n (all_said rest.now)) }
+    ensures known { IfOk result (λ x. ExpKnown r.now.graph (env_in r.now) x.0.exp.value x.0.to) }
+    ensures adds { IfOk result (λ x. AddsParts r.now.graph r.now.graph (types_in_exp (exp_of r.now.graph.nodes x.0.exp.value))) }
+{
+    Ok((with_constant(r, kind, n)?, rest))
+}
 
 /// An expression (C11 6.5). What stands within it is read with one step less.
 #[cycle(expression)]
-#[tactic(auto, using(crate::proofs::OperandLaws::exp_none, crate::proofs::OperandLaws::exp_step))]
+#[tactic(auto, using(crate::proofs::OperandLaws::exp_none, crate::proofs::OperandLaws::exp_step, crate::proofs::OnwardLaws::onward_none))]
 pub(crate) fn read_exp<'w, 'a>(
     r: &mut Reader,
     left: u32,
     words: &'w [Word<'a>],
 ) -> Result<(Operand, &'w [Word<'a>]), Stop>
-    ensures gives { Gives (λ x. (exp_of r.new.graph.nodes x.0.exp, all_said x.1.now)) result (read_exp (env_in r.old) left (all_said words.now)) }
-    ensures known { IfOk result (λ x. ExpKnown r.new.graph (env_in r.new) x.0.exp x.0.to) }
-    ensures grows { Grows r.old.graph r.new.graph }
-    ensures env { env_in r.new ≡ env_in r.old }
-    ensures keeps { KeepsAggregates r.old.graph r.new.graph }
-    ensures adds { IfOk result (λ x. AddsParts r.old.graph r.new.graph (types_in_exp (exp_of r.new.graph.nodes x.0.exp))) }
+    ensures gives { Gives (λ x. (exp_of r.new.graph.nodes x.0.exp.value, all_said x.1.now)) result (read_exp (env_in r.old) left (all_said words.now)) }
+    ensures known { IfOk result (λ x. ExpKnown r.new.graph (env_in r.new) x.0.exp.value x.0.to) }
+    ensures on { Onward r.old r.new }
+    ensures adds { IfOk result (λ x. AddsParts r.old.graph r.new.graph (types_in_exp (exp_of r.new.graph.nodes x.0.exp.value))) }
 {
     if left == 0 {
         return Err(Stop::NotCil);
@@ -48,24 +67,19 @@ pub(crate) fn read_exp<'w, 'a>(
 
 /// An expression, within which others are read with so many steps.
 #[cycle(expression)]
-#[tactic(auto, using(crate::proofs::PartsLaws::known_const, cil_text::proofs::PartsAdded::adds_none))]
+#[tactic(auto, using(crate::proofs::OnwardLaws::onward_none))]
 fn exp_within<'w, 'a>(
     r: &mut Reader,
     left: u32,
     words: &'w [Word<'a>],
 ) -> Result<(Operand, &'w [Word<'a>]), Stop>
-    ensures gives { Gives (λ x. (exp_of r.new.graph.nodes x.0.exp, all_said x.1.now)) result (exp_within (env_in r.old) left (all_said words.now)) }
-    ensures known { IfOk result (λ x. ExpKnown r.new.graph (env_in r.new) x.0.exp x.0.to) }
-    ensures grows { Grows r.old.graph r.new.graph }
-    ensures env { env_in r.new ≡ env_in r.old }
-    ensures keeps { KeepsAggregates r.old.graph r.new.graph }
-    ensures adds { IfOk result (λ x. AddsParts r.old.graph r.new.graph (types_in_exp (exp_of r.new.graph.nodes x.0.exp))) }
+    ensures gives { Gives (λ x. (exp_of r.new.graph.nodes x.0.exp.value, all_said x.1.now)) result (exp_within (env_in r.old) left (all_said words.now)) }
+    ensures known { IfOk result (λ x. ExpKnown r.new.graph (env_in r.new) x.0.exp.value x.0.to) }
+    ensures on { Onward r.old r.new }
+    ensures adds { IfOk result (λ x. AddsParts r.old.graph r.new.graph (types_in_exp (exp_of r.new.graph.nodes x.0.exp.value))) }
 {
     match words {
-        [Word::Number(kind, n), rest @ ..] => {
-            let exp = Exp::Const(*kind, *n);
-            Ok((Operand { exp, to: None }, rest))
-        }
+        [Word::Number(kind, n), rest @ ..] => one_constant(r, *kind, *n, rest),
         [Word::Name(_), ..] => read_chosen(r, left, words),
         [Word::LeftParen, rest @ ..] => read_formed(r, left, form_of(rest), words, rest),
         _ => Err(Stop::NotCil),
@@ -82,12 +96,10 @@ fn read_formed<'w, 'a>(
     inner: &'w [Word<'a>],
 ) -> Result<(Operand, &'w [Word<'a>]), Stop>
     requires { all_said words.now ≡ LeftParen ∷ all_said inner.now }
-    ensures gives { Gives (λ x. (exp_of r.new.graph.nodes x.0.exp, all_said x.1.now)) result (read_formed (env_in r.old) (read_exp (env_in r.old) left) (read_decl (env_in r.old).tags left) left (form_said form) (all_said inner.now)) }
-    ensures known { IfOk result (λ x. ExpKnown r.new.graph (env_in r.new) x.0.exp x.0.to) }
-    ensures grows { Grows r.old.graph r.new.graph }
-    ensures env { env_in r.new ≡ env_in r.old }
-    ensures keeps { KeepsAggregates r.old.graph r.new.graph }
-    ensures adds { IfOk result (λ x. AddsParts r.old.graph r.new.graph (types_in_exp (exp_of r.new.graph.nodes x.0.exp))) }
+    ensures gives { Gives (λ x. (exp_of r.new.graph.nodes x.0.exp.value, all_said x.1.now)) result (read_formed (env_in r.old) (read_exp (env_in r.old) left) (read_decl (env_in r.old).tags left) left (form_said form) (all_said inner.now)) }
+    ensures known { IfOk result (λ x. ExpKnown r.new.graph (env_in r.new) x.0.exp.value x.0.to) }
+    ensures on { Onward r.old r.new }
+    ensures adds { IfOk result (λ x. AddsParts r.old.graph r.new.graph (types_in_exp (exp_of r.new.graph.nodes x.0.exp.value))) }
 {
     match form {
         Form::Negated => one_operand(r, left, UnOp::Neg, skip_one(inner)),
@@ -109,12 +121,10 @@ fn one_operand<'w, 'a>(
     op: UnOp,
     words: &'w [Word<'a>],
 ) -> Result<(Operand, &'w [Word<'a>]), Stop>
-    ensures gives { Gives (λ x. (exp_of r.new.graph.nodes x.0.exp, all_said x.1.now)) result (enclosed (Un op) (read_exp (env_in r.old) left (all_said words.now))) }
-    ensures known { IfOk result (λ x. ExpKnown r.new.graph (env_in r.new) x.0.exp x.0.to) }
-    ensures grows { Grows r.old.graph r.new.graph }
-    ensures env { env_in r.new ≡ env_in r.old }
-    ensures keeps { KeepsAggregates r.old.graph r.new.graph }
-    ensures adds { IfOk result (λ x. AddsParts r.old.graph r.new.graph (types_in_exp (exp_of r.new.graph.nodes x.0.exp))) }
+    ensures gives { Gives (λ x. (exp_of r.new.graph.nodes x.0.exp.value, all_said x.1.now)) result (enclosed (Un op) (read_exp (env_in r.old) left (all_said words.now))) }
+    ensures known { IfOk result (λ x. ExpKnown r.new.graph (env_in r.new) x.0.exp.value x.0.to) }
+    ensures on { Onward r.old r.new }
+    ensures adds { IfOk result (λ x. AddsParts r.old.graph r.new.graph (types_in_exp (exp_of r.new.graph.nodes x.0.exp.value))) }
 {
     let (operand, rest) = read_exp(r, left, words)?;
     let Some(behind) = closing(rest) else {
@@ -131,18 +141,16 @@ fn read_address<'w, 'a>(
     left: u32,
     words: &'w [Word<'a>],
 ) -> Result<(Operand, &'w [Word<'a>]), Stop>
-    ensures gives { Gives (λ x. (exp_of r.new.graph.nodes x.0.exp, all_said x.1.now)) result (enclosed AddrOf (read_place (env_in r.old) (read_exp (env_in r.old) left) left (all_said words.now))) }
-    ensures known { IfOk result (λ x. ExpKnown r.new.graph (env_in r.new) x.0.exp x.0.to) }
-    ensures grows { Grows r.old.graph r.new.graph }
-    ensures env { env_in r.new ≡ env_in r.old }
-    ensures keeps { KeepsAggregates r.old.graph r.new.graph }
-    ensures adds { IfOk result (λ x. AddsParts r.old.graph r.new.graph (types_in_exp (exp_of r.new.graph.nodes x.0.exp))) }
+    ensures gives { Gives (λ x. (exp_of r.new.graph.nodes x.0.exp.value, all_said x.1.now)) result (enclosed AddrOf (read_place (env_in r.old) (read_exp (env_in r.old) left) left (all_said words.now))) }
+    ensures known { IfOk result (λ x. ExpKnown r.new.graph (env_in r.new) x.0.exp.value x.0.to) }
+    ensures on { Onward r.old r.new }
+    ensures adds { IfOk result (λ x. AddsParts r.old.graph r.new.graph (types_in_exp (exp_of r.new.graph.nodes x.0.exp.value))) }
 {
     let (located, rest) = read_place(r, left, words)?;
     let Some(behind) = closing(rest) else {
         return Err(Stop::NotCil);
     };
-    Ok((with_address(r, located), behind))
+    Ok((with_address(r, located)?, behind))
 }
 
 /// A place in an expression.
@@ -153,31 +161,27 @@ fn read_chosen<'w, 'a>(
     left: u32,
     words: &'w [Word<'a>],
 ) -> Result<(Operand, &'w [Word<'a>]), Stop>
-    ensures gives { Gives (λ x. (exp_of r.new.graph.nodes x.0.exp, all_said x.1.now)) result (read_chosen (env_in r.old) (read_exp (env_in r.old) left) left (all_said words.now)) }
-    ensures known { IfOk result (λ x. ExpKnown r.new.graph (env_in r.new) x.0.exp x.0.to) }
-    ensures grows { Grows r.old.graph r.new.graph }
-    ensures env { env_in r.new ≡ env_in r.old }
-    ensures keeps { KeepsAggregates r.old.graph r.new.graph }
-    ensures adds { IfOk result (λ x. AddsParts r.old.graph r.new.graph (types_in_exp (exp_of r.new.graph.nodes x.0.exp))) }
+    ensures gives { Gives (λ x. (exp_of r.new.graph.nodes x.0.exp.value, all_said x.1.now)) result (read_chosen (env_in r.old) (read_exp (env_in r.old) left) left (all_said words.now)) }
+    ensures known { IfOk result (λ x. ExpKnown r.new.graph (env_in r.new) x.0.exp.value x.0.to) }
+    ensures on { Onward r.old r.new }
+    ensures adds { IfOk result (λ x. AddsParts r.old.graph r.new.graph (types_in_exp (exp_of r.new.graph.nodes x.0.exp.value))) }
 {
     let (located, rest) = read_place(r, left, words)?;
-    Ok((chosen(r, located), rest))
+    Ok((chosen(r, located)?, rest))
 }
 
 /// Behind the `(` of a type's name: the rest of a conversion (C11 6.5.4).
 #[cycle(expression)]
-#[tactic(auto, using(crate::proofs::OperandLaws::cast_next, crate::proofs::OperandLaws::cast_open, crate::proofs::OperandLaws::cast_fails, type_graph::proofs::GrowthLaws::grows_twice, crate::proofs::GlobalLaws::keeps_twice))]
+#[tactic(auto, using(crate::proofs::OperandLaws::cast_next, crate::proofs::OperandLaws::cast_open, crate::proofs::OperandLaws::cast_fails, crate::proofs::OnwardLaws::onward_twice, crate::proofs::OnwardLaws::onward_env))]
 fn read_cast<'w, 'a>(
     r: &mut Reader,
     left: u32,
     words: &'w [Word<'a>],
 ) -> Result<(Operand, &'w [Word<'a>]), Stop>
-    ensures gives { Gives (λ x. (exp_of r.new.graph.nodes x.0.exp, all_said x.1.now)) result (read_cast (read_exp (env_in r.old) left) (read_decl (env_in r.old).tags left) (all_said words.now)) }
-    ensures known { IfOk result (λ x. ExpKnown r.new.graph (env_in r.new) x.0.exp x.0.to) }
-    ensures grows { Grows r.old.graph r.new.graph }
-    ensures env { env_in r.new ≡ env_in r.old }
-    ensures keeps { KeepsAggregates r.old.graph r.new.graph }
-    ensures adds { IfOk result (λ x. AddsParts r.old.graph r.new.graph (types_in_exp (exp_of r.new.graph.nodes x.0.exp))) }
+    ensures gives { Gives (λ x. (exp_of r.new.graph.nodes x.0.exp.value, all_said x.1.now)) result (read_cast (read_exp (env_in r.old) left) (read_decl (env_in r.old).tags left) (all_said words.now)) }
+    ensures known { IfOk result (λ x. ExpKnown r.new.graph (env_in r.new) x.0.exp.value x.0.to) }
+    ensures on { Onward r.old r.new }
+    ensures adds { IfOk result (λ x. AddsParts r.old.graph r.new.graph (types_in_exp (exp_of r.new.graph.nodes x.0.exp.value))) }
 {
     let (named, rest) = r.read_decl(left, words)?;
     let Some(behind) = closing(rest) else {
@@ -188,7 +192,7 @@ fn read_cast<'w, 'a>(
 
 /// What is converted to a type, and `)`.
 #[cycle(expression)]
-#[tactic(auto, using(crate::proofs::OperandLaws::enclosed_gives, crate::proofs::OperandLaws::enclosed_open, crate::proofs::OperandLaws::enclosed_fails, crate::proofs::PartsLaws::there_later, type_graph::proofs::ShapeLaws::kept, crate::proofs::AddedTrees::cast_adds))]
+#[tactic(auto, using(crate::proofs::OperandLaws::enclosed_gives, crate::proofs::OperandLaws::enclosed_open, crate::proofs::OperandLaws::enclosed_fails, crate::proofs::OnwardLaws::onward_grows, crate::proofs::PartsLaws::there_later, type_graph::proofs::ShapeLaws::kept, crate::proofs::AddedTrees::cast_adds))]
 fn cast_operand<'w, 'a>(
     r: &mut Reader,
     left: u32,
@@ -196,12 +200,10 @@ fn cast_operand<'w, 'a>(
     words: &'w [Word<'a>],
 ) -> Result<(Operand, &'w [Word<'a>]), Stop>
     requires { to.0 < length r.old.graph.nodes }
-    ensures gives { Gives (λ x. (exp_of r.new.graph.nodes x.0.exp, all_said x.1.now)) result (enclosed (Cast (Some (shape r.old.graph.nodes to.0))) (read_exp (env_in r.old) left (all_said words.now))) }
-    ensures known { IfOk result (λ x. ExpKnown r.new.graph (env_in r.new) x.0.exp x.0.to) }
-    ensures grows { Grows r.old.graph r.new.graph }
-    ensures env { env_in r.new ≡ env_in r.old }
-    ensures keeps { KeepsAggregates r.old.graph r.new.graph }
-    ensures adds { (f : Graph) → AddsParts f r.old.graph (shape r.old.graph.nodes to.0 ∷ []) → IfOk result (λ x. AddsParts f r.new.graph (types_in_exp (exp_of r.new.graph.nodes x.0.exp))) }
+    ensures gives { Gives (λ x. (exp_of r.new.graph.nodes x.0.exp.value, all_said x.1.now)) result (enclosed (Cast (Some (shape r.old.graph.nodes to.0))) (read_exp (env_in r.old) left (all_said words.now))) }
+    ensures known { IfOk result (λ x. ExpKnown r.new.graph (env_in r.new) x.0.exp.value x.0.to) }
+    ensures on { Onward r.old r.new }
+    ensures adds { (f : Graph) → AddsParts f r.old.graph (shape r.old.graph.nodes to.0 ∷ []) → IfOk result (λ x. AddsParts f r.new.graph (types_in_exp (exp_of r.new.graph.nodes x.0.exp.value))) }
 {
     let (operand, rest) = read_exp(r, left, words)?;
     let Some(behind) = closing(rest) else {
@@ -212,18 +214,16 @@ fn cast_operand<'w, 'a>(
 
 /// An expression, an operator, another one and `)` (C11 6.5.5 to 6.5.12).
 #[cycle(expression)]
-#[tactic(auto, using(crate::proofs::OperandLaws::binary_next, crate::proofs::OperandLaws::binary_fails, type_graph::proofs::GrowthLaws::grows_twice, crate::proofs::GlobalLaws::keeps_twice))]
+#[tactic(auto, using(crate::proofs::OperandLaws::binary_next, crate::proofs::OperandLaws::binary_fails, crate::proofs::OnwardLaws::onward_twice, crate::proofs::OnwardLaws::onward_env))]
 fn read_binary<'w, 'a>(
     r: &mut Reader,
     left: u32,
     words: &'w [Word<'a>],
 ) -> Result<(Operand, &'w [Word<'a>]), Stop>
-    ensures gives { Gives (λ x. (exp_of r.new.graph.nodes x.0.exp, all_said x.1.now)) result (read_binary (read_exp (env_in r.old) left) (all_said words.now)) }
-    ensures known { IfOk result (λ x. ExpKnown r.new.graph (env_in r.new) x.0.exp x.0.to) }
-    ensures grows { Grows r.old.graph r.new.graph }
-    ensures env { env_in r.new ≡ env_in r.old }
-    ensures keeps { KeepsAggregates r.old.graph r.new.graph }
-    ensures adds { IfOk result (λ x. AddsParts r.old.graph r.new.graph (types_in_exp (exp_of r.new.graph.nodes x.0.exp))) }
+    ensures gives { Gives (λ x. (exp_of r.new.graph.nodes x.0.exp.value, all_said x.1.now)) result (read_binary (read_exp (env_in r.old) left) (all_said words.now)) }
+    ensures known { IfOk result (λ x. ExpKnown r.new.graph (env_in r.new) x.0.exp.value x.0.to) }
+    ensures on { Onward r.old r.new }
+    ensures adds { IfOk result (λ x. AddsParts r.old.graph r.new.graph (types_in_exp (exp_of r.new.graph.nodes x.0.exp.value))) }
 {
     let (operand, rest) = read_exp(r, left, words)?;
     read_right(r, left, operand, rest)
@@ -231,19 +231,18 @@ fn read_binary<'w, 'a>(
 
 /// Behind the left operand: the operator, the right one and `)`.
 #[cycle(expression)]
+#[tactic(auto, using(crate::proofs::OnwardLaws::onward_none))]
 fn read_right<'w, 'a>(
     r: &mut Reader,
     left: u32,
     x: Operand,
     words: &'w [Word<'a>],
 ) -> Result<(Operand, &'w [Word<'a>]), Stop>
-    requires { ExpKnown r.old.graph (env_in r.old) x.exp x.to }
-    ensures gives { Gives (λ x. (exp_of r.new.graph.nodes x.0.exp, all_said x.1.now)) result (read_right (read_exp (env_in r.old) left) (exp_of r.old.graph.nodes x.exp) (all_said words.now)) }
-    ensures known { IfOk result (λ x. ExpKnown r.new.graph (env_in r.new) x.0.exp x.0.to) }
-    ensures grows { Grows r.old.graph r.new.graph }
-    ensures env { env_in r.new ≡ env_in r.old }
-    ensures keeps { KeepsAggregates r.old.graph r.new.graph }
-    ensures adds { (f : Graph) → AddsParts f r.old.graph (types_in_exp (exp_of r.old.graph.nodes x.exp)) → IfOk result (λ y. AddsParts f r.new.graph (types_in_exp (exp_of r.new.graph.nodes y.0.exp))) }
+    requires { ExpKnown r.old.graph (env_in r.old) x.exp.value x.to }
+    ensures gives { Gives (λ x. (exp_of r.new.graph.nodes x.0.exp.value, all_said x.1.now)) result (read_right (read_exp (env_in r.old) left) (exp_of r.old.graph.nodes x.exp.value) (all_said words.now)) }
+    ensures known { IfOk result (λ x. ExpKnown r.new.graph (env_in r.new) x.0.exp.value x.0.to) }
+    ensures on { Onward r.old r.new }
+    ensures adds { (f : Graph) → AddsParts f r.old.graph (types_in_exp (exp_of r.old.graph.nodes x.exp.value)) → IfOk result (λ y. AddsParts f r.new.graph (types_in_exp (exp_of r.new.graph.nodes y.0.exp.value))) }
 {
     match words {
         [Word::Operator(op), rest @ ..] => right_operand(r, left, *op, x, rest),
@@ -253,7 +252,7 @@ fn read_right<'w, 'a>(
 
 /// The right operand and `)`.
 #[cycle(expression)]
-#[tactic(auto, using(crate::proofs::OperandLaws::enclosed_gives, crate::proofs::OperandLaws::enclosed_open, crate::proofs::OperandLaws::enclosed_fails, crate::proofs::PartsLaws::exp_later, crate::proofs::PartsLaws::exp_same, crate::proofs::AddedTrees::bin_adds))]
+#[tactic(auto, using(crate::proofs::OperandLaws::enclosed_gives, crate::proofs::OperandLaws::enclosed_open, crate::proofs::OperandLaws::enclosed_fails, crate::proofs::OnwardLaws::onward_grows, crate::proofs::PartsLaws::exp_same))]
 fn right_operand<'w, 'a>(
     r: &mut Reader,
     left: u32,
@@ -261,13 +260,11 @@ fn right_operand<'w, 'a>(
     x: Operand,
     words: &'w [Word<'a>],
 ) -> Result<(Operand, &'w [Word<'a>]), Stop>
-    requires { ExpKnown r.old.graph (env_in r.old) x.exp x.to }
-    ensures gives { Gives (λ x. (exp_of r.new.graph.nodes x.0.exp, all_said x.1.now)) result (enclosed (Bin op (exp_of r.old.graph.nodes x.exp)) (read_exp (env_in r.old) left (all_said words.now))) }
-    ensures known { IfOk result (λ x. ExpKnown r.new.graph (env_in r.new) x.0.exp x.0.to) }
-    ensures grows { Grows r.old.graph r.new.graph }
-    ensures env { env_in r.new ≡ env_in r.old }
-    ensures keeps { KeepsAggregates r.old.graph r.new.graph }
-    ensures adds { (f : Graph) → AddsParts f r.old.graph (types_in_exp (exp_of r.old.graph.nodes x.exp)) → IfOk result (λ y. AddsParts f r.new.graph (types_in_exp (exp_of r.new.graph.nodes y.0.exp))) }
+    requires { ExpKnown r.old.graph (env_in r.old) x.exp.value x.to }
+    ensures gives { Gives (λ x. (exp_of r.new.graph.nodes x.0.exp.value, all_said x.1.now)) result (enclosed (Bin op (exp_of r.old.graph.nodes x.exp.value)) (read_exp (env_in r.old) left (all_said words.now))) }
+    ensures known { IfOk result (λ x. ExpKnown r.new.graph (env_in r.new) x.0.exp.value x.0.to) }
+    ensures on { Onward r.old r.new }
+    ensures adds { (f : Graph) → AddsParts f r.old.graph (types_in_exp (exp_of r.old.graph.nodes x.exp.value)) → IfOk result (λ y. AddsParts f r.new.graph (types_in_exp (exp_of r.new.graph.nodes y.0.exp.value))) }
 {
     let (operand, rest) = read_exp(r, left, words)?;
     let Some(behind) = closing(rest) else {
@@ -278,7 +275,7 @@ fn right_operand<'w, 'a>(
 
 /// A place (C11 6.3.2.1p1).
 #[cycle(expression)]
-#[tactic(auto, using(crate::proofs::OperandLaws::place_next, crate::proofs::OperandLaws::place_fails, type_graph::proofs::GrowthLaws::grows_twice, crate::proofs::GlobalLaws::keeps_twice))]
+#[tactic(auto, using(crate::proofs::OperandLaws::place_next, crate::proofs::OperandLaws::place_fails, crate::proofs::OnwardLaws::onward_twice))]
 pub(crate) fn read_place<'w, 'a>(
     r: &mut Reader,
     left: u32,
@@ -286,9 +283,7 @@ pub(crate) fn read_place<'w, 'a>(
 ) -> Result<(Located, &'w [Word<'a>]), Stop>
     ensures gives { Gives (λ x. (lval_of r.new.graph.nodes x.0.place, all_said x.1.now)) result (read_place (env_in r.old) (read_exp (env_in r.old) left) left (all_said words.now)) }
     ensures known { IfOk result (λ x. PlaceKnown r.new.graph (env_in r.new) x.0.place x.0.ty) }
-    ensures grows { Grows r.old.graph r.new.graph }
-    ensures env { env_in r.new ≡ env_in r.old }
-    ensures keeps { KeepsAggregates r.old.graph r.new.graph }
+    ensures on { Onward r.old r.new }
     ensures adds { IfOk result (λ x. AddsParts r.old.graph r.new.graph (types_in_place (lval_of r.new.graph.nodes x.0.place))) }
 {
     let (based, rest) = read_host(r, left, words)?;
@@ -307,18 +302,35 @@ fn behind_host<'w, 'a>(
     requires { HostKnown r.old.graph (env_in r.old) based.host based.ty }
     ensures gives { Gives (λ x. (lval_of r.new.graph.nodes x.0.place, all_said x.1.now)) result (option_map (part_behind (Place (host_of r.old.graph.nodes based.host) Here)) (read_offsets (env_in r.old) (read_exp (env_in r.old) left) left (type_at_host (env_in r.old) (host_of r.old.graph.nodes based.host)) (all_said words.now))) }
     ensures known { IfOk result (λ x. PlaceKnown r.new.graph (env_in r.new) x.0.place x.0.ty) }
-    ensures grows { Grows r.old.graph r.new.graph }
-    ensures env { env_in r.new ≡ env_in r.old }
-    ensures keeps { KeepsAggregates r.old.graph r.new.graph }
+    ensures on { Onward r.old r.new }
     ensures adds { (f : Graph) → AddsParts f r.old.graph (types_in_host (host_of r.old.graph.nodes based.host)) → IfOk result (λ x. AddsParts f r.new.graph (types_in_place (lval_of r.new.graph.nodes x.0.place))) }
 {
     let located = with_base(r, based);
-    read_offsets(r, left, left, located, words)
+    let rest = words;
+    let read = read_offsets(r, left, Walk { located, rest })?;
+    Ok((read.located, read.rest))
+}
+
+/// What a name means in front of a place, and what stands behind it.
+#[tactic(auto, using(cil_text::proofs::PartsAdded::adds_none))]
+fn named_host<'w, 'a>(
+    r: &Reader,
+    name: &[u8],
+    rest: &'w [Word<'a>],
+) -> Result<(Based, &'w [Word<'a>]), Stop>
+    ensures gives { Gives (λ x. (host_of r.now.graph.nodes x.0.host, all_said x.1.now)) result (host_read (all_said rest.now) (host_named (env_in r.now) name.now)) }
+    ensures known { IfOk result (λ x. HostKnown r.now.graph (env_in r.now) x.0.host x.0.ty) }
+    ensures adds { IfOk result (λ x. AddsParts r.now.graph r.now.graph (types_in_host (host_of r.now.graph.nodes x.0.host))) }
+{
+    match r.host_named(name) {
+        Some(based) => Ok((based, rest)),
+        None => Err(Stop::NotCil),
+    }
 }
 
 /// What a place begins with: a name, or what a pointer points to.
 #[cycle(expression)]
-#[tactic(auto, using(cil_text::proofs::PartsAdded::adds_none))]
+#[tactic(auto, using(crate::proofs::OnwardLaws::onward_none))]
 fn read_host<'w, 'a>(
     r: &mut Reader,
     left: u32,
@@ -326,16 +338,11 @@ fn read_host<'w, 'a>(
 ) -> Result<(Based, &'w [Word<'a>]), Stop>
     ensures gives { Gives (λ x. (host_of r.new.graph.nodes x.0.host, all_said x.1.now)) result (read_host (env_in r.old) (read_exp (env_in r.old) left) (all_said words.now)) }
     ensures known { IfOk result (λ x. HostKnown r.new.graph (env_in r.new) x.0.host x.0.ty) }
-    ensures grows { Grows r.old.graph r.new.graph }
-    ensures env { env_in r.new ≡ env_in r.old }
-    ensures keeps { KeepsAggregates r.old.graph r.new.graph }
+    ensures on { Onward r.old r.new }
     ensures adds { IfOk result (λ x. AddsParts r.old.graph r.new.graph (types_in_host (host_of r.new.graph.nodes x.0.host))) }
 {
     match words {
-        [Word::Name(name), rest @ ..] => match r.host_named(name) {
-            Some(based) => Ok((based, rest)),
-            None => Err(Stop::NotCil),
-        },
+        [Word::Name(name), rest @ ..] => named_host(r, name, rest),
         [Word::LeftParen, Word::Operator(BinOp::Mul), rest @ ..] => pointed_host(r, left, rest),
         _ => Err(Stop::NotCil),
     }
@@ -351,93 +358,96 @@ fn pointed_host<'w, 'a>(
 ) -> Result<(Based, &'w [Word<'a>]), Stop>
     ensures gives { Gives (λ x. (host_of r.new.graph.nodes x.0.host, all_said x.1.now)) result (enclosed At (read_exp (env_in r.old) left (all_said words.now))) }
     ensures known { IfOk result (λ x. HostKnown r.new.graph (env_in r.new) x.0.host x.0.ty) }
-    ensures grows { Grows r.old.graph r.new.graph }
-    ensures env { env_in r.new ≡ env_in r.old }
-    ensures keeps { KeepsAggregates r.old.graph r.new.graph }
+    ensures on { Onward r.old r.new }
     ensures adds { IfOk result (λ x. AddsParts r.old.graph r.new.graph (types_in_host (host_of r.new.graph.nodes x.0.host))) }
 {
     let (operand, rest) = read_exp(r, left, words)?;
     let Some(behind) = closing(rest) else {
         return Err(Stop::NotCil);
     };
-    Ok((with_pointer(r, operand)?, behind))
+    Ok((with_pointer(r, operand), behind))
 }
 
-/// Steps into a part of a place.
+/// Steps into a part of a place. Their number is bounded.
 #[cycle(expression)]
-#[tactic(auto, using(crate::proofs::OperandLaws::offsets_none, crate::proofs::OperandLaws::offsets_end, crate::proofs::OperandLaws::offsets_fail, type_graph::proofs::GrowthLaws::grows_twice, crate::proofs::GlobalLaws::keeps_twice))]
-fn read_offsets<'w, 'a>(
-    r: &mut Reader,
-    left: u32,
-    steps: u32,
-    located: Located,
-    words: &'w [Word<'a>],
-) -> Result<(Located, &'w [Word<'a>]), Stop>
-    requires { PlaceKnown r.old.graph (env_in r.old) located.place located.ty }
-    ensures gives { Gives (λ x. (lval_of r.new.graph.nodes x.0.place, all_said x.1.now)) result (option_map (part_behind (lval_of r.old.graph.nodes located.place)) (read_offsets (env_in r.old) (read_exp (env_in r.old) left) steps (type_in r.old.graph.nodes located.ty) (all_said words.now))) }
-    ensures known { IfOk result (λ x. PlaceKnown r.new.graph (env_in r.new) x.0.place x.0.ty) }
-    ensures grows { Grows r.old.graph r.new.graph }
-    ensures env { env_in r.new ≡ env_in r.old }
-    ensures keeps { KeepsAggregates r.old.graph r.new.graph }
-    ensures adds { (f : Graph) → AddsParts f r.old.graph (types_in_place (lval_of r.old.graph.nodes located.place)) → IfOk result (λ x. AddsParts f r.new.graph (types_in_place (lval_of r.new.graph.nodes x.0.place))) }
+#[tactic(auto, using(crate::proofs::OperandLaws::offsets_end, crate::proofs::OperandLaws::offsets_over, crate::proofs::OperandLaws::offsets_stop, crate::proofs::OnwardLaws::onward_none, crate::proofs::OnwardLaws::onward_twice))]
+fn read_offsets<'w, 'a>(r: &mut Reader, left: u32, walk: Walk<'w, 'a>) -> Result<Walk<'w, 'a>, Stop>
+    requires { PlaceKnown r.old.graph (env_in r.old) walk.located.place walk.located.ty }
+    ensures gives { Gives (λ x. (lval_of r.new.graph.nodes x.located.place, all_said x.rest.now)) result (option_map (part_behind (lval_of r.old.graph.nodes walk.entry.located.place)) (read_offsets (env_in r.old) (read_exp (env_in r.old) left) left (type_in r.old.graph.nodes walk.entry.located.ty) (all_said walk.entry.rest.now))) }
+    ensures known { IfOk result (λ x. PlaceKnown r.new.graph (env_in r.new) x.located.place x.located.ty) }
+    ensures on { Onward r.old r.new }
+    ensures adds { (f : Graph) → AddsParts f r.old.graph (types_in_place (lval_of r.old.graph.nodes walk.entry.located.place)) → IfOk result (λ x. AddsParts f r.new.graph (types_in_place (lval_of r.new.graph.nodes x.located.place))) }
 {
+    let mut at = walk;
+    let mut steps = left;
+    while steps > 0 && is_offset(at.rest) {
+        at = one_step(r, left, at)?;
+        steps -= 1;
+    }
     if steps == 0 {
         return Err(Stop::NotCil);
     }
-    if !is_offset(words) {
-        return Ok((located, words));
-    }
-    let (part, rest) = one_step(r, left, located, words)?;
-    read_offsets(r, left, steps - 1, part, rest)
+    Ok(at)
 }
 
 /// A member or an element of a place.
 #[cycle(expression)]
-#[tactic(auto, using(crate::proofs::PartsLaws::place_below, crate::proofs::AddedTrees::field_adds))]
-fn one_step<'w, 'a>(
-    r: &mut Reader,
-    left: u32,
-    located: Located,
-    words: &'w [Word<'a>],
-) -> Result<(Located, &'w [Word<'a>]), Stop>
-    requires { PlaceKnown r.old.graph (env_in r.old) located.place located.ty }
-    ensures gives { Gives (λ x. ((lval_of r.new.graph.nodes x.0.place, type_in r.new.graph.nodes x.0.ty), all_said x.1.now)) result (one_step (env_in r.old) (read_exp (env_in r.old) left) (lval_of r.old.graph.nodes located.place) (type_in r.old.graph.nodes located.ty) (all_said words.now)) }
-    ensures known { IfOk result (λ x. PlaceKnown r.new.graph (env_in r.new) x.0.place x.0.ty) }
-    ensures grows { Grows r.old.graph r.new.graph }
-    ensures env { env_in r.new ≡ env_in r.old }
-    ensures keeps { KeepsAggregates r.old.graph r.new.graph }
-    ensures adds { (f : Graph) → AddsParts f r.old.graph (types_in_place (lval_of r.old.graph.nodes located.place)) → IfOk result (λ x. AddsParts f r.new.graph (types_in_place (lval_of r.new.graph.nodes x.0.place))) }
+#[tactic(auto, using(crate::proofs::OnwardLaws::onward_none))]
+fn one_step<'w, 'a>(r: &mut Reader, left: u32, walk: Walk<'w, 'a>) -> Result<Walk<'w, 'a>, Stop>
+    requires { PlaceKnown r.old.graph (env_in r.old) walk.located.place walk.located.ty }
+    ensures gives { Gives (λ x. walked r.new.graph.nodes x) result (one_step (env_in r.old) (read_exp (env_in r.old) left) (lval_of r.old.graph.nodes walk.entry.located.place) (type_in r.old.graph.nodes walk.entry.located.ty) (all_said walk.entry.rest.now)) }
+    ensures known { IfOk result (λ x. PlaceKnown r.new.graph (env_in r.new) x.located.place x.located.ty) }
+    ensures on { Onward r.old r.new }
+    ensures adds { (f : Graph) → AddsParts f r.old.graph (types_in_place (lval_of r.old.graph.nodes walk.entry.located.place)) → IfOk result (λ x. AddsParts f r.new.graph (types_in_place (lval_of r.new.graph.nodes x.located.place))) }
 {
-    match words {
-        [Word::Dot, Word::Name(name), rest @ ..] => match r.field(located.ty, name) {
-            Some(found) => Ok((with_member(r, located, found.0, found.1)?, rest)),
-            None => Err(Stop::NotCil),
-        },
-        [Word::LeftBracket, rest @ ..] => one_element(r, left, located, rest),
+    match walk.rest {
+        [Word::Dot, Word::Name(name), rest @ ..] => one_field(r, walk.located, name, rest),
+        [Word::LeftBracket, rest @ ..] => one_element(r, left, walk.located, rest),
         _ => Err(Stop::NotCil),
     }
 }
 
+/// Behind `.`: a member, and what stands behind it.
+#[tactic(auto, using(crate::proofs::PartsLaws::place_below, crate::proofs::AddedTrees::field_adds))]
+fn one_field<'w, 'a>(
+    r: &Reader,
+    located: Located,
+    name: &[u8],
+    rest: &'w [Word<'a>],
+) -> Result<Walk<'w, 'a>, Stop>
+    requires { PlaceKnown r.now.graph (env_in r.now) located.place located.ty }
+    ensures gives { Gives (λ x. walked r.now.graph.nodes x) result (option_map (to_field (lval_of r.now.graph.nodes located.place) (fields (env_in r.now) (type_in r.now.graph.nodes located.ty)) (all_said rest.now)) (find_named name.now (fields (env_in r.now) (type_in r.now.graph.nodes located.ty)))) }
+    ensures known { IfOk result (λ x. PlaceKnown r.now.graph (env_in r.now) x.located.place x.located.ty) }
+    ensures adds { (f : Graph) → AddsParts f r.now.graph (types_in_place (lval_of r.now.graph.nodes located.place)) → IfOk result (λ x. AddsParts f r.now.graph (types_in_place (lval_of r.now.graph.nodes x.located.place))) }
+{
+    let Some((number, ty)) = r.field(located.ty, name) else {
+        return Err(Stop::NotCil);
+    };
+    let mut located = located;
+    step_to_member(r, &mut located, number, ty)?;
+    Ok(Walk { located, rest })
+}
+
 /// Behind `[`: an index and `]`.
 #[cycle(expression)]
-#[tactic(auto, using(crate::proofs::OperandLaws::element_gives, crate::proofs::OperandLaws::element_open, crate::proofs::OperandLaws::element_fails, crate::proofs::PartsLaws::place_later, crate::proofs::PartsLaws::place_same, crate::proofs::PartsLaws::type_later, crate::proofs::AddedTrees::element_adds))]
+#[tactic(auto, using(crate::proofs::OperandLaws::element_gives, crate::proofs::OperandLaws::element_open, crate::proofs::OperandLaws::element_fails, crate::proofs::OnwardLaws::onward_grows, crate::proofs::PartsLaws::place_same, crate::proofs::PartsLaws::type_later, crate::proofs::AddedTrees::element_adds))]
 fn one_element<'w, 'a>(
     r: &mut Reader,
     left: u32,
     located: Located,
     words: &'w [Word<'a>],
-) -> Result<(Located, &'w [Word<'a>]), Stop>
+) -> Result<Walk<'w, 'a>, Stop>
     requires { PlaceKnown r.old.graph (env_in r.old) located.place located.ty }
-    ensures gives { Gives (λ x. ((lval_of r.new.graph.nodes x.0.place, type_in r.new.graph.nodes x.0.ty), all_said x.1.now)) result (option_map (to_element (lval_of r.old.graph.nodes located.place) (type_in r.old.graph.nodes located.ty)) (option_and_then (λ y. in_brackets y.0 y.1) (read_exp (env_in r.old) left (all_said words.now)))) }
-    ensures known { IfOk result (λ x. PlaceKnown r.new.graph (env_in r.new) x.0.place x.0.ty) }
-    ensures grows { Grows r.old.graph r.new.graph }
-    ensures env { env_in r.new ≡ env_in r.old }
-    ensures keeps { KeepsAggregates r.old.graph r.new.graph }
-    ensures adds { (f : Graph) → AddsParts f r.old.graph (types_in_place (lval_of r.old.graph.nodes located.place)) → IfOk result (λ x. AddsParts f r.new.graph (types_in_place (lval_of r.new.graph.nodes x.0.place))) }
+    ensures gives { Gives (λ x. walked r.new.graph.nodes x) result (option_map (to_element (lval_of r.old.graph.nodes located.place) (type_in r.old.graph.nodes located.ty)) (option_and_then (λ y. in_brackets y.0 y.1) (read_exp (env_in r.old) left (all_said words.now)))) }
+    ensures known { IfOk result (λ x. PlaceKnown r.new.graph (env_in r.new) x.located.place x.located.ty) }
+    ensures on { Onward r.old r.new }
+    ensures adds { (f : Graph) → AddsParts f r.old.graph (types_in_place (lval_of r.old.graph.nodes located.place)) → IfOk result (λ x. AddsParts f r.new.graph (types_in_place (lval_of r.new.graph.nodes x.located.place))) }
 {
     let (index, rest) = read_exp(r, left, words)?;
-    let Some(behind) = bracketed(rest) else {
+    let Some(rest) = bracketed(rest) else {
         return Err(Stop::NotCil);
     };
-    Ok((with_element(r, located, index)?, behind))
+    let mut located = located;
+    step_to_element(r, &mut located, index)?;
+    Ok(Walk { located, rest })
 }

@@ -66,7 +66,7 @@ fn nothing_known(alloc: Global) -> Known
 }
 
 /// The globals that are declared so, with the objects and the bodies that lines define; no other line stands there.
-#[tactic(auto, using(type_graph::proofs::GrowthLaws::grows_twice, crate::proofs::PoolLaws::pool_twice, crate::proofs::GlobalLaws::declared_later, crate::proofs::ProgramLaws::defined_fails))]
+#[tactic(auto, using(type_graph::proofs::GrowthLaws::grows_twice, crate::proofs::PoolLaws::pool_twice, crate::proofs::GlobalLaws::declared_later, crate::proofs::ProgramLaws::defined_fails, crate::proofs::OnwardLaws::onward_grows, crate::proofs::OnwardParts::onward_aggs, crate::proofs::OnwardParts::onward_completed, crate::proofs::OnwardLaws::onward_env))]
 fn define_globals(
     r: &mut Reader,
     pool: &mut NamePool,
@@ -90,7 +90,7 @@ fn define_globals(
 }
 
 /// The globals of a program, to the end of its text.
-#[tactic(auto, using(type_graph::proofs::GrowthLaws::grows_twice, crate::proofs::GlobalLaws::declared_later, crate::proofs::ProgramLaws::globals_give, crate::proofs::ProgramLaws::globals_alike, crate::proofs::ProgramLaws::globals_fail, crate::proofs::NeededLaws::globals_added, crate::proofs::PoolLaws::pool_same))]
+#[tactic(auto, using(type_graph::proofs::GrowthLaws::grows_twice, crate::proofs::GlobalLaws::declared_later, crate::proofs::ProgramLaws::globals_give, crate::proofs::ProgramLaws::globals_alike, crate::proofs::ProgramLaws::globals_fail, crate::proofs::NeededLaws::globals_added, crate::proofs::PoolLaws::pool_same, crate::proofs::OnwardLaws::onward_grows, crate::proofs::OnwardParts::onward_aggs, crate::proofs::OnwardParts::onward_completed, crate::proofs::OnwardLaws::onward_env))]
 fn read_globals(
     r: &mut Reader,
     pool: &mut NamePool,

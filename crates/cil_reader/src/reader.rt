@@ -15,7 +15,7 @@ ghost use Rattle.cil_text.specs.TypesOf.{AddsParts};
 ghost use Rattle.cil_reader.specs.Said.{all_said};
 ghost use Rattle.cil_reader.specs.Gives.{Gives};
 ghost use Rattle.cil_reader.specs.Layers.{named_of};
-ghost use Rattle.cil_reader.specs.Settings.{type_in, TypeBelow, env_in, locals_of, with_globals, with_locals, outside};
+ghost use Rattle.cil_reader.specs.Settings.{Onward, type_in, TypeBelow, env_in, locals_of, with_globals, with_locals, outside};
 ghost use Rattle.cil_reader.specs.Parts.{HostKnown};
 ghost use Rattle.cil_reader.specs.Pools.{KeepsNames};
 ghost use Rattle.cil_reader.specs.Images.{scalar_of};
@@ -81,7 +81,7 @@ impl Reader {
     }
 
     /// A declaration without storage class, or a type's name.
-    #[tactic(auto, using(crate::proofs::SettingsLaws::setting_kept, crate::proofs::SettingsLaws::known_kept, crate::proofs::SettingsLaws::setting_tags))]
+    #[tactic(auto, using(crate::proofs::SettingsLaws::setting_kept, crate::proofs::SettingsLaws::known_kept, crate::proofs::SettingsLaws::setting_tags, crate::proofs::OnwardLaws::extends_grows, crate::proofs::OnwardLaws::extends_keeps, crate::proofs::OnwardLaws::onward_from))]
     pub(crate) fn read_decl<'w, 'a>(
         &mut self,
         left: u32,
@@ -90,9 +90,7 @@ impl Reader {
         ensures gives { Gives (λ r. (named_of self.new.graph.nodes r.0, all_said r.1.now)) result (read_decl (env_in self.old).tags left (all_said words.now)) }
         ensures there { IfOk result (λ r. r.0.ty.0 < length self.new.graph.nodes) }
         ensures adds { IfOk result (λ r. AddsParts self.old.graph self.new.graph (shape self.new.graph.nodes r.0.ty.0 ∷ [])) }
-        ensures grows { Grows self.old.graph self.new.graph }
-        ensures keeps { KeepsAggregates self.old.graph self.new.graph }
-        ensures env { env_in self.new ≡ env_in self.old }
+        ensures on { Onward self.old self.new }
     {
         read_decl(&self.known.tags, &mut self.graph, left, words)
     }
@@ -220,13 +218,11 @@ impl Reader {
     }
 
     /// The type `int`.
-    #[tactic(auto, using(crate::proofs::SettingsLaws::known_kept, crate::proofs::SettingsLaws::setting_kept))]
+    #[tactic(auto, using(crate::proofs::SettingsLaws::known_kept, crate::proofs::SettingsLaws::setting_kept, crate::proofs::OnwardLaws::onward_by))]
     pub(crate) fn int_type(&mut self) -> Result<TypeId, Stop>
         ensures gives { Gives (λ t. shape self.new.graph.nodes t.0) result (Some (IntType int)) }
         ensures there { IfOk result (λ t. t.0 < length self.new.graph.nodes) }
-        ensures grows { Grows self.old.graph self.new.graph }
-        ensures keeps { KeepsAggregates self.old.graph self.new.graph }
-        ensures env { env_in self.new ≡ env_in self.old }
+        ensures on { Onward self.old self.new }
         ensures adds { IfOk result (λ t. AddsParts self.old.graph self.new.graph (shape self.new.graph.nodes t.0 ∷ [])) }
     {
         Ok(self.graph.add_node(Node::Int(IntKind::Int))?)

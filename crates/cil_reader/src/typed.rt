@@ -5,7 +5,7 @@ ghost use Rattle.type_graph.specs.Growth.{Grows, KeepsAggregates};
 ghost use Rattle.cil_tree.specs.Typing.{same_shape};
 ghost use Rattle.cil_reader.specs.Said.{all_said};
 ghost use Rattle.cil_reader.specs.Gives.{Gives};
-ghost use Rattle.cil_reader.specs.Settings.{env_in};
+ghost use Rattle.cil_reader.specs.Settings.{Onward, env_in};
 ghost use Rattle.cil_reader.specs.Typed.{typed};
 
 use crate::reader::Reader;
@@ -27,7 +27,7 @@ pub(crate) fn is_same(g: &TypeGraph, a: TypeId, b: TypeId) -> bool
 }
 
 /// What stands behind a declarator, or a type's name, that gives a type which is known: it adds no other.
-#[tactic(auto, using(crate::proofs::SameLaws::typed_gives, crate::proofs::SameLaws::typed_other, crate::proofs::SameLaws::typed_fails, crate::proofs::SameLaws::same_type))]
+#[tactic(auto, using(crate::proofs::SameLaws::typed_gives, crate::proofs::SameLaws::typed_other, crate::proofs::SameLaws::typed_fails, crate::proofs::SameLaws::same_type, crate::proofs::OnwardLaws::onward_twice, crate::proofs::OnwardLaws::onward_grows, crate::proofs::OnwardLaws::onward_none))]
 pub(crate) fn read_typed<'w, 'a>(
     r: &mut Reader,
     left: u32,
@@ -37,9 +37,7 @@ pub(crate) fn read_typed<'w, 'a>(
     requires { ty.0 < length r.old.graph.nodes }
     ensures gives { Gives (λ x. all_said x.now) result (typed (env_in r.old).tags left (shape r.old.graph.nodes ty.0) (all_said words.now)) }
     ensures same { OnOk result (r.new.graph.nodes ≡ r.old.graph.nodes) }
-    ensures grows { Grows r.old.graph r.new.graph }
-    ensures keeps { KeepsAggregates r.old.graph r.new.graph }
-    ensures env { env_in r.new ≡ env_in r.old }
+    ensures on { Onward r.old r.new }
 {
     let (named, rest) = r.read_decl(left, words)?;
     if r.is_same(named.ty, ty) {

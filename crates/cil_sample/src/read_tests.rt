@@ -294,3 +294,23 @@ fn cuts_are_refused(rt: HostRuntime) -> Result<(), Fail> {
     }
     Ok(())
 }
+
+/// The text of a program with a call that has so many arguments (C11 6.5.2.2).
+fn calling(alloc: Global, arguments: usize) -> Result<Vec<u8>, Stop> {
+    let mut text = Vec::new(alloc);
+    text.extend_from_slice(
+        b"int f ( int , ... ) ;\nint main ( void ) ;\nint main ( void ) {\n  f ( 0",
+    )?;
+    for _ in 1..arguments {
+        text.extend_from_slice(b" , 0")?;
+    }
+    text.extend_from_slice(b" ) ;\n  return 0 ;\n}\n")?;
+    Ok(text)
+}
+
+#[test]
+fn a_call_of_any_length_is_read(rt: HostRuntime) -> Result<(), Fail> {
+    let text = calling(rt.alloc(), 1_000_000)?;
+    assert_eq!(rt; place_of(rt.alloc(), &text)?, None);
+    Ok(())
+}

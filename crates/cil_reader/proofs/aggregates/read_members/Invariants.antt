@@ -1,9 +1,8 @@
 use Rattle.std.proofs.Common.{◌≡◌, [], length}
-use Rattle.type_graph.specs.Growth.{Grows, KeepsAggregates}
 use Rattle.cil_text.specs.ReadAggregates.{read_member}
 use Rattle.cil_reader.specs.Said.{all_lines}
 use Rattle.cil_text.specs.TypesOf.{AddsParts}
-use Rattle.cil_reader.specs.Settings.{env_in}
+use Rattle.cil_reader.specs.Settings.{Onward, env_in}
 use Rattle.cil_reader.specs.Pools.{KeepsNames}
 use Rattle.cil_reader.specs.Aggregates.{types_at}
 use Rattle.cil_reader.specs.Members.{FieldsKnown, members_in, members_from, members_on}
@@ -11,7 +10,7 @@ use Rattle.cil_reader.proofs.aggregates.read_members.Given as goal
 
 abbrev pub invariant-loop-more : goal.invariant-loop-more
 invariant-loop-more l =
-    FieldsKnown l.r.graph l.pool l.fields.members.items l.fields.names × Grows l.fn.r.graph l.r.graph × KeepsAggregates l.fn.r.graph l.r.graph × (env_in l.r ≡ env_in l.fn.r) × KeepsNames l.fn.pool l.pool
+    FieldsKnown l.r.graph l.pool l.fields.members.items l.fields.names × Onward l.fn.r l.r × KeepsNames l.fn.pool l.pool
     × (members_on (read_member (env_in l.fn.r).tags l.left) (l.more, (members_in l.r.graph.nodes l.pool l.fields.members.items, all_lines l.rest)) ≡ members_from (read_member (env_in l.fn.r).tags l.left) [] (all_lines l.lines))
     × AddsParts l.fn.r.graph l.r.graph (types_at l.r.graph.nodes l.fields.names.types.items)
 

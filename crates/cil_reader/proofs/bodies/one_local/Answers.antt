@@ -12,7 +12,7 @@ use Rattle.cil_reader.proofs.PoolLaws.{pool_same}
 use Rattle.cil_reader.proofs.bodies.one_local.Goals as goal
 
 pub with_local-requires-clause-known : goal.with_local-requires-clause-known
-with_local-requires-clause-known c = locals_later c.args.r.now.graph c.read_decl.new.self.graph c.args.pool.now c.args.pool.now c.args.locals c.read_decl.ensures.grows (pool_same c.args.pool.now) c.requires
+with_local-requires-clause-known c = locals_later c.args.r.now.graph c.read_decl.new.self.graph c.args.pool.now c.args.pool.now c.args.locals c.read_decl.ensures.on.grows (pool_same c.args.pool.now) c.requires
 
 pub returns-in-Some-clause-gives : goal.returns-in-Some-clause-gives
 returns-in-Some-clause-gives c =
@@ -20,7 +20,7 @@ returns-in-Some-clause-gives c =
     let named = ap (λ (n : Option (Bor (List ℕ))). option_map (λ (t : Bor (List ℕ)). t.now) n) c.in-Some.is in
     let e = one_taken (read_decl (env_in c.args.r.now).tags c.args.left (all_said c.args.words.now)) (locals_of c.args.r.now.graph.nodes c.args.locals.names) (locals_of c.read_decl.new.self.graph.nodes c.args.locals.names)
     (shape c.read_decl.new.self.graph.nodes c.in_ok-named.named.ty.0) (option_map (λ (t : Bor (List ℕ)). t.now) c.in_ok-named.named.name) c.in-Some.text.now (all_said c.in_ok-named.rest.now) c.in_ok-named.ensures.gives end named
-    (locals_same c.args.r.now.graph c.read_decl.new.self.graph c.args.pool.now c.args.locals c.read_decl.ensures.grows c.requires) in
+    (locals_same c.args.r.now.graph c.read_decl.new.self.graph c.args.pool.now c.args.locals c.read_decl.ensures.on.grows c.requires) in
     rw e c.with_local.ensures.gives
 
 pub returns-in-Some-clause-adds : goal.returns-in-Some-clause-adds

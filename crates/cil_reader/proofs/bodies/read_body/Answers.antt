@@ -22,23 +22,23 @@ use Rattle.cil_reader.proofs.bodies.read_body.Goals as goal
 pub returns-clause-gives : goal.returns-clause-gives
 returns-clause-gives c =
     let ls = locals_of c.read_locals.new.r.graph.nodes c.in_ok-locals.locals.names in
-    let same : env_in c.set_locals.new.self ≡ with_locals (env_in c.args.r.now) ls = c.set_locals.ensures.env ∙ ap (λ (v : Env). with_locals v ls) c.read_locals.ensures.env in
+    let same : env_in c.set_locals.new.self ≡ with_locals (env_in c.args.r.now) ls = c.set_locals.ensures.env ∙ ap (λ (v : Env). with_locals v ls) c.read_locals.ensures.on.env in
     let stmts = ap (λ (v : Env). option_and_then whole_stmts (option_and_then (read_nested c.args.left) (read_heads v c.in_ok-labels.labels.texts c.args.left (all_lines c.in_ok-locals.rest.now)))) (sym same) ∙ c.in_ok-stmts.ensures.gives in
     body_gives (env_in c.args.r.now) c.args.left (shape c.args.r.now.graph.nodes c.args.ty.0) (texts_of c.args.params.now) c.in_ok-labels.labels.texts (all_lines c.args.lines.now) (all_lines c.in_ok-locals.rest.now)
     (locals_of c.args.r.now.graph.nodes c.in_ok-first.first.names) ls (stmts_of c.read_stmts.new.r.graph.nodes c.in_ok-stmts.stmts.items) c.in_ok-first.ensures.gives c.in_ok-locals.ensures.gives c.in_ok-labels.ensures.gives stmts
     ∙ body_seen c.read_locals.new.r.graph c.read_stmts.new.r.graph c.read_locals.new.pool c.numbers_of.new.pool (record { params = c.in_ok-params.params; locals = c.in_ok-locals.locals.all; labels = c.in_ok-labels.labels.names; stmts = c.in_ok-stmts.stmts }) c.in_ok-locals.locals (texts_of c.args.params.now) c.in_ok-labels.labels.texts ls (stmts_of c.read_stmts.new.r.graph.nodes c.in_ok-stmts.stmts.items)
-    (subst (λ (k : Graph). Grows k c.read_stmts.new.r.graph) c.set_locals.ensures.graph c.read_stmts.ensures.grows) (pool_twice c.read_locals.new.pool c.labels_in.new.pool c.numbers_of.new.pool c.labels_in.ensures.pool c.numbers_of.ensures.pool)
+    (subst (λ (k : Graph). Grows k c.read_stmts.new.r.graph) c.set_locals.ensures.graph c.read_stmts.ensures.on.grows) (pool_twice c.read_locals.new.pool c.labels_in.new.pool c.numbers_of.new.pool c.labels_in.ensures.pool c.numbers_of.ensures.pool)
     c.in_ok-locals.ensures.known refl refl c.in_ok-params.ensures.known (texts_later c.labels_in.new.pool c.numbers_of.new.pool c.in_ok-labels.labels.names.items c.in_ok-labels.labels.texts c.in_ok-labels.ensures.known c.numbers_of.ensures.pool) refl
 
 pub returns-clause-known : goal.returns-clause-known
 returns-clause-known c =
     body_known c.read_locals.new.r.graph c.read_stmts.new.r.graph c.read_locals.new.pool c.numbers_of.new.pool (record { params = c.in_ok-params.params; locals = c.in_ok-locals.locals.all; labels = c.in_ok-labels.labels.names; stmts = c.in_ok-stmts.stmts }) c.in_ok-locals.locals (texts_of c.args.params.now) c.in_ok-labels.labels.texts
-    (subst (λ (k : Graph). Grows k c.read_stmts.new.r.graph) c.set_locals.ensures.graph c.read_stmts.ensures.grows) (pool_twice c.read_locals.new.pool c.labels_in.new.pool c.numbers_of.new.pool c.labels_in.ensures.pool c.numbers_of.ensures.pool)
+    (subst (λ (k : Graph). Grows k c.read_stmts.new.r.graph) c.set_locals.ensures.graph c.read_stmts.ensures.on.grows) (pool_twice c.read_locals.new.pool c.labels_in.new.pool c.numbers_of.new.pool c.labels_in.ensures.pool c.numbers_of.ensures.pool)
     c.in_ok-locals.ensures.known refl c.in_ok-params.ensures.known (texts_later c.labels_in.new.pool c.numbers_of.new.pool c.in_ok-labels.labels.names.items c.in_ok-labels.labels.texts c.in_ok-labels.ensures.known c.numbers_of.ensures.pool)
     c.in_ok-stmts.ensures.known
 
 pub returns-clause-env : goal.returns-clause-env
-returns-clause-env c = ap outside (c.read_stmts.ensures.env ∙ c.set_locals.ensures.env) ∙ ap outside c.read_locals.ensures.env
+returns-clause-env c = ap outside (c.read_stmts.ensures.on.env ∙ c.set_locals.ensures.env) ∙ ap outside c.read_locals.ensures.on.env
 
 pub returns-in_err-labels-clause-gives : goal.returns-in_err-labels-clause-gives
 returns-in_err-labels-clause-gives c =
@@ -57,5 +57,5 @@ returns-clause-adds c =
     let e = c.read_locals.new.r.graph in
     let g = c.read_stmts.new.r.graph in
     body_adds c.args.r.now.graph e g c.read_locals.new.pool c.numbers_of.new.pool (record { params = c.in_ok-params.params; locals = c.in_ok-locals.locals.all; labels = c.in_ok-labels.labels.names; stmts = c.in_ok-stmts.stmts }) c.in_ok-locals.locals
-    (subst (λ (k : Graph). Grows k g) c.set_locals.ensures.graph c.read_stmts.ensures.grows) (pool_twice c.read_locals.new.pool c.labels_in.new.pool c.numbers_of.new.pool c.labels_in.ensures.pool c.numbers_of.ensures.pool) c.in_ok-locals.ensures.known refl
+    (subst (λ (k : Graph). Grows k g) c.set_locals.ensures.graph c.read_stmts.ensures.on.grows) (pool_twice c.read_locals.new.pool c.labels_in.new.pool c.numbers_of.new.pool c.labels_in.ensures.pool c.numbers_of.ensures.pool) c.in_ok-locals.ensures.known refl
     c.in_ok-locals.ensures.adds (subst (λ (k : Graph). AddsParts k g (types_in_stmts (stmts_of g.nodes c.in_ok-stmts.stmts.items))) c.set_locals.ensures.graph c.in_ok-stmts.ensures.adds)

@@ -1,15 +1,14 @@
 use Rattle.std.proofs.Common.{◌≡◌, drop, length}
 use Rattle.std.specs.Option.{option_map}
-use Rattle.type_graph.specs.Growth.{Grows, KeepsAggregates}
 use Rattle.cil_reader.specs.Said.{all_lines}
-use Rattle.cil_reader.specs.Settings.{env_in}
+use Rattle.cil_reader.specs.Settings.{Onward, env_in}
 use Rattle.cil_reader.specs.Pools.{KeepsNames}
 use Rattle.cil_reader.specs.Globals.{EachDeclared, declarations_of, globals_of, globals_behind, objects_left, GlobalsKnown, WaitingKnown}
 use Rattle.cil_reader.proofs.globals.read_objects.Given as goal
 
 abbrev pub invariant-loop-i : goal.invariant-loop-i
 invariant-loop-i l =
-    Grows l.fn.r.graph l.r.graph × KeepsAggregates l.fn.r.graph l.r.graph × (env_in l.r ≡ env_in l.fn.r) × KeepsNames l.fn.pool l.pool
+    Onward l.fn.r l.r × KeepsNames l.fn.pool l.pool
     × EachDeclared (length l.r.graph.nodes) l.declarations × GlobalsKnown l.r.graph l.pool l.globals.items × (length l.globals.items ≡ l.i)
     × WaitingKnown l.waiting
     × (option_map (globals_behind (globals_of l.r.graph.nodes l.pool l.globals.items)) (objects_left (env_in l.fn.r) l.left (declarations_of l.fn.r.graph.nodes (drop l.i l.declarations)) (all_lines l.waiting.lines.now))

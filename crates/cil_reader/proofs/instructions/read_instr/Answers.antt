@@ -10,4 +10,4 @@ pub returns-clause-gives : goal.returns-clause-gives
 returns-clause-gives c =
     let zero : is_zero (all_said c.args.words.now) ≡ false = search rules in
     let e = instr_next (env_in c.args.r.now) c.args.left (all_said c.args.words.now) (all_said c.in_ok-x.rest.now) (lval_of c.read_place.new.r.graph.nodes c.in_ok-x.x.place) zero c.in_ok-x.ensures.gives in
-    rw (e, sym c.read_place.ensures.env) c.read_effect.ensures.gives
+    rw (e, sym c.read_place.ensures.on.env) c.read_effect.ensures.gives

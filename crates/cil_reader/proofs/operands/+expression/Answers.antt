@@ -1,36 +1,61 @@
-use Rattle.std.proofs.Common.{◌≡◌, true, None, sym, rules}
+use Rattle.std.proofs.Common.{◌≡◌, ◌<◌, true, None, Err, sym, rules}
 use Rattle.cil_tree.specs.Tree.{Bin}
 use Rattle.cil_tree.specs.View.{exp_of, host_of, lval_of}
 use Rattle.cil_text.specs.ReadExps.{read_exp, is_offset}
 use Rattle.cil_reader.specs.Said.{all_said}
 use Rattle.cil_reader.specs.Layers.{closing}
 use Rattle.cil_reader.specs.Settings.{env_in, type_in}
+use Rattle.cil_reader.proofs.OnwardLaws.{onward_twice}
 use Rattle.cil_reader.proofs.PartsLaws.{exp_later, place_later}
-use Rattle.cil_reader.proofs.OperandLaws.{enclosed_open, place_next, offsets_next}
+use Rattle.cil_reader.proofs.OperandLaws.{enclosed_open, place_next, offsets_next, offsets_stop}
+use Rattle.cil_reader.proofs.AddedTrees.{bin_adds}
 use Rattle.cil_reader.proofs.operands.+expression.Goals as goal
 
-pub one_element-with_element-requires-clause-place : goal.one_element-with_element-requires-clause-place
-one_element-with_element-requires-clause-place t c =
-    place_later c.args.r.now.graph c.read_exp.new.r.graph (env_in c.args.r.now) (env_in c.read_exp.new.r) c.args.located.place c.args.located.ty c.requires c.read_exp.ensures.grows c.read_exp.ensures.env
+pub one_element-step_to_element-requires-clause-place : goal.one_element-step_to_element-requires-clause-place
+one_element-step_to_element-requires-clause-place t c =
+    place_later c.args.r.now.graph c.read_exp.new.r.graph (env_in c.args.r.now) (env_in c.read_exp.new.r) c.args.located.place c.args.located.ty c.requires c.read_exp.ensures.on.grows c.read_exp.ensures.on.env
 
 pub right_operand-with_binary-requires-clause-left : goal.right_operand-with_binary-requires-clause-left
 right_operand-with_binary-requires-clause-left t c =
-    exp_later c.args.r.now.graph c.read_exp.new.r.graph (env_in c.args.r.now) (env_in c.read_exp.new.r) c.args.x.exp c.args.x.to c.requires c.read_exp.ensures.grows c.read_exp.ensures.env
+    exp_later c.args.r.now.graph c.read_exp.new.r.graph (env_in c.args.r.now) (env_in c.read_exp.new.r) c.args.x.exp.value c.args.x.to c.requires c.read_exp.ensures.on.grows c.read_exp.ensures.on.env
 
 pub right_operand-returns-in_default-clause-gives : goal.right_operand-returns-in_default-clause-gives
 right_operand-returns-in_default-clause-gives t c =
     let none : None ≡ closing (all_said c.in_ok-operand.rest.now) = search rules in
-    enclosed_open (Bin c.args.op (exp_of c.args.r.now.graph.nodes c.args.x.exp)) (read_exp (env_in c.args.r.now) c.args.left (all_said c.args.words.now)) (exp_of c.read_exp.new.r.graph.nodes c.in_ok-operand.operand.exp)
+    enclosed_open (Bin c.args.op (exp_of c.args.r.now.graph.nodes c.args.x.exp.value)) (read_exp (env_in c.args.r.now) c.args.left (all_said c.args.words.now)) (exp_of c.read_exp.new.r.graph.nodes c.in_ok-operand.operand.exp.value)
     (all_said c.in_ok-operand.rest.now) c.in_ok-operand.ensures.gives none
+
+pub right_operand-returns-clause-adds : goal.right_operand-returns-clause-adds
+right_operand-returns-clause-adds t c = λ f adds.
+    bin_adds f c.args.r.now.graph c.read_exp.new.r.graph (env_in c.args.r.now) c.args.op c.args.x.exp.value c.in_ok-operand.operand.exp.value c.in_ok-with_binary.field-0.exp.value c.args.x.to c.read_exp.ensures.on.grows c.requires c.in_ok-with_binary.ensures.tree adds
+    c.in_ok-operand.ensures.adds
 
 pub read_place-returns-clause-gives : goal.read_place-returns-clause-gives
 read_place-returns-clause-gives t c =
     let e = place_next (env_in c.args.r.now) (read_exp (env_in c.args.r.now) c.args.left) c.args.left (all_said c.args.words.now) (all_said c.in_ok-based.rest.now) (host_of c.read_host.new.r.graph.nodes c.in_ok-based.based.host) c.in_ok-based.ensures.gives in
-    rw (e, sym c.read_host.ensures.env) c.behind_host.ensures.gives
+    rw (e, sym c.read_host.ensures.on.env) c.behind_host.ensures.gives
 
-pub read_offsets-returns-clause-gives : goal.read_offsets-returns-clause-gives
-read_offsets-returns-clause-gives t c =
-    let offset : is_offset (all_said c.args.words.now) ≡ true = search rules in
-    let e = offsets_next (env_in c.args.r.now) (read_exp (env_in c.args.r.now) c.args.left) c.args.steps (lval_of c.args.r.now.graph.nodes c.args.located.place) (lval_of c.one_step.new.r.graph.nodes c.in_ok-part.part.place)
-    (type_in c.args.r.now.graph.nodes c.args.located.ty) (type_in c.one_step.new.r.graph.nodes c.in_ok-part.part.ty) (all_said c.args.words.now) (all_said c.in_ok-part.rest.now) c.if-steps-eq0.false offset c.in_ok-part.ensures.gives in
-    rw (e, sym c.one_step.ensures.env) c.read_offsets.ensures.gives
+pub read_offsets-loop-steps-preserved : goal.read_offsets-loop-steps-preserved
+read_offsets-loop-steps-preserved t c =
+    let inv = c.loop-steps.invariant in
+    let old = c.loop-steps.r in
+    let new = c.one_step.new.r in
+    let some : 0 < c.loop-steps.steps = search rules in
+    let more : is_offset (all_said c.loop-steps.at.rest.now) ≡ true = search rules in (
+      onward_twice c.args.r.now old new inv.0 c.one_step.ensures.on,
+      offsets_next (env_in c.args.r.now) (env_in old) c.args.left c.loop-steps.steps (lval_of old.graph.nodes c.loop-steps.at.located.place) (lval_of new.graph.nodes c.in_ok-at.at.located.place) (type_in old.graph.nodes c.loop-steps.at.located.ty) (type_in new.graph.nodes c.in_ok-at.at.located.ty)
+          (all_said c.loop-steps.at.rest.now) (all_said c.in_ok-at.at.rest.now) _ some more inv.0.env c.in_ok-at.ensures.gives inv.1,
+      c.in_ok-at.ensures.known,
+      λ f adds. c.in_ok-at.ensures.adds f (inv.3 f adds),
+    )
+
+pub read_offsets-returns-in_err-at-clause-gives : goal.read_offsets-returns-in_err-at-clause-gives
+read_offsets-returns-in_err-at-clause-gives t c =
+    let inv = c.loop-steps.invariant in
+    let old = c.loop-steps.r in
+    let some : 0 < c.loop-steps.steps = search rules in
+    let more : is_offset (all_said c.loop-steps.at.rest.now) ≡ true = search rules in
+    let stops = offsets_stop (env_in c.args.r.now) (env_in old) c.args.left c.loop-steps.steps (lval_of old.graph.nodes c.loop-steps.at.located.place) (type_in old.graph.nodes c.loop-steps.at.located.ty) (all_said c.loop-steps.at.rest.now) _ c.in_err-at.field-0.0 some more inv.0.env
+    c.in_err-at.ensures.gives inv.1 in
+    let err : c.from_residual.result ≡ Err c.in_err-at.field-0.0 = search rules in
+    rw err stops

@@ -21,8 +21,8 @@ returns-in_err-rest-clause-gives c =
     let xs = globals_of s.graph.nodes c.read_objects.new.pool c.in_ok-globals.globals.items in
     let bodies = option_map (bodied 0 xs) (read_bodies (outside (env_in s)) c.args.left (declarations_of s.graph.nodes c.args.declarations.now) (all_lines c.in_ok-globals.rest.now)) in
     let stops = fails_by c.in_err-rest.field-0.0 bodies (defined_read (env_in r) c.args.left ds (all_lines c.args.lines.now))
-    (λ none. defined_bodies_fail (env_in r) (env_in s) c.args.left ds (declarations_of s.graph.nodes c.args.declarations.now) (all_lines c.args.lines.now) (all_lines c.in_ok-globals.rest.now) xs c.read_objects.ensures.env
-    (declared_all r.graph s.graph c.args.declarations.now c.read_objects.ensures.grows c.requires) c.in_ok-globals.ensures.gives none)
+    (λ none. defined_bodies_fail (env_in r) (env_in s) c.args.left ds (declarations_of s.graph.nodes c.args.declarations.now) (all_lines c.args.lines.now) (all_lines c.in_ok-globals.rest.now) xs c.read_objects.ensures.on.env
+    (declared_all r.graph s.graph c.args.declarations.now c.read_objects.ensures.on.grows c.requires) c.in_ok-globals.ensures.gives none)
     (rw (sym c.deref_mut.ensures.value) c.in_err-rest.ensures.gives) in
     let err : c.from_residual-in_err-rest.result ≡ Err c.in_err-rest.field-0.0 = search rules in
     rw err stops
@@ -35,8 +35,8 @@ returns-then-not-is_empty-clause-gives c =
     let bodies : option_map (bodied 0 (globals_of s.graph.nodes c.read_objects.new.pool c.in_ok-globals.globals.items)) (read_bodies (outside (env_in s)) c.args.left (declarations_of s.graph.nodes c.args.declarations.now) (all_lines c.in_ok-globals.rest.now))
     ≡ Some (globals_of c.read_bodies.new.r.graph.nodes c.read_bodies.new.pool c.read_bodies.new.globals, all_lines c.in_ok-rest.rest.now) = search rules in
     defined_more (env_in r) (env_in s) c.args.left (declarations_of r.graph.nodes c.args.declarations.now) (declarations_of s.graph.nodes c.args.declarations.now) (all_lines c.args.lines.now) (all_lines c.in_ok-globals.rest.now) c.in_ok-rest.rest.now
-    (globals_of s.graph.nodes c.read_objects.new.pool c.in_ok-globals.globals.items) (globals_of c.read_bodies.new.r.graph.nodes c.read_bodies.new.pool c.read_bodies.new.globals) c.read_objects.ensures.env
-    (declared_all r.graph s.graph c.args.declarations.now c.read_objects.ensures.grows c.requires) c.in_ok-globals.ensures.gives bodies some
+    (globals_of s.graph.nodes c.read_objects.new.pool c.in_ok-globals.globals.items) (globals_of c.read_bodies.new.r.graph.nodes c.read_bodies.new.pool c.read_bodies.new.globals) c.read_objects.ensures.on.env
+    (declared_all r.graph s.graph c.args.declarations.now c.read_objects.ensures.on.grows c.requires) c.in_ok-globals.ensures.gives bodies some
 
 pub returns-clause-gives : goal.returns-clause-gives
 returns-clause-gives c =
@@ -48,8 +48,8 @@ returns-clause-gives c =
     let bodies : option_map (bodied 0 (globals_of s.graph.nodes c.read_objects.new.pool c.in_ok-globals.globals.items)) (read_bodies (outside (env_in s)) c.args.left (declarations_of s.graph.nodes c.args.declarations.now) (all_lines c.in_ok-globals.rest.now))
     ≡ Some (globals_of c.read_bodies.new.r.graph.nodes c.read_bodies.new.pool c.read_bodies.new.globals, all_lines c.in_ok-rest.rest.now) = search rules in
     defined_whole (env_in r) (env_in s) c.args.left (declarations_of r.graph.nodes c.args.declarations.now) (declarations_of s.graph.nodes c.args.declarations.now) (all_lines c.args.lines.now) (all_lines c.in_ok-globals.rest.now) c.in_ok-rest.rest.now
-    (globals_of s.graph.nodes c.read_objects.new.pool c.in_ok-globals.globals.items) (globals_of c.read_bodies.new.r.graph.nodes c.read_bodies.new.pool c.read_bodies.new.globals) c.read_objects.ensures.env
-    (declared_all r.graph s.graph c.args.declarations.now c.read_objects.ensures.grows c.requires) c.in_ok-globals.ensures.gives bodies none
+    (globals_of s.graph.nodes c.read_objects.new.pool c.in_ok-globals.globals.items) (globals_of c.read_bodies.new.r.graph.nodes c.read_bodies.new.pool c.read_bodies.new.globals) c.read_objects.ensures.on.env
+    (declared_all r.graph s.graph c.args.declarations.now c.read_objects.ensures.on.grows c.requires) c.in_ok-globals.ensures.gives bodies none
     ∙ ap (λ (xs : List GlobalDecl). Some (globals_of c.read_bodies.new.r.graph.nodes c.read_bodies.new.pool xs)) (sym (written_back c.in_ok-globals.globals.len c.read_bodies.new.globals c.in_ok-globals.globals.items size len))
 
 pub returns-clause-adds : goal.returns-clause-adds
