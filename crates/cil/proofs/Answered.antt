@@ -6,12 +6,13 @@ use Rattle.c_meaning.specs.Grammar.{Expression, IsUnit}
 use Rattle.outside.specs.Named.{Told}
 use Rattle.cil_tree.specs.Tree.{Program}
 use Rattle.cil.specs.Lowering.{Merges}
-use Rattle.cil.specs.Command.{steps_asked}
+use Rattle.cil_words.specs.Command.{steps_asked}
 use Rattle.cil.specs.Merge.{unit_asked, IsMergeAnswer, IsRefused, IsRefusedLike, IfRefused}
-use Rattle.cil.specs.Messages.{AreNames, names_asked, line_of}
+use Rattle.cil_lines.specs.Messages.{line_of}
+use Rattle.cil.specs.Messages.{AreNames, names_asked}
 use Rattle.cil.proofs.Units.{not_both, like_refusal}
-use Rattle.cil.specs.declared.status.Status.{Status}
-use Rattle.cil.specs.declared.status.Status.TheVariants.{Done, Exited, StillRunning, WentUndefined, Usage, Refused, NotCil, ReadFault, WriteFault, Memory}
+use Rattle.cil_lines.specs.declared.status.Status.{Status}
+use Rattle.cil_lines.specs.declared.status.Status.TheVariants.{Done, Exited, StillRunning, WentUndefined, Usage, Refused, NotCil, ReadFault, WriteFault, Memory}
 
 -- of a unit of the form
 accepted_as : (status : Status) (files out : Type 0) → IsMergeAnswer status → (status ≡ ReadFault → files) → (status ≡ WriteFault → out) → IfRefused status (λ refusal. ⊥)

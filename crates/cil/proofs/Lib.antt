@@ -1,11 +1,8 @@
 pub mod Answered
-pub mod Bounds
-pub mod Fronts
 pub mod Lengths
 pub mod LongTexts
 pub mod Numbers
 pub mod Merging
-pub mod Pieces
 pub mod Printing
 pub mod Ran
 pub mod Runs

@@ -5,8 +5,8 @@ use Rattle.cil_tree.specs.LaidOut.{bad_place, first_bad, lines_from}
 use Rattle.cil_reader.specs.Stops.{IsNoText}
 use Rattle.cil.specs.Merge.{IsFrontOf}
 use Rattle.cil.specs.Execute.{Ran, RunSays}
-use Rattle.cil.specs.declared.status.Status.{Status}
-use Rattle.cil.specs.declared.status.Status.TheVariants.{Done, Exited, StillRunning, WentUndefined, Usage, Refused, NotCil, ReadFault, WriteFault, Memory}
+use Rattle.cil_lines.specs.declared.status.Status.{Status}
+use Rattle.cil_lines.specs.declared.status.Status.TheVariants.{Done, Exited, StillRunning, WentUndefined, Usage, Refused, NotCil, ReadFault, WriteFault, Memory}
 
 -- too many bytes are no text, and are refused at the limit
 pub too_long : (bytes : List ℕ) → text_limit < length bytes → (text_limit ≡ bad_place bytes) × IsNoText bytes

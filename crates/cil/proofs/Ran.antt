@@ -10,10 +10,10 @@ use Rattle.cil_semantics.specs.Runs.{RunCil}
 use Rattle.cil_semantics.specs.Modes.{mode_of}
 use Rattle.cil_reader.specs.Stops.{IsNoText}
 use Rattle.cil.specs.Execute.{IsRunAnswer, IsEnd, RanAs, Ran, RunSays, AnswersAs}
-use Rattle.cil.specs.Messages.{HasFiles}
+use Rattle.cil_lines.specs.Messages.{HasFiles}
 use Rattle.cil.proofs.Runs.{ran_alike, answers_given}
-use Rattle.cil.specs.declared.status.Status.{Status}
-use Rattle.cil.specs.declared.status.Status.TheVariants.{Done, Exited, StillRunning, WentUndefined, Usage, Refused, NotCil, ReadFault, WriteFault, Memory}
+use Rattle.cil_lines.specs.declared.status.Status.{Status}
+use Rattle.cil_lines.specs.declared.status.Status.TheVariants.{Done, Exited, StillRunning, WentUndefined, Usage, Refused, NotCil, ReadFault, WriteFault, Memory}
 
 -- the statuses of `run`
 pub run_kind : (idle unread failed : Type 0) (asked : Option (List ℕ)) (words : List (List ℕ)) (steps : ℕ) (status : Status) (left left' taken taken' : Option (List ℕ)) → RunSays idle unread failed asked words steps status left left' taken taken' → IsRunAnswer status

@@ -15,8 +15,8 @@ use Rattle.cil_turns.proofs.Needed.{needed_none, needed_along}
 use Rattle.cil_runner.specs.Machine.{RunsAs}
 use Rattle.cil.specs.Execute.{status_of, Tells, Says, RanAs, IsEnd, AnswersAs}
 use Rattle.cil.specs.RunEnds.{status_by}
-use Rattle.cil.specs.declared.status.Status.{Status}
-use Rattle.cil.specs.declared.status.Status.TheVariants.{Done, Exited, StillRunning, WentUndefined, Usage, Refused, NotCil, ReadFault, WriteFault, Memory}
+use Rattle.cil_lines.specs.declared.status.Status.{Status}
+use Rattle.cil_lines.specs.declared.status.Status.TheVariants.{Done, Exited, StillRunning, WentUndefined, Usage, Refused, NotCil, ReadFault, WriteFault, Memory}
 
 -- nothing was read or written
 

@@ -27,8 +27,8 @@ use Rattle.c_tree.specs.Placed.{placed_expr, placed_unit}
 use Rattle.c_tree.specs.Scoped.{scoped_expr, scoped_unit}
 use Rattle.c_tree.specs.Height.{expr_height}
 use Rattle.c_tree.specs.Grammatical.{is_grammatical, low_unit}
-use Rattle.c_exprs.specs.Classes.{has_text}
-use Rattle.c_exprs.specs.Lexemes.{lexeme_of}
+use Rattle.c_cursor.specs.Classes.{has_text}
+use Rattle.c_cursor.specs.Lexemes.{lexeme_of}
 use Rattle.cil.specs.Grammatical.{IsGrammatical}
 
 -- the tree of an expression whose first token has the number n

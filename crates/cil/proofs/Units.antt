@@ -23,7 +23,7 @@ use Rattle.c_meaning.specs.Grammar.{Expression, IsUnit}
 use Rattle.c_meaning.specs.Reading.{reading}
 use Rattle.c_meaning.proofs.Units.{unit_reads}
 use Rattle.c_tree.specs.Units.{UnitTree}
-use Rattle.c_exprs.specs.Lexemes.{lexemes}
+use Rattle.c_cursor.specs.Lexemes.{lexemes}
 use Rattle.c_parser.specs.UnitAnswers.{ReadsUnit, IsSyntaxFault}
 use Rattle.c_parser.proofs.UnitLaws.{one_start}
 use Rattle.cil_tree.specs.Tree.{Program}
@@ -34,8 +34,8 @@ use Rattle.cil.specs.Grammatical.{AreTokens, IsGrammatical}
 use Rattle.cil.specs.Merge.{IsMergeFault, HasOther, IsFrontOf, IsRefused, Large, OfToken, OfGrammar, NotOfForm, IsLike, IfRefused, not_built, too_large}
 use Rattle.cil.specs.Merged.{file_in, IsAlone, IsMergeRefusal}
 use Rattle.cil.proofs.SmallUnits.{small_is_grammatical}
-use Rattle.cil.specs.declared.status.Status.{Status}
-use Rattle.cil.specs.declared.status.Status.TheVariants.{Done, Exited, StillRunning, WentUndefined, Usage, Refused as IsRefusal, NotCil, ReadFault, WriteFault, Memory}
+use Rattle.cil_lines.specs.declared.status.Status.{Status}
+use Rattle.cil_lines.specs.declared.status.Status.TheVariants.{Done, Exited, StillRunning, WentUndefined, Usage, Refused as IsRefusal, NotCil, ReadFault, WriteFault, Memory}
 
 -- below the limit the whole file was read
 whole : (limit : ℕ) (bytes file : List ℕ) → IsFrontOf limit bytes file → length bytes < limit → file ≡ bytes

@@ -8,13 +8,14 @@ use Rattle.std.specs.Str.{bytes_eq}
 use Rattle.std.specs.String.{string_bytes}
 use Rattle.std.proofs.lemmas.Option.{slice_get-map, slice_get-get_or}
 use Rattle.outside.specs.Named.{Told}
-use Rattle.cil.specs.Command.{command_of, command_in, merge_of, run_of, run_bounded_of, steps_of, are_words, names_file, file_position, merged_position, run_position, bound_of, file_of, run_file, steps_asked, words_given}
+use Rattle.cil_words.specs.Command.{command_of, command_in, merge_of, run_of, run_bounded_of, steps_of, are_words, names_file, file_position, merged_position, run_position, bound_of, file_of, run_file, steps_asked, words_given}
 use Rattle.cil.specs.Execute.{RunSays}
 use Rattle.cil.specs.Merge.{unit_asked, bytes_under, file_under, IsRefused, IfRefused}
-use Rattle.cil.specs.Messages.{names_asked, Begins, AreNames, HasFiles}
-use Rattle.cil.specs.declared.command.Command.{Command}
-use Rattle.cil.specs.declared.command.Command.TheVariants.{Merge, Run}
-use Rattle.cil.specs.declared.status.Status.{Status}
+use Rattle.cil_lines.specs.Messages.{HasFiles}
+use Rattle.cil.specs.Messages.{names_asked, Begins, AreNames}
+use Rattle.cil_words.specs.declared.command.Command.{Command}
+use Rattle.cil_words.specs.declared.command.Command.TheVariants.{Merge, Run}
+use Rattle.cil_lines.specs.declared.status.Status.{Status}
 
 -- the command's file is one of so many words
 Within : ℕ → Option Command → Type 0

@@ -2,10 +2,10 @@
 use Rattle.std.specs.Prelude.{Option, Some, None}
 use Rattle.cil.specs.Merge.{IsMergeAnswer}
 use Rattle.cil.specs.Execute.{IsRunAnswer}
-use Rattle.cil.specs.declared.command.Command.{Command}
-use Rattle.cil.specs.declared.command.Command.TheVariants.{Merge, Run}
-use Rattle.cil.specs.declared.status.Status.{Status}
-use Rattle.cil.specs.declared.status.Status.TheVariants.{Usage}
+use Rattle.cil_words.specs.declared.command.Command.{Command}
+use Rattle.cil_words.specs.declared.command.Command.TheVariants.{Merge, Run}
+use Rattle.cil_lines.specs.declared.status.Status.{Status}
+use Rattle.cil_lines.specs.declared.status.Status.TheVariants.{Usage}
 
 abbrev pub IsUsage : Status → Type 0
 IsUsage Usage = Unit {0}

@@ -13,10 +13,10 @@ use Rattle.cil_reader.specs.Stops.{IsNoText}
 use Rattle.cil_turns.specs.Ends.{ReadAsNeeded}
 use Rattle.outside.specs.Moves.{WasRead, Wrote}
 use Rattle.outside.specs.Named.{Told}
-use Rattle.cil.specs.Command.{run_file}
+use Rattle.cil_words.specs.Command.{run_file}
 use Rattle.cil.specs.Merge.{bytes_under}
-use Rattle.cil.specs.declared.status.Status.{Status}
-use Rattle.cil.specs.declared.status.Status.TheVariants.{Done, Exited, StillRunning, WentUndefined, Usage, Refused, NotCil, ReadFault, WriteFault, Memory}
+use Rattle.cil_lines.specs.declared.status.Status.{Status}
+use Rattle.cil_lines.specs.declared.status.Status.TheVariants.{Done, Exited, StillRunning, WentUndefined, Usage, Refused, NotCil, ReadFault, WriteFault, Memory}
 
 -- the text that the words ask to be run, where the files tell it
 abbrev pub text_asked : Option Told → List (List ℕ) → Option (List ℕ)

@@ -4,7 +4,7 @@ use Rattle.c_lexer.specs.Lexed.{Lexed}
 use Rattle.c_lexer.specs.Tokens.{Whole}
 use Rattle.c_meaning.specs.SourceFile.{SourceFile, IsLexed}
 use Rattle.c_tree.specs.Units.{UnitTree}
-use Rattle.c_exprs.specs.Lexemes.{lexemes}
+use Rattle.c_cursor.specs.Lexemes.{lexemes}
 use Rattle.c_parser.specs.UnitAnswers.{ReadsUnit}
 
 -- a file of at most 4,194,304 bytes (own), which is the first unit, and its tokens, with the names that were asked for

@@ -1,5 +1,4 @@
 pub mod Answers
-pub mod Command
 pub mod Execute
 pub mod Grammatical
 pub mod Lowering
@@ -8,5 +7,4 @@ pub mod Merged
 pub mod Messages
 pub mod Reader
 pub mod RunEnds
-pub mod Sent
 pub mod Small

@@ -12,10 +12,10 @@ use Rattle.c_meaning.specs.SourceFile.{SourceFile, IsLexed}
 use Rattle.c_meaning.specs.Grammar.{Expression, IsUnit}
 use Rattle.c_parser.specs.UnitAnswers.{IsSyntaxFault}
 use Rattle.outside.specs.Named.{Told, find_file}
-use Rattle.cil.specs.Command.{merged_file}
+use Rattle.cil_words.specs.Command.{merged_file}
 use Rattle.cil.specs.Grammatical.{AreTokens, IsGrammatical}
-use Rattle.cil.specs.declared.status.Status.{Status}
-use Rattle.cil.specs.declared.status.Status.TheVariants.{Done, Exited, StillRunning, WentUndefined, Usage, Refused as IsRefusal, NotCil, ReadFault, WriteFault, Memory}
+use Rattle.cil_lines.specs.declared.status.Status.{Status}
+use Rattle.cil_lines.specs.declared.status.Status.TheVariants.{Done, Exited, StillRunning, WentUndefined, Usage, Refused as IsRefusal, NotCil, ReadFault, WriteFault, Memory}
 
 -- the bytes under a name, where the files tell them and the name is there
 abbrev pub bytes_under : Option Told → List ℕ → Option (List ℕ)

@@ -1,8 +1,8 @@
 -- Device: the status that tells how a machine's run ended.
 use Rattle.cil_turns.specs.declared.ends.RunEnd.{RunEnd}
 use Rattle.cil_turns.specs.declared.ends.RunEnd.TheVariants as end
-use Rattle.cil.specs.declared.status.Status.{Status}
-use Rattle.cil.specs.declared.status.Status.TheVariants.{Exited, StillRunning, WentUndefined, ReadFault, WriteFault, Memory}
+use Rattle.cil_lines.specs.declared.status.Status.{Status}
+use Rattle.cil_lines.specs.declared.status.Status.TheVariants.{Exited, StillRunning, WentUndefined, ReadFault, WriteFault, Memory}
 
 abbrev pub status_by : RunEnd → Status
 status_by (end.Exited status) = Exited status

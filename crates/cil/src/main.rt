@@ -6,15 +6,12 @@
 //! The commands and their messages are the product's own.
 #![tactic(auto)]
 
-mod command;
 mod execute;
 mod file;
 mod lower;
 mod merge;
 mod printer;
 mod reader;
-mod report;
-mod status;
 #[cfg(test)]
 mod tests;
 #[cfg(test)]
@@ -22,10 +19,10 @@ mod tests_reader;
 mod top;
 
 use cil_base::NamePool;
-pub use command::{Command, read_words};
+pub use cil_lines::Status;
+use cil_lines::report;
+pub use cil_words::{Command, read_words};
 use outside::{HostFiles, StdSink, StdSource};
-use report::report;
-pub use status::Status;
 use std::process::ExitCode;
 use std::{env, io};
 pub use top::cil;

@@ -10,17 +10,18 @@ ghost use Rattle.cil.specs.Grammatical.{AreTokens, IsGrammatical};
 ghost use Rattle.cil.specs.Lowering.{Merges};
 ghost use Rattle.cil.specs.Merge.{bytes_under, file_under, IsFrontOf, IsMergeAnswer, IsRefused, IfRefused};
 ghost use Rattle.cil.specs.Merged.{file_in, IsAlone, IsMergeRefusal};
-ghost use Rattle.cil.specs.Messages.{HasFiles, Begins};
+ghost use Rattle.cil_lines.specs.Messages.{HasFiles};
+ghost use Rattle.cil.specs.Messages.{Begins};
 
 use crate::file::{read_file, refused_first};
 use crate::lower::lower;
 use crate::printer::print;
 use crate::reader::unit_of;
-use crate::status::Status;
 use c_lexer::{Tokens, lex};
 use c_parser::parse;
+use cil_lines::{Status, send};
 use cil_base::{Fault, NameId, NamePool, Stop, UnitNo, What};
-use outside::{Files, ReadStop, Sink, write_all};
+use outside::{Files, ReadStop, Sink};
 use std::alloc::Global;
 
 // The greatest number of bytes in a translation unit.
@@ -93,21 +94,6 @@ fn merged_text(
     Ok(text)
 }
 
-// Writes the whole text.
-fn write_text<O: Sink>(out: &mut O, text: &[u8]) -> Status
-    ensures done { result ≡ Status.Done → Wrote (O.taken out.old) (O.taken out.new) text.now }
-    ensures began { Began (O.taken out.old) (O.taken out.new) text.now }
-    ensures two { result ≢ Status.Done → result ≡ Status.WriteFault }
-    ensures write { result ≡ Status.WriteFault → Rose (O.faults out.old) (O.faults out.new) }
-    ensures calm_out { result ≢ Status.WriteFault → O.faults out.new ≡ O.faults out.old }
-    ensures later_out { O.faults out.old ≤ O.faults out.new }
-{
-    match write_all(out, text) {
-        Ok(()) => Status::Done,
-        Err(_) => Status::WriteFault,
-    }
-}
-
 // Merges the first unit, whose file is the only name of the pool, and writes the text.
 fn merge_unit<O: Sink>(
     alloc: Global,
@@ -131,7 +117,7 @@ fn merge_unit<O: Sink>(
     ensures later_out { O.faults out.old ≤ O.faults out.new }
 {
     match merged_text(alloc, unit, file, names) {
-        Ok(text) => write_text(out, &text),
+        Ok(text) => send(out, &text),
         Err(Stop::Refused(refusal)) => Status::Refused(refusal),
         Err(Stop::Memory) => Status::Memory,
     }

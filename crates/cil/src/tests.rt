@@ -1,9 +1,9 @@
 //! The program over files and streams in memory: what is answered, written and told.
 
 ghost use Rattle.std.specs.Prelude.{◌≡◌};
-ghost use Rattle.cil.specs.Messages.{HasFiles};
+ghost use Rattle.cil_lines.specs.Messages.{HasFiles};
 
-use crate::report::report;
+use cil_lines::report;
 use crate::{Status, cil};
 use cil_base::{Code, Fault, Feature, NameId, NamePool, Place, Refusal, UnitNo, What};
 use outside::{MemFiles, MemSink, MemSource};

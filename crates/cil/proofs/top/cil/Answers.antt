@@ -2,10 +2,10 @@ use Rattle.std.proofs.Common.{◌∙◌, ap, subst, map, unwrap_or}
 use Rattle.std.specs.Option.{option_map}
 use Rattle.std.specs.String.{string_bytes}
 use Rattle.outside.specs.Counts.{Rose}
-use Rattle.cil.specs.Command.{bound_of, run_file, words_given, steps_asked}
+use Rattle.cil_words.specs.Command.{bound_of, run_file, words_given, steps_asked}
 use Rattle.cil.specs.Execute.{text_asked}
 use Rattle.cil.specs.Merge.{bytes_under}
-use Rattle.cil.specs.Sent.{Sent}
+use Rattle.cil_lines.specs.Sent.{Sent}
 use Rattle.cil.proofs.Answered.{line_by}
 use Rattle.cil.proofs.Ran.{runs_asked, answers_by, not_cil_asked}
 use Rattle.cil.proofs.top.cil.Goals as goal

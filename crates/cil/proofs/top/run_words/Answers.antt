@@ -2,7 +2,7 @@ use Rattle.std.proofs.Common.{◌∙◌, ap, sym, map, get_or, length}
 use Rattle.std.specs.Option.{option_and_then}
 use Rattle.std.proofs.lemmas.List.{take_rest}
 use Rattle.std.specs.String.{string_bytes}
-use Rattle.cil.specs.Command.{file_of}
+use Rattle.cil_words.specs.Command.{file_of}
 use Rattle.cil.specs.Merge.{bytes_under}
 use Rattle.cil.proofs.Ran.{run_kind, run_files, read_failed}
 use Rattle.cil.proofs.Words.{run_file_is, run_is_asked, asked_run, if_some_by, run_names}

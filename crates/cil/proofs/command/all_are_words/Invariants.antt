@@ -1,9 +1,0 @@
-use Rattle.std.proofs.Common.{◌≡◌, map, drop}
-use Rattle.std.specs.List.{list_all}
-use Rattle.std.specs.String.{string_bytes}
-use Rattle.cil.specs.Command.{is_word}
-use Rattle.cil.proofs.command.all_are_words.Given as goal
-
--- what is left to test decides
-abbrev pub invariant-loop-word : goal.invariant-loop-word
-invariant-loop-word l = list_all is_word (map string_bytes (drop l.word-index l.words)) ≡ list_all is_word (map string_bytes l.words)

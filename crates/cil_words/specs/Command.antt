@@ -1,0 +1,92 @@
+-- Definition: which words are a command (own).
+use Rattle.std.specs.Prelude.{ℕ, ◌-◌, ◌^◌, Bool, false, not, ◌==◌, ◌&&◌, nat_lt, nat_le, List, [], ◌∷◌, length, drop, codes, decimal, Option, Some, None, slice_get, unwrap_or, if◌then◌else◌}
+use Rattle.std.specs.List.{list_any, list_all}
+use Rattle.std.specs.Option.{option_map, option_and_then}
+use Rattle.std.specs.Str.{bytes_eq}
+use Rattle.std.specs.Str.Parse.{digits_value}
+use Rattle.cil_words.specs.declared.command.Command.{Command}
+use Rattle.cil_words.specs.declared.command.Command.TheVariants.{Merge, Run}
+
+-- a word that an operating system can hand on: it has fewer than 2^31 - 1 bytes, and none of them is zero
+abbrev pub is_word : List ℕ → Bool
+is_word word = nat_lt (length word) (2 ^ 31 - 1) && not (list_any (λ b. b == 0) word)
+
+-- words that an operating system can hand on: there are fewer than 2^28 - 1
+abbrev pub are_words : List (List ℕ) → Bool
+are_words words = nat_lt (length words) (2 ^ 28 - 1) && list_all is_word words
+
+-- a word that names a file: it is not empty and does not begin with a hyphen
+abbrev pub names_file : List ℕ → Bool
+names_file [] = false
+names_file (b ∷ bs) = not (b == 45)
+
+-- the number from 1 to the greatest that a word spells, in decimal digits of which the first is not 0
+abbrev pub bound_up_to : ℕ → List ℕ → Option ℕ
+bound_up_to most word =
+    if (nat_le 1 (digits_value 10 word) && nat_le (digits_value 10 word) most) && bytes_eq word (decimal (digits_value 10 word))
+    then Some (digits_value 10 word) else None
+
+-- the bound on steps that a word spells
+abbrev pub steps_of : List ℕ → Option ℕ
+steps_of word = bound_up_to 1000000000000 word
+
+-- behind `merge`: FILE
+abbrev pub merge_of : List ℕ → List (List ℕ) → Option Command
+merge_of file [] = if names_file file then Some (Merge 1) else None
+merge_of file (word ∷ words) = None
+
+-- behind `run --steps`: N FILE ARG..., of which the arguments are any words
+abbrev pub run_bounded_of : List (List ℕ) → Option Command
+run_bounded_of (steps ∷ file ∷ args) = if names_file file then option_map (λ bound. Run bound 3) (steps_of steps) else None
+run_bounded_of _ = None
+
+-- behind `run`: FILE ARG..., or --steps and the form above; where no bound is given it is 10,000,000
+abbrev pub run_of : List ℕ → List (List ℕ) → Option Command
+run_of word words = if bytes_eq word (codes "--steps") then run_bounded_of words else (if names_file word then Some (Run 10000000 1) else None)
+
+abbrev pub command_by_name : List ℕ → List ℕ → List (List ℕ) → Option Command
+command_by_name name word words = if bytes_eq name (codes "merge") then merge_of word words else (if bytes_eq name (codes "run") then run_of word words else None)
+
+abbrev pub command_in : List (List ℕ) → Option Command
+command_in (name ∷ word ∷ words) = command_by_name name word words
+command_in _ = None
+
+-- the command that the words are
+abbrev pub command_of : List (List ℕ) → Option Command
+command_of words = if are_words words then command_in words else None
+
+-- the position of the first file of a command
+abbrev pub file_position : Command → ℕ
+file_position (Merge first) = first
+file_position (Run steps file) = file
+
+-- the position of the file that is to be merged, or run
+abbrev pub merged_position : Command → Option ℕ
+merged_position (Merge first) = Some first
+merged_position (Run steps file) = None
+
+abbrev pub run_position : Command → Option ℕ
+run_position (Merge first) = None
+run_position (Run steps file) = Some file
+
+-- the word that names the first file of the command, the file to be merged, and the file to be run
+abbrev pub file_of : List (List ℕ) → Option (List ℕ)
+file_of words = option_and_then (λ command. slice_get words (file_position command)) (command_of words)
+
+abbrev pub merged_file : List (List ℕ) → Option (List ℕ)
+merged_file words = option_and_then (slice_get words) (option_and_then merged_position (command_of words))
+
+abbrev pub run_file : List (List ℕ) → Option (List ℕ)
+run_file words = option_and_then (slice_get words) (option_and_then run_position (command_of words))
+
+-- the bound on the steps of the run that the words ask for
+abbrev pub bound_of : Command → ℕ
+bound_of (Merge first) = 0
+bound_of (Run steps file) = steps
+
+abbrev pub steps_asked : List (List ℕ) → ℕ
+steps_asked words = unwrap_or (option_map bound_of (command_of words)) 0
+
+-- the words that the program to be run is given: FILE, which names it, and those behind it (C11 5.1.2.2.1p2)
+abbrev pub words_given : List (List ℕ) → List (List ℕ)
+words_given words = unwrap_or (option_map (λ at. drop at words) (option_and_then run_position (command_of words))) []

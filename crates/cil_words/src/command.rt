@@ -1,0 +1,151 @@
+ghost use Rattle.std.specs.Prelude.{◌≡◌, ◌≤◌, ◌↔◌, map, decimal, IsTrue};
+ghost use Rattle.std.specs.List.{list_all};
+ghost use Rattle.std.specs.String.{string_bytes};
+ghost use Rattle.cil_words.specs.Command.{command_of, command_by_name, merge_of, run_of, run_bounded_of, steps_of, names_file, is_word as is_word_of, are_words as are_words_of};
+
+use itoa::Buffer;
+
+/// What the words of the command line ask for.
+#[derive(Clone, Copy, Debug, PartialEq, Eq)]
+pub enum Command {
+    /// `merge FILE`: the position of the first file among the words.
+    Merge { first: u32 },
+    /// `run [--steps N] FILE [ARG...]`: the bound on steps, and the position of the file among the words.
+    Run { steps: u64, file: u32 },
+}
+
+/// The bound on the steps of a run where the words give none.
+const STEPS: u64 = 10_000_000;
+
+/// The greatest bound on the steps of a run.
+const MOST_STEPS: u64 = 1_000_000_000_000;
+
+/// The command that the words behind the program's name are, or none. Own.
+pub fn read_words(words: &[String]) -> Option<Command>
+    ensures { result ≡ command_of (map string_bytes words.now) }
+{
+    if !are_words(words) {
+        return None;
+    }
+    match words {
+        [name, word, rest @ ..] => named_command(name.as_str(), word, rest),
+        _ => None,
+    }
+}
+
+// The command of that name, with the words behind it.
+fn named_command(name: &str, word: &String, rest: &[String]) -> Option<Command>
+    ensures { result ≡ command_by_name name.now (string_bytes word.now) (map string_bytes rest.now) }
+{
+    if name == "merge" {
+        merge_command(word, rest)
+    } else if name == "run" {
+        run_command(word, rest)
+    } else {
+        None
+    }
+}
+
+fn merge_command(file: &String, rest: &[String]) -> Option<Command>
+    ensures { result ≡ merge_of (string_bytes file.now) (map string_bytes rest.now) }
+{
+    match rest {
+        [] => {
+            if is_file_name(file.as_bytes()) {
+                Some(Command::Merge { first: 1 })
+            } else {
+                None
+            }
+        }
+        _ => None,
+    }
+}
+
+fn run_command(word: &String, rest: &[String]) -> Option<Command>
+    ensures { result ≡ run_of (string_bytes word.now) (map string_bytes rest.now) }
+{
+    if word.as_str() == "--steps" {
+        bounded_run(rest)
+    } else if is_file_name(word.as_bytes()) {
+        Some(Command::Run {
+            steps: STEPS,
+            file: 1,
+        })
+    } else {
+        None
+    }
+}
+
+fn bounded_run(words: &[String]) -> Option<Command>
+    ensures { result ≡ run_bounded_of (map string_bytes words.now) }
+{
+    match words {
+        [steps, file, ..] => {
+            if is_file_name(file.as_bytes()) {
+                bound(steps.as_str()).map(|steps| Command::Run { steps, file: 3 })
+            } else {
+                None
+            }
+        }
+        _ => None,
+    }
+}
+
+// The bound on steps that a word spells.
+fn bound(word: &str) -> Option<u64>
+    ensures { result ≡ steps_of word.now }
+{
+    match word.parse::<u64>() {
+        Ok(steps) => {
+            if spells(word, steps) {
+                Some(steps)
+            } else {
+                None
+            }
+        }
+        Err(_) => None,
+    }
+}
+
+// Whether a word is the decimal spelling of a number of steps that may be asked for.
+fn spells(word: &str, steps: u64) -> bool
+    ensures { IsTrue result ↔ ((1 ≤ steps) × ((steps ≤ 1000000000000) × (word.now ≡ decimal steps))) }
+{
+    let mut buffer = Buffer::new();
+    steps >= 1 && steps <= MOST_STEPS && buffer.format(steps) == word
+}
+
+// Whether a word can name a file.
+fn is_file_name(word: &[u8]) -> bool
+    ensures { result ≡ names_file word.now }
+{
+    match word {
+        [first, ..] => *first != b'-',
+        [] => false,
+    }
+}
+
+// Whether words can come from an operating system.
+fn are_words(words: &[String]) -> bool
+    ensures { result ≡ are_words_of (map string_bytes words.now) }
+{
+    words.len() < 0x0fff_ffff && all_are_words(words)
+}
+
+fn all_are_words(words: &[String]) -> bool
+    ensures { result ≡ list_all is_word_of (map string_bytes words.now) }
+{
+    for word in words {
+        if !is_word(word.as_bytes()) {
+            return false;
+        }
+    }
+    true
+}
+
+// Whether a word can come from an operating system.
+fn is_word(word: &[u8]) -> bool
+    ensures { result ≡ is_word_of word.now }
+{
+    word.len() < 0x7fff_ffff && !word.contains(&0)
+}
