@@ -1,9 +1,8 @@
 use crate::graphs::{Form, array, finish, function, pointer, qualified};
+use crate::program::{add_function, add_local, add_zero, declare, empty, no_body};
 use cil_base::{BinOp, EntityId, IntKind, LocalId, Memory, NamePool, TypeId, UnOp};
 use cil_check::check;
-use cil_tree::{
-    Body, Callee, CilUnit, Exp, GlobalDecl, GlobalDef, Host, Instr, Local, Lval, Offset, Stmt,
-};
+use cil_tree::{Body, Callee, CilUnit, Exp, GlobalDecl, Host, Instr, Local, Lval, Offset, Stmt};
 use std::alloc::Global;
 use std::test::Fail;
 use type_graph::{AggKind, Node, TypeGraph};
@@ -329,6 +328,14 @@ fn shapes() -> &'static [(Shape, bool)] {
     ]
 }
 
+/// The statement in `main`: an assignment, a call, or one of those.
+#[derive(Clone, Copy)]
+enum Tried<'a> {
+    Assigned(Var, Value),
+    Called(Option<Var>, Called, &'a [Var]),
+    Shaped(Shape),
+}
+
 /// The numbers of the types.
 #[derive(Clone, Copy)]
 struct Types {
@@ -398,7 +405,7 @@ fn add_types(g: &mut TypeGraph, pool: &mut NamePool) -> Result<Types, Memory> {
 }
 
 /// The type of a local.
-fn type_of(types: Types, v: Var) -> TypeId {
+fn type_of(types: &Types, v: Var) -> TypeId {
     match v {
         Var::Int => types.int,
         Var::Long => types.long,
@@ -458,55 +465,101 @@ fn value_of(alloc: Global, v: Var) -> Exp {
     Exp::Lval(local_place(alloc, v))
 }
 
-/// What a local points to.
-fn target(alloc: Global, v: Var) -> Result<Lval, Memory> {
-    let p = Box::new(alloc, value_of(alloc, v))?;
-    Ok(place(alloc, Host::At(p)))
+/// An expression in a box.
+fn boxed(alloc: Global, e: Exp) -> Result<Box<Exp>, Memory> {
+    Ok(Box::new(alloc, e)?)
 }
 
-/// A part of a local.
-fn part(alloc: Global, v: Var, offset: Offset) -> Result<Exp, Memory> {
-    let mut offsets = Vec::new(alloc);
-    offsets.push(offset)?;
-    Ok(Exp::Lval(Lval {
+/// What a pointer points to.
+fn target(alloc: Global, p: Box<Exp>) -> Lval {
+    place(alloc, Host::At(p))
+}
+
+/// The value of what a local points to.
+fn target_value(alloc: Global, v: Var) -> Result<Box<Exp>, Memory> {
+    let p = boxed(alloc, value_of(alloc, v))?;
+    boxed(alloc, Exp::Lval(target(alloc, p)))
+}
+
+/// The address of what a local points to.
+fn target_address(alloc: Global, v: Var) -> Result<Box<Exp>, Memory> {
+    let p = boxed(alloc, value_of(alloc, v))?;
+    boxed(alloc, Exp::AddrOf(target(alloc, p)))
+}
+
+/// The value behind offsets of a local.
+fn behind(v: Var, offsets: Vec<Offset>) -> Exp {
+    Exp::Lval(Lval {
         host: Host::Var(local(v)),
         offsets,
-    }))
+    })
+}
+
+/// A member of a local.
+fn member(alloc: Global, v: Var, n: u32) -> Result<Box<Exp>, Memory> {
+    let mut offsets = Vec::new(alloc);
+    offsets.push(Offset::Field(n))?;
+    boxed(alloc, behind(v, offsets))
 }
 
 /// An element of a local.
-fn element(alloc: Global, v: Var, index: Var) -> Result<Exp, Memory> {
-    let index = Box::new(alloc, value_of(alloc, index))?;
-    part(alloc, v, Offset::Index(index))
+fn element(alloc: Global, v: Var, index: Var) -> Result<Box<Exp>, Memory> {
+    let index = boxed(alloc, value_of(alloc, index))?;
+    let mut offsets = Vec::new(alloc);
+    offsets.push(Offset::Index(index))?;
+    boxed(alloc, behind(v, offsets))
+}
+
+/// An operator and a local.
+fn unary(alloc: Global, op: UnOp, v: Var) -> Result<Box<Exp>, Memory> {
+    let inner = boxed(alloc, value_of(alloc, v))?;
+    boxed(alloc, Exp::Un(op, inner))
 }
 
 /// Two locals and an operator.
-fn binary(alloc: Global, op: BinOp, a: Var, b: Var) -> Result<Exp, Memory> {
-    let a = Box::new(alloc, value_of(alloc, a))?;
-    let b = Box::new(alloc, value_of(alloc, b))?;
-    Ok(Exp::Bin(op, a, b))
+fn binary(alloc: Global, op: BinOp, a: Var, b: Var) -> Result<Box<Exp>, Memory> {
+    let a = boxed(alloc, value_of(alloc, a))?;
+    let b = boxed(alloc, value_of(alloc, b))?;
+    boxed(alloc, Exp::Bin(op, a, b))
+}
+
+/// A conversion of a local.
+fn cast(alloc: Global, to: TypeId, v: Var) -> Result<Box<Exp>, Memory> {
+    let inner = boxed(alloc, value_of(alloc, v))?;
+    boxed(alloc, Exp::Cast(to, inner))
 }
 
 /// An expression.
-fn expression(alloc: Global, types: Types, value: Value) -> Result<Exp, Memory> {
+fn expression(alloc: Global, types: &Types, value: Value) -> Result<Box<Exp>, Memory> {
     match value {
-        Value::Of(v) => Ok(value_of(alloc, v)),
-        Value::Target(v) => Ok(Exp::Lval(target(alloc, v)?)),
-        Value::Member(v, n) => part(alloc, v, Offset::Field(n)),
+        Value::Of(v) => boxed(alloc, value_of(alloc, v)),
+        Value::Target(v) => target_value(alloc, v),
+        Value::Member(v, n) => member(alloc, v, n),
         Value::Element(v, index) => element(alloc, v, index),
-        Value::Un(op, v) => Ok(Exp::Un(op, Box::new(alloc, value_of(alloc, v))?)),
+        Value::Un(op, v) => unary(alloc, op, v),
         Value::Bin(op, a, b) => binary(alloc, op, a, b),
-        Value::Cast(to, v) => {
-            let inner = Box::new(alloc, value_of(alloc, v))?;
-            Ok(Exp::Cast(type_of(types, to), inner))
-        }
-        Value::Address(v) => Ok(Exp::AddrOf(local_place(alloc, v))),
-        Value::AddressOfTarget(v) => Ok(Exp::AddrOf(target(alloc, v)?)),
+        Value::Cast(to, v) => cast(alloc, type_of(types, to), v),
+        Value::Address(v) => boxed(alloc, Exp::AddrOf(local_place(alloc, v))),
+        Value::AddressOfTarget(v) => target_address(alloc, v),
         Value::AddressOfGlobal(name) => {
-            Ok(Exp::AddrOf(place(alloc, Host::Global(global(name)))))
+            boxed(alloc, Exp::AddrOf(place(alloc, Host::Global(global(name)))))
         }
-        Value::Start(v) => Ok(Exp::StartOf(local_place(alloc, v))),
+        Value::Start(v) => boxed(alloc, Exp::StartOf(local_place(alloc, v))),
     }
+}
+
+/// Adds an assignment.
+fn add_assignment(
+    stmts: &mut Vec<Stmt>,
+    alloc: Global,
+    types: &Types,
+    to: Var,
+    value: Value,
+) -> Result<(), Memory> {
+    let e = expression(alloc, types, value)?;
+    let set = Instr::Set(local_place(alloc, to), Box::into_inner(e));
+    stmts.push(Stmt::Instr(set))?;
+    Ok(())
 }
 
 /// The values of locals.
@@ -526,167 +579,200 @@ fn callee(alloc: Global, called: Called) -> Callee {
     }
 }
 
-/// A call.
-fn call(alloc: Global, to: Option<Var>, called: Called, vars: &[Var]) -> Result<Stmt, Memory> {
-    let values = arguments(alloc, vars)?;
-    let result = match to {
+/// Where a result goes.
+fn result(alloc: Global, to: Option<Var>) -> Option<Lval> {
+    match to {
         None => None,
         Some(v) => Some(local_place(alloc, v)),
-    };
-    Ok(Stmt::Instr(Instr::Call(result, callee(alloc, called), values)))
+    }
 }
 
-/// A list of one statement.
-fn one(alloc: Global, stmt: Stmt) -> Result<Vec<Stmt>, Memory> {
-    let mut stmts = Vec::new(alloc);
-    stmts.push(stmt)?;
-    Ok(stmts)
-}
-
-/// A list of two statements.
-fn two(alloc: Global, first: Stmt, second: Stmt) -> Result<Vec<Stmt>, Memory> {
-    let mut stmts = Vec::new(alloc);
-    stmts.push(first)?;
-    stmts.push(second)?;
-    Ok(stmts)
-}
-
-/// A switch by a local.
-fn switch(alloc: Global, v: Var, stmts: Vec<Stmt>) -> Stmt {
-    Stmt::Switch(value_of(alloc, v), stmts)
-}
-
-/// A switch with a case, in one with the same case.
-fn nested(alloc: Global) -> Result<Stmt, Memory> {
-    let inner = switch(alloc, Var::Int, one(alloc, Stmt::Case(IntKind::Int, 1))?);
-    let outer = two(alloc, Stmt::Case(IntKind::Int, 1), inner)?;
-    Ok(switch(alloc, Var::Int, outer))
-}
-
-/// A statement.
-fn statement(alloc: Global, shape: Shape) -> Result<Stmt, Memory> {
-    Ok(match shape {
-        Shape::If(v) => Stmt::If(value_of(alloc, v), Vec::new(alloc), Vec::new(alloc)),
-        Shape::Zero(v) => Stmt::Instr(Instr::Zero(local_place(alloc, v))),
-        Shape::ZeroTarget(v) => Stmt::Instr(Instr::Zero(target(alloc, v)?)),
-        Shape::Switch(v, kind, m, n) => {
-            switch(
-                alloc,
-                v,
-                two(alloc, Stmt::Case(kind, m), Stmt::Case(kind, n))?,
-            )
-        }
-        Shape::SwitchWithDefaults => {
-            switch(alloc, Var::Int, two(alloc, Stmt::Default, Stmt::Default)?)
-        }
-        Shape::SwitchInSwitch => nested(alloc)?,
-        Shape::CaseInLoop => Stmt::Loop(one(alloc, Stmt::Case(IntKind::Int, 1))?),
-        Shape::BreakInSwitch => switch(alloc, Var::Int, one(alloc, Stmt::Break)?),
-        Shape::BreakInLoop => Stmt::Loop(one(alloc, Stmt::Break)?),
-        Shape::BreakInBlock => Stmt::Block(one(alloc, Stmt::Break)?),
-        Shape::DefaultInLoop => Stmt::Loop(one(alloc, Stmt::Default)?),
-    })
-}
-
-/// Adds a local.
-fn add_local(
-    pool: &mut NamePool,
-    locals: &mut Vec<Local>,
-    name: &[u8],
-    ty: TypeId,
+/// Adds a call.
+fn add_call(
+    stmts: &mut Vec<Stmt>,
+    alloc: Global,
+    to: Option<Var>,
+    called: Called,
+    vars: &[Var],
 ) -> Result<(), Memory> {
-    let name = pool.intern(name)?;
-    locals.push(Local { name, ty })?;
+    let values = arguments(alloc, vars)?;
+    let call = Instr::Call(result(alloc, to), callee(alloc, called), values);
+    stmts.push(Stmt::Instr(call))?;
     Ok(())
 }
 
-/// The locals of `main`.
-fn all_locals(alloc: Global, pool: &mut NamePool, types: Types) -> Result<Vec<Local>, Memory> {
-    let mut locals = Vec::new(alloc);
-    add_local(pool, &mut locals, b"i", types.int)?;
-    add_local(pool, &mut locals, b"l", types.long)?;
-    add_local(pool, &mut locals, b"c", types.char)?;
-    add_local(pool, &mut locals, b"pi", types.to_int)?;
-    add_local(pool, &mut locals, b"pl", types.to_long)?;
-    add_local(pool, &mut locals, b"pv", types.to_void)?;
-    add_local(pool, &mut locals, b"w", types.whole)?;
-    add_local(pool, &mut locals, b"a", types.array)?;
-    add_local(pool, &mut locals, b"f", types.to_function)?;
-    Ok(locals)
+/// A statement that stands in another.
+#[derive(Clone, Copy)]
+enum Inner {
+    Break,
+    Default,
+    Case(IntKind, i128),
 }
 
-/// Adds an external global.
-fn add_global(
-    pool: &mut NamePool,
-    globals: &mut Vec<GlobalDecl>,
-    name: &[u8],
-    ty: TypeId,
-    def: GlobalDef,
-) -> Result<(), Memory> {
-    let name = pool.intern(name)?;
-    globals.push(GlobalDecl {
-        name,
-        ty,
-        internal: false,
-        def,
+/// The first statement that stands in another, and the second.
+fn inside(shape: Shape) -> (Option<Inner>, Option<Inner>) {
+    match shape {
+        Shape::Switch(_, kind, m, n) => (Some(Inner::Case(kind, m)), Some(Inner::Case(kind, n))),
+        Shape::SwitchWithDefaults => (Some(Inner::Default), Some(Inner::Default)),
+        Shape::SwitchInSwitch | Shape::CaseInLoop => (Some(Inner::Case(IntKind::Int, 1)), None),
+        Shape::BreakInSwitch | Shape::BreakInLoop | Shape::BreakInBlock => {
+            (Some(Inner::Break), None)
+        }
+        Shape::DefaultInLoop => (Some(Inner::Default), None),
+        Shape::If(_) | Shape::Zero(_) | Shape::ZeroTarget(_) => (None, None),
+    }
+}
+
+/// Adds a statement that stands in another.
+fn add_inner(stmts: &mut Vec<Stmt>, inner: Option<Inner>) -> Result<(), Memory> {
+    let Some(inner) = inner else { return Ok(()) };
+    stmts.push(match inner {
+        Inner::Break => Stmt::Break,
+        Inner::Default => Stmt::Default,
+        Inner::Case(kind, value) => Stmt::Case(kind, value),
     })?;
     Ok(())
 }
 
-/// The globals, with a statement in `main`.
-fn all_globals(
-    alloc: Global,
-    pool: &mut NamePool,
-    types: Types,
-    stmt: Stmt,
-) -> Result<Vec<GlobalDecl>, Memory> {
-    let mut globals = Vec::new(alloc);
-    add_global(pool, &mut globals, b"one", types.one, GlobalDef::Declared)?;
-    add_global(
-        pool,
-        &mut globals,
-        b"none",
-        types.nothing,
-        GlobalDef::Declared,
-    )?;
-    add_global(pool, &mut globals, b"many", types.many, GlobalDef::Declared)?;
-    add_global(pool, &mut globals, b"old", types.old, GlobalDef::Declared)?;
-    add_global(pool, &mut globals, b"n", types.int, GlobalDef::Zero)?;
-    let body = Body {
-        params: Vec::new(alloc),
-        locals: all_locals(alloc, pool, types)?,
-        labels: Vec::new(alloc),
-        stmts: one(alloc, stmt)?,
-    };
-    add_global(
-        pool,
-        &mut globals,
-        b"main",
-        types.main,
-        GlobalDef::Body(body),
-    )?;
-    add_global(pool, &mut globals, b"open", types.open, GlobalDef::Declared)?;
-    Ok(globals)
+/// A statement with others in it.
+fn statement(alloc: Global, shape: Shape, stmts: Vec<Stmt>) -> Stmt {
+    match shape {
+        Shape::If(v) => Stmt::If(value_of(alloc, v), stmts, Vec::new(alloc)),
+        Shape::Zero(v) | Shape::ZeroTarget(v) => Stmt::Instr(Instr::Zero(local_place(alloc, v))),
+        Shape::Switch(v, ..) => Stmt::Switch(value_of(alloc, v), stmts),
+        Shape::SwitchWithDefaults | Shape::SwitchInSwitch | Shape::BreakInSwitch => {
+            Stmt::Switch(value_of(alloc, Var::Int), stmts)
+        }
+        Shape::CaseInLoop | Shape::BreakInLoop | Shape::DefaultInLoop => Stmt::Loop(stmts),
+        Shape::BreakInBlock => Stmt::Block(stmts),
+    }
 }
 
-/// The answer for the program with an assignment.
-fn assigned(alloc: Global, to: Var, value: Value) -> Result<bool, Memory> {
-    let mut pool = NamePool::new(alloc);
-    let mut graph = TypeGraph::new(alloc);
-    let types = add_types(&mut graph, &mut pool)?;
-    let e = expression(alloc, types, value)?;
-    let stmt = Stmt::Instr(Instr::Set(local_place(alloc, to), e));
-    let globals = all_globals(alloc, &mut pool, types, stmt)?;
-    check(&CilUnit { graph, globals }, &pool)
+/// Adds a statement with others in it.
+fn add_outer(stmts: &mut Vec<Stmt>, alloc: Global, shape: Shape) -> Result<(), Memory> {
+    let (first, second) = inside(shape);
+    let mut inner = Vec::new(alloc);
+    add_inner(&mut inner, first)?;
+    add_inner(&mut inner, second)?;
+    stmts.push(statement(alloc, shape, inner))?;
+    Ok(())
+}
+
+/// Adds a switch with a case, in one with the same case.
+fn add_nested(stmts: &mut Vec<Stmt>, alloc: Global) -> Result<(), Memory> {
+    let mut outer = Vec::new(alloc);
+    add_inner(&mut outer, Some(Inner::Case(IntKind::Int, 1)))?;
+    add_outer(&mut outer, alloc, Shape::SwitchInSwitch)?;
+    stmts.push(statement(alloc, Shape::SwitchInSwitch, outer))?;
+    Ok(())
+}
+
+/// Adds the zeroing of what a local points to.
+fn add_zero_target(stmts: &mut Vec<Stmt>, alloc: Global, v: Var) -> Result<(), Memory> {
+    let p = boxed(alloc, value_of(alloc, v))?;
+    stmts.push(Stmt::Instr(Instr::Zero(target(alloc, p))))?;
+    Ok(())
+}
+
+/// Adds a statement.
+fn add_shape(stmts: &mut Vec<Stmt>, alloc: Global, shape: Shape) -> Result<(), Memory> {
+    match shape {
+        Shape::ZeroTarget(v) => add_zero_target(stmts, alloc, v),
+        Shape::SwitchInSwitch => add_nested(stmts, alloc),
+        _ => add_outer(stmts, alloc, shape),
+    }
+}
+
+/// Adds what is tried.
+fn add_tried(
+    stmts: &mut Vec<Stmt>,
+    alloc: Global,
+    types: &Types,
+    tried: Tried,
+) -> Result<(), Memory> {
+    match tried {
+        Tried::Assigned(to, value) => add_assignment(stmts, alloc, types, to, value),
+        Tried::Called(to, called, vars) => add_call(stmts, alloc, to, called, vars),
+        Tried::Shaped(shape) => add_shape(stmts, alloc, shape),
+    }
+}
+
+/// The locals' names and the locals.
+const LOCALS: [(&[u8], Var); 9] = [
+    (b"i", Var::Int),
+    (b"l", Var::Long),
+    (b"c", Var::Char),
+    (b"pi", Var::ToInt),
+    (b"pl", Var::ToLong),
+    (b"pv", Var::ToVoid),
+    (b"w", Var::Struct),
+    (b"a", Var::Array),
+    (b"f", Var::ToFunction),
+];
+
+/// Adds the locals of `main`.
+fn add_locals(locals: &mut Vec<Local>, pool: &mut NamePool, types: &Types) -> Result<(), Memory> {
+    for (name, v) in LOCALS {
+        add_local(locals, pool, name, type_of(types, v))?;
+    }
+    Ok(())
+}
+
+/// Adds the globals before `main`.
+fn add_first(
+    globals: &mut Vec<GlobalDecl>,
+    pool: &mut NamePool,
+    types: &Types,
+) -> Result<(), Memory> {
+    declare(globals, pool, b"one", types.one)?;
+    declare(globals, pool, b"none", types.nothing)?;
+    declare(globals, pool, b"many", types.many)?;
+    declare(globals, pool, b"old", types.old)?;
+    let n = pool.intern(b"n")?;
+    add_zero(globals, n, types.int, false)
+}
+
+/// Fills the body of `main`.
+fn fill(
+    body: &mut Body,
+    pool: &mut NamePool,
+    alloc: Global,
+    types: &Types,
+    tried: Tried,
+) -> Result<(), Memory> {
+    add_locals(&mut body.locals, pool, types)?;
+    add_tried(&mut body.stmts, alloc, types, tried)
+}
+
+/// Adds `main`.
+fn add_main(
+    globals: &mut Vec<GlobalDecl>,
+    pool: &mut NamePool,
+    alloc: Global,
+    types: &Types,
+    tried: Tried,
+) -> Result<(), Memory> {
+    let name = pool.intern(b"main")?;
+    let mut body = no_body(alloc);
+    fill(&mut body, pool, alloc, types, tried)?;
+    add_function(globals, name, types.main, body)
+}
+
+/// The answer for a program to which all is added.
+fn answer_in(pool: &mut NamePool, u: &mut CilUnit, tried: Tried) -> Result<bool, Memory> {
+    let alloc = u.graph.alloc();
+    let types = add_types(&mut u.graph, pool)?;
+    add_first(&mut u.globals, pool, &types)?;
+    add_main(&mut u.globals, pool, alloc, &types, tried)?;
+    declare(&mut u.globals, pool, b"open", types.open)?;
+    check(u, pool)
 }
 
 /// The answer for the program with a statement.
-fn with_statement(alloc: Global, stmt: Stmt) -> Result<bool, Memory> {
+fn answer(alloc: Global, tried: Tried) -> Result<bool, Memory> {
     let mut pool = NamePool::new(alloc);
-    let mut graph = TypeGraph::new(alloc);
-    let types = add_types(&mut graph, &mut pool)?;
-    let globals = all_globals(alloc, &mut pool, types, stmt)?;
-    check(&CilUnit { graph, globals }, &pool)
+    let mut u = empty(alloc);
+    answer_in(&mut pool, &mut u, tried)
 }
 
 /// Expressions are typed as C11 6.5 says, without its conversions.
@@ -694,7 +780,7 @@ fn with_statement(alloc: Global, stmt: Stmt) -> Result<bool, Memory> {
 fn tells_types_of_expressions(rt: HostRuntime) -> Result<(), Fail> {
     for (to, value, right) in values() {
         assert_eq!(rt;
-            assigned(rt.alloc(), *to, *value)?,
+            answer(rt.alloc(), Tried::Assigned(*to, *value))?,
             *right,
             "{to:?} = {value:?}"
         );
@@ -705,11 +791,9 @@ fn tells_types_of_expressions(rt: HostRuntime) -> Result<(), Fail> {
 /// Calls have the arguments and results that their function's type asks.
 #[test]
 fn tells_calls(rt: HostRuntime) -> Result<(), Fail> {
-    let alloc = rt.alloc();
     for (to, called, vars, right) in calls() {
-        let stmt = call(alloc, *to, *called, vars)?;
         assert_eq!(rt;
-            with_statement(alloc, stmt)?,
+            answer(rt.alloc(), Tried::Called(*to, *called, vars))?,
             *right,
             "{to:?} = {called:?} {vars:?}"
         );
@@ -720,10 +804,12 @@ fn tells_calls(rt: HostRuntime) -> Result<(), Fail> {
 /// Statements nest as C11 6.8 says.
 #[test]
 fn tells_statements(rt: HostRuntime) -> Result<(), Fail> {
-    let alloc = rt.alloc();
     for (shape, right) in shapes() {
-        let stmt = statement(alloc, *shape)?;
-        assert_eq!(rt; with_statement(alloc, stmt)?, *right, "{shape:?}");
+        assert_eq!(rt;
+            answer(rt.alloc(), Tried::Shaped(*shape))?,
+            *right,
+            "{shape:?}"
+        );
     }
     Ok(())
 }

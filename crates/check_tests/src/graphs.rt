@@ -378,14 +378,19 @@ fn add_aggregates(g: &mut TypeGraph, added: Added) -> Result<(), Memory> {
     }
 }
 
-/// The answer for a graph to which that was added.
+/// The answer for a graph to which that is added.
+fn answer_in(g: &mut TypeGraph, added: Added) -> Result<bool, Memory> {
+    match added {
+        Added::Pointer(_) | Added::Array(..) | Added::Function(..) => derive(g, added)?,
+        _ => add_aggregates(g, added)?,
+    }
+    types_are_well_formed(g.alloc(), g)
+}
+
+/// The answer for a graph of that alone.
 fn answer(alloc: Global, added: Added) -> Result<bool, Memory> {
     let mut g = TypeGraph::new(alloc);
-    match added {
-        Added::Pointer(_) | Added::Array(..) | Added::Function(..) => derive(&mut g, added)?,
-        _ => add_aggregates(&mut g, added)?,
-    }
-    types_are_well_formed(alloc, &g)
+    answer_in(&mut g, added)
 }
 
 /// Types that keep the rules pass, and one that breaks one rule does not.

@@ -1,10 +1,11 @@
 use crate::graphs::{Form, function};
+use crate::program::{add_function, empty, no_body};
 use cil_base::{EntityId, IntKind, LabelId, LocalId, Memory, NameId, NamePool, TypeId};
 use cil_check::check;
-use cil_tree::{Body, CilUnit, Exp, GlobalDecl, GlobalDef, Host, Instr, Local, Lval, Stmt};
+use cil_tree::{Body, CilUnit, Exp, Host, Instr, Local, Lval, Stmt};
 use std::alloc::Global;
 use std::test::Fail;
-use type_graph::{Node, TypeGraph};
+use type_graph::Node;
 
 /// What is changed in the program `int main ( void ) { int y ; again : ; out : ; return 0 ; }`.
 #[derive(Clone, Copy, Debug, PartialEq, Eq)]
@@ -102,86 +103,85 @@ fn labels_set(change: Change) -> (LabelId, LabelId) {
     }
 }
 
-/// The statements.
-fn statements(alloc: Global, change: Change) -> Result<Vec<Stmt>, Memory> {
+/// Adds the statements.
+fn add_statements(stmts: &mut Vec<Stmt>, alloc: Global, change: Change) -> Result<(), Memory> {
     let (first, second) = labels_set(change);
-    let mut stmts = Vec::new(alloc);
     stmts.push(Stmt::Label(first))?;
     if change != Change::LabelNotSet {
         stmts.push(Stmt::Label(second))?;
     }
     stmts.push(statement(alloc, change))?;
     stmts.push(give(IntKind::Int, 0))?;
-    Ok(stmts)
+    Ok(())
 }
 
-/// The local `y`.
-fn locals(alloc: Global, name: NameId, ty: TypeId, change: Change) -> Result<Vec<Local>, Memory> {
-    let mut locals = Vec::new(alloc);
-    locals.push(Local {
-        name: if change == Change::LocalNoName {
-            NameId(99)
-        } else {
-            name
-        },
-        ty: if change == Change::LocalNoType {
-            TypeId(99)
-        } else {
-            ty
-        },
-    })?;
-    Ok(locals)
+/// A name, or where it is changed one that is none.
+fn named(name: NameId, is_changed: bool) -> NameId {
+    if is_changed { NameId(99) } else { name }
 }
 
-/// The names of the labels.
-fn labels(alloc: Global, pool: &mut NamePool) -> Result<Vec<NameId>, Memory> {
-    let mut labels = Vec::new(alloc);
-    labels.push(pool.intern(b"again")?)?;
-    labels.push(pool.intern(b"out")?)?;
-    Ok(labels)
+/// A type, or where it is changed one that is none.
+fn typed(ty: TypeId, is_changed: bool) -> TypeId {
+    if is_changed { TypeId(99) } else { ty }
 }
 
-/// What `main` is.
-fn body(
-    alloc: Global,
+/// Adds the local `y`.
+fn add_y(
+    locals: &mut Vec<Local>,
     pool: &mut NamePool,
     int: TypeId,
     change: Change,
-) -> Result<GlobalDef, Memory> {
+) -> Result<(), Memory> {
     let y = pool.intern(b"y")?;
-    let labels = labels(alloc, pool)?;
-    Ok(GlobalDef::Body(Body {
-        params: Vec::new(alloc),
-        locals: locals(alloc, y, int, change)?,
-        labels,
-        stmts: statements(alloc, change)?,
-    }))
+    locals.push(Local {
+        name: named(y, change == Change::LocalNoName),
+        ty: typed(int, change == Change::LocalNoType),
+    })?;
+    Ok(())
+}
+
+/// Adds the names of the labels.
+fn add_labels(labels: &mut Vec<NameId>, pool: &mut NamePool) -> Result<(), Memory> {
+    labels.push(pool.intern(b"again")?)?;
+    labels.push(pool.intern(b"out")?)?;
+    Ok(())
+}
+
+/// Fills the body of `main`.
+fn fill(
+    body: &mut Body,
+    pool: &mut NamePool,
+    alloc: Global,
+    int: TypeId,
+    change: Change,
+) -> Result<(), Memory> {
+    add_y(&mut body.locals, pool, int, change)?;
+    add_labels(&mut body.labels, pool)?;
+    add_statements(&mut body.stmts, alloc, change)
+}
+
+/// The answer for a program to which `main` with a change is added.
+fn answer_in(pool: &mut NamePool, u: &mut CilUnit, change: Change) -> Result<bool, Memory> {
+    let alloc = u.graph.alloc();
+    let int = u.graph.add_node(Node::Int(IntKind::Int))?;
+    let ty = function(&mut u.graph, int, None, Form::Prototype)?;
+    let name = pool.intern(b"main")?;
+    let mut body = no_body(alloc);
+    fill(&mut body, pool, alloc, int, change)?;
+    add_function(
+        &mut u.globals,
+        named(name, change == Change::GlobalNoName),
+        typed(ty, change == Change::GlobalNoType),
+        body,
+    )?;
+    check(u, pool)
 }
 
 /// The answer for the program with a change.
 fn answer(alloc: Global, change: Change) -> Result<bool, Memory> {
     let mut pool = NamePool::new(alloc);
-    let mut graph = TypeGraph::new(alloc);
-    let int = graph.add_node(Node::Int(IntKind::Int))?;
-    let ty = function(&mut graph, int, None, Form::Prototype)?;
-    let name = pool.intern(b"main")?;
-    let def = body(alloc, &mut pool, int, change)?;
-    let mut globals = Vec::new(alloc);
-    globals.push(GlobalDecl {
-        name: if change == Change::GlobalNoName {
-            NameId(99)
-        } else {
-            name
-        },
-        ty: if change == Change::GlobalNoType {
-            TypeId(99)
-        } else {
-            ty
-        },
-        internal: false,
-        def,
-    })?;
-    check(&CilUnit { graph, globals }, &pool)
+    let mut u = empty(alloc);
+    answer_in(&mut pool, &mut u, change)
 }
 
 /// Labels are set in order and once, jumps and returns are where they may be, and each number names something.

@@ -12,4 +12,6 @@ mod jumps;
 #[cfg(test)]
 mod objects;
 #[cfg(test)]
+mod program;
+#[cfg(test)]
 mod spellings;

@@ -1,7 +1,8 @@
 use crate::graphs::{Form, array, finish, finish_with_two, function, pointer, qualified};
+use crate::program::{add_local, declare, empty, no_body};
 use cil_base::{AggId, Constant, EntityId, IntKind, Memory, NameId, NamePool, TypeId};
 use cil_check::check;
-use cil_tree::{Body, CilUnit, Exp, GlobalDecl, GlobalDef, ImageItem, Local, Step, Stmt};
+use cil_tree::{Body, CilUnit, Exp, GlobalDecl, GlobalDef, ImageItem, Step, Stmt};
 use std::alloc::Global;
 use std::test::Fail;
 use type_graph::{AggKind, Node, QualType, TypeGraph};
@@ -256,138 +257,153 @@ fn add_type(g: &mut TypeGraph, pool: &mut NamePool, of: Of) -> Result<TypeId, Me
     }
 }
 
-/// Adds a local.
-fn add_local(
-    pool: &mut NamePool,
-    locals: &mut Vec<Local>,
-    name: &[u8],
-    ty: TypeId,
-) -> Result<NameId, Memory> {
-    let name = pool.intern(name)?;
-    locals.push(Local { name, ty })?;
-    Ok(name)
-}
-
-/// A body with a parameter or none, and a local beside it.
-fn body(
-    g: &mut TypeGraph,
-    pool: &mut NamePool,
-    count: usize,
-    of: Of,
-    value: Option<Exp>,
-) -> Result<Body, Memory> {
-    let alloc = g.alloc();
-    let mut params = Vec::new(alloc);
-    let mut locals = Vec::new(alloc);
-    let ty = add_type(g, pool, of)?;
-    let first = add_local(pool, &mut locals, b"p", ty)?;
-    if count > 0 {
-        params.push(first)?;
-    }
-    let mut stmts = Vec::new(alloc);
-    stmts.push(Stmt::Return(value))?;
-    Ok(Body {
-        params,
-        locals,
-        labels: Vec::new(alloc),
-        stmts,
-    })
-}
-
-/// What the global is.
-fn definition(g: &mut TypeGraph, pool: &mut NamePool, def: Def) -> Result<GlobalDef, Memory> {
+/// What a body gives.
+fn given(def: Def) -> Option<Exp> {
     match def {
-        Def::Declared | Def::InternalDeclared => Ok(GlobalDef::Declared),
-        Def::Zero | Def::InternalZero => Ok(GlobalDef::Zero),
-        Def::Gives(count, of) => {
-            let body = body(g, pool, count, of, Some(Exp::Const(IntKind::Int, 0)))?;
-            Ok(GlobalDef::Body(body))
-        }
-        Def::GivesNothing => {
-            let body = body(g, pool, 0, Of::Int, None)?;
-            Ok(GlobalDef::Body(body))
-        }
-        Def::GivesRenamed => {
-            let mut body = body(g, pool, 0, Of::Int, Some(Exp::Const(IntKind::Int, 0)))?;
-            body.params.push(pool.intern(b"q")?)?;
-            Ok(GlobalDef::Body(body))
-        }
+        Def::GivesNothing => None,
+        _ => Some(Exp::Const(IntKind::Int, 0)),
     }
 }
 
-/// The answer for a program with the global behind `int f ( void ) ;`.
-fn answer(
-    mut graph: TypeGraph,
-    mut pool: NamePool,
+/// How many parameters a body has, and the type of its local.
+fn parts(def: Def) -> (usize, Of) {
+    match def {
+        Def::Gives(count, of) => (count, of),
+        _ => (0, Of::Int),
+    }
+}
+
+/// Fills a body with a parameter or none, and a local beside it.
+fn fill(body: &mut Body, g: &mut TypeGraph, pool: &mut NamePool, def: Def) -> Result<(), Memory> {
+    let (count, of) = parts(def);
+    let ty = add_type(g, pool, of)?;
+    let first = add_local(&mut body.locals, pool, b"p", ty)?;
+    if count > 0 {
+        body.params.push(first)?;
+    }
+    if matches!(def, Def::GivesRenamed) {
+        body.params.push(pool.intern(b"q")?)?;
+    }
+    body.stmts.push(Stmt::Return(given(def)))?;
+    Ok(())
+}
+
+/// Whether the global has a body.
+fn has_body(def: Def) -> bool {
+    matches!(def, Def::Gives(..) | Def::GivesNothing | Def::GivesRenamed)
+}
+
+/// What the global is, with a body if it has one.
+fn definition(def: Def, body: Body) -> GlobalDef {
+    match def {
+        Def::Declared | Def::InternalDeclared => GlobalDef::Declared,
+        Def::Zero | Def::InternalZero => GlobalDef::Zero,
+        Def::Gives(..) | Def::GivesNothing | Def::GivesRenamed => GlobalDef::Body(body),
+    }
+}
+
+/// Declares `int f ( void )`.
+fn declare_f(pool: &mut NamePool, u: &mut CilUnit) -> Result<(), Memory> {
+    let f = add_type(&mut u.graph, pool, Of::Function)?;
+    declare(&mut u.globals, pool, b"f", f)
+}
+
+/// Adds the global behind it.
+fn add_g(
+    globals: &mut Vec<GlobalDecl>,
+    name: NameId,
     ty: TypeId,
     internal: bool,
     def: GlobalDef,
-) -> Result<bool, Memory> {
-    let alloc = graph.alloc();
-    let f = add_type(&mut graph, &mut pool, Of::Function)?;
-    let mut globals = Vec::new(alloc);
+) -> Result<(), Memory> {
     globals.push(GlobalDecl {
-        name: pool.intern(b"f")?,
-        ty: f,
-        internal: false,
-        def: GlobalDef::Declared,
-    })?;
-    globals.push(GlobalDecl {
-        name: pool.intern(b"g")?,
+        name,
         ty,
         internal,
         def,
     })?;
-    check(&CilUnit { graph, globals }, &pool)
+    Ok(())
 }
 
-/// The answer for a definition.
+/// The answer for a program to which the global with a definition is added.
+fn defined_in(pool: &mut NamePool, u: &mut CilUnit, of: Of, def: Def) -> Result<bool, Memory> {
+    let ty = add_type(&mut u.graph, pool, of)?;
+    declare_f(pool, u)?;
+    let name = pool.intern(b"g")?;
+    let mut body = no_body(u.graph.alloc());
+    if has_body(def) {
+        fill(&mut body, &mut u.graph, pool, def)?;
+    }
+    let internal = matches!(def, Def::InternalDeclared | Def::InternalZero);
+    add_g(&mut u.globals, name, ty, internal, definition(def, body))?;
+    check(u, pool)
+}
+
+/// The answer for a definition of the global behind `int f ( void ) ;`.
 fn defined(alloc: Global, of: Of, def: Def) -> Result<bool, Memory> {
     let mut pool = NamePool::new(alloc);
-    let mut graph = TypeGraph::new(alloc);
-    let ty = add_type(&mut graph, &mut pool, of)?;
-    let body = definition(&mut graph, &mut pool, def)?;
-    let internal = matches!(def, Def::InternalDeclared | Def::InternalZero);
-    answer(graph, pool, ty, internal, body)
+    let mut u = empty(alloc);
+    defined_in(&mut pool, &mut u, of, def)
 }
 
-/// A path of its own.
-fn path(alloc: Global, steps: &[Step]) -> Result<Vec<Step>, Memory> {
+/// Adds a value at a path.
+fn add_item(
+    items: &mut Vec<ImageItem>,
+    alloc: Global,
+    steps: &[Step],
+    value: Constant,
+) -> Result<(), Memory> {
     let mut path = Vec::new(alloc);
-    for step in steps {
-        path.push(*step)?;
-    }
-    Ok(path)
+    path.extend_from_slice(steps)?;
+    items.push(ImageItem { path, value })?;
+    Ok(())
 }
 
-/// An image of values that are 1.
-fn image(alloc: Global, paths: &[&[Step]]) -> Result<Vec<ImageItem>, Memory> {
-    let mut items = Vec::new(alloc);
+/// An image: values that are 1 at paths, or one scalar.
+#[derive(Clone, Copy)]
+enum Image<'a> {
+    Ones(&'a [&'a [Step]]),
+    Scalar(Constant),
+}
+
+/// Adds the values of an image.
+fn add_items(items: &mut Vec<ImageItem>, alloc: Global, image: Image) -> Result<(), Memory> {
+    match image {
+        Image::Scalar(value) => add_item(items, alloc, HERE, value),
+        Image::Ones(paths) => add_ones(items, alloc, paths),
+    }
+}
+
+/// Adds values that are 1.
+fn add_ones(items: &mut Vec<ImageItem>, alloc: Global, paths: &[&[Step]]) -> Result<(), Memory> {
     for steps in paths {
-        items.push(ImageItem {
-            path: path(alloc, steps)?,
-            value: Constant::Int(IntKind::Int, 1),
-        })?;
+        add_item(items, alloc, steps, Constant::Int(IntKind::Int, 1))?;
     }
-    Ok(items)
+    Ok(())
 }
 
-/// The answer for an image.
-fn initialised(alloc: Global, of: Of, items: Vec<ImageItem>) -> Result<bool, Memory> {
-    let mut pool = NamePool::new(alloc);
-    let mut graph = TypeGraph::new(alloc);
-    let ty = add_type(&mut graph, &mut pool, of)?;
-    answer(graph, pool, ty, false, GlobalDef::Image(items))
-}
-
-/// An image of one scalar.
-fn scalar(alloc: Global, value: Constant) -> Result<Vec<ImageItem>, Memory> {
+/// The answer for a program to which the global with an image is added.
+fn initialised_in(
+    pool: &mut NamePool,
+    u: &mut CilUnit,
+    of: Of,
+    image: Image,
+) -> Result<bool, Memory> {
+    let alloc = u.graph.alloc();
+    let ty = add_type(&mut u.graph, pool, of)?;
+    declare_f(pool, u)?;
+    let name = pool.intern(b"g")?;
     let mut items = Vec::new(alloc);
-    items.push(ImageItem {
-        path: Vec::new(alloc),
-        value,
-    })?;
-    Ok(items)
+    add_items(&mut items, alloc, image)?;
+    add_g(&mut u.globals, name, ty, false, GlobalDef::Image(items))?;
+    check(u, pool)
+}
+
+/// The answer for an image of the global behind `int f ( void ) ;`.
+fn initialised(alloc: Global, of: Of, image: Image) -> Result<bool, Memory> {
+    let mut pool = NamePool::new(alloc);
+    let mut u = empty(alloc);
+    initialised_in(&mut pool, &mut u, of, image)
 }
 
 /// Globals are defined as their types allow.
@@ -402,10 +418,9 @@ fn tells_definitions(rt: HostRuntime) -> Result<(), Fail> {
 /// The paths of an image lead to scalars, rise, and take one member of each union.
 #[test]
 fn tells_paths_of_images(rt: HostRuntime) -> Result<(), Fail> {
-    let alloc = rt.alloc();
     for (of, paths, right) in images() {
-        let items = image(alloc, paths)?;
-        assert_eq!(rt; initialised(alloc, *of, items)?, *right, "{of:?} {paths:?}");
+        let found = initialised(rt.alloc(), *of, Image::Ones(paths))?;
+        assert_eq!(rt; found, *right, "{of:?} {paths:?}");
     }
     Ok(())
 }
@@ -413,10 +428,9 @@ fn tells_paths_of_images(rt: HostRuntime) -> Result<(), Fail> {
 /// A scalar's value has its type and is not zero.
 #[test]
 fn tells_values_of_images(rt: HostRuntime) -> Result<(), Fail> {
-    let alloc = rt.alloc();
     for (of, value, right) in constants() {
-        let items = scalar(alloc, *value)?;
-        assert_eq!(rt; initialised(alloc, *of, items)?, *right, "{of:?} {value:?}");
+        let found = initialised(rt.alloc(), *of, Image::Scalar(*value))?;
+        assert_eq!(rt; found, *right, "{of:?} {value:?}");
     }
     Ok(())
 }

@@ -1,4 +1,5 @@
 use crate::graphs::{Form, finish, finish_with_two, function, pointer, qualified};
+use crate::program::{add_function, add_zero, empty, no_body};
 use cil_base::{IntKind, LabelId, Memory, NameId, NamePool, TypeId};
 use cil_check::check;
 use cil_tree::{Body, CilUnit, Exp, GlobalDecl, GlobalDef, Local, Stmt};
@@ -103,82 +104,92 @@ fn add_aggregates(
     finish_with_two(g, b, (x, ty), (y, ty))
 }
 
-/// The two locals.
-fn two_locals(
-    alloc: Global,
-    first: NameId,
-    second: NameId,
-    ty: TypeId,
-) -> Result<Vec<Local>, Memory> {
-    let mut locals = Vec::new(alloc);
-    locals.push(Local { name: first, ty })?;
-    locals.push(Local { name: second, ty })?;
-    Ok(locals)
-}
-
-/// The two labels.
-fn two_labels(alloc: Global, first: NameId, second: NameId) -> Result<Vec<NameId>, Memory> {
-    let mut labels = Vec::new(alloc);
-    labels.push(first)?;
-    labels.push(second)?;
-    Ok(labels)
-}
-
-/// The statements of `main`.
-fn statements(alloc: Global) -> Result<Vec<Stmt>, Memory> {
-    let mut stmts = Vec::new(alloc);
-    stmts.push(Stmt::Label(LabelId(0)))?;
-    stmts.push(Stmt::Label(LabelId(1)))?;
-    stmts.push(Stmt::Return(Some(Exp::Const(IntKind::Int, 0))))?;
-    Ok(stmts)
-}
-
-/// The body of `main`.
-fn body(
-    alloc: Global,
+/// Adds the two locals.
+fn add_locals(
+    locals: &mut Vec<Local>,
     pool: &mut NamePool,
     changed: Named,
     other: &[u8],
     int: TypeId,
-) -> Result<Body, Memory> {
+) -> Result<(), Memory> {
     let i = text(pool, changed, other, Named::Local, b"i")?;
     let j = pool.intern(b"j")?;
-    let l = text(pool, changed, other, Named::Label, b"l")?;
-    let m = pool.intern(b"m")?;
-    Ok(Body {
-        params: Vec::new(alloc),
-        locals: two_locals(alloc, i, j, int)?,
-        labels: two_labels(alloc, l, m)?,
-        stmts: statements(alloc)?,
-    })
+    locals.push(Local { name: i, ty: int })?;
+    locals.push(Local { name: j, ty: int })?;
+    Ok(())
 }
 
-/// A global.
-fn global(name: NameId, ty: TypeId, internal: bool, def: GlobalDef) -> GlobalDecl {
-    GlobalDecl {
-        name,
-        ty,
-        internal,
-        def,
-    }
+/// Adds the two labels.
+fn add_labels(
+    labels: &mut Vec<NameId>,
+    pool: &mut NamePool,
+    changed: Named,
+    other: &[u8],
+) -> Result<(), Memory> {
+    labels.push(text(pool, changed, other, Named::Label, b"l")?)?;
+    labels.push(pool.intern(b"m")?)?;
+    Ok(())
+}
+
+/// Adds the statements of `main`.
+fn add_statements(stmts: &mut Vec<Stmt>) -> Result<(), Memory> {
+    stmts.push(Stmt::Label(LabelId(0)))?;
+    stmts.push(Stmt::Label(LabelId(1)))?;
+    stmts.push(Stmt::Return(Some(Exp::Const(IntKind::Int, 0))))?;
+    Ok(())
+}
+
+/// Fills the body of `main`.
+fn fill(
+    body: &mut Body,
+    pool: &mut NamePool,
+    changed: Named,
+    other: &[u8],
+    int: TypeId,
+) -> Result<(), Memory> {
+    add_locals(&mut body.locals, pool, changed, other, int)?;
+    add_labels(&mut body.labels, pool, changed, other)?;
+    add_statements(&mut body.stmts)
+}
+
+/// Adds the two objects.
+fn add_objects(
+    globals: &mut Vec<GlobalDecl>,
+    pool: &mut NamePool,
+    changed: Named,
+    other: &[u8],
+    int: TypeId,
+) -> Result<(), Memory> {
+    let n = text(pool, changed, other, Named::Object, b"n")?;
+    let k = text(pool, changed, other, Named::Internal, b"k")?;
+    add_zero(globals, n, int, false)?;
+    add_zero(globals, k, int, true)
+}
+
+/// The answer for a program to which all is added.
+fn answer_in(
+    pool: &mut NamePool,
+    u: &mut CilUnit,
+    changed: Named,
+    other: &[u8],
+) -> Result<bool, Memory> {
+    let alloc = u.graph.alloc();
+    let int = u.graph.add_node(Node::Int(IntKind::Int))?;
+    let ty = function(&mut u.graph, int, None, Form::Prototype)?;
+    add_aggregates(&mut u.graph, pool, changed, other, int)?;
+    add_objects(&mut u.globals, pool, changed, other, int)?;
+    let main = text(pool, changed, other, Named::Main, b"main")?;
+    let mut body = no_body(alloc);
+    fill(&mut body, pool, changed, other, int)?;
+    add_function(&mut u.globals, main, ty, body)?;
+    check(u, pool)
 }
 
 /// The answer for the program with another name.
 fn answer(alloc: Global, changed: Named, other: &[u8]) -> Result<bool, Memory> {
     let mut pool = NamePool::new(alloc);
-    let mut graph = TypeGraph::new(alloc);
-    let int = graph.add_node(Node::Int(IntKind::Int))?;
-    let main = function(&mut graph, int, None, Form::Prototype)?;
-    add_aggregates(&mut graph, &mut pool, changed, other, int)?;
-    let n = text(&mut pool, changed, other, Named::Object, b"n")?;
-    let k = text(&mut pool, changed, other, Named::Internal, b"k")?;
-    let m = text(&mut pool, changed, other, Named::Main, b"main")?;
-    let body = body(alloc, &mut pool, changed, other, int)?;
-    let mut globals = Vec::new(alloc);
-    globals.push(global(n, int, false, GlobalDef::Zero))?;
-    globals.push(global(k, int, true, GlobalDef::Zero))?;
-    globals.push(global(m, main, false, GlobalDef::Body(body)))?;
-    check(&CilUnit { graph, globals }, &pool)
+    let mut u = empty(alloc);
+    answer_in(&mut pool, &mut u, changed, other)
 }
 
 /// Names are identifiers, and differ where they have to.
@@ -222,15 +233,24 @@ fn memset_type(g: &mut TypeGraph, length: IntKind) -> Result<TypeId, Memory> {
     })
 }
 
+/// The answer for a program to which it is added.
+fn with_memset_in(pool: &mut NamePool, u: &mut CilUnit, memset: Memset) -> Result<bool, Memory> {
+    let ty = memset_type(&mut u.graph, memset.length)?;
+    let name = pool.intern(b"__builtin_memset")?;
+    u.globals.push(GlobalDecl {
+        name,
+        ty,
+        internal: memset.internal,
+        def: GlobalDef::Declared,
+    })?;
+    check(u, pool)
+}
+
 /// The answer for a program that declares it.
 fn with_memset(alloc: Global, memset: Memset) -> Result<bool, Memory> {
     let mut pool = NamePool::new(alloc);
-    let mut graph = TypeGraph::new(alloc);
-    let ty = memset_type(&mut graph, memset.length)?;
-    let name = pool.intern(b"__builtin_memset")?;
-    let mut globals = Vec::new(alloc);
-    globals.push(global(name, ty, memset.internal, GlobalDef::Declared))?;
-    check(&CilUnit { graph, globals }, &pool)
+    let mut u = empty(alloc);
+    with_memset_in(&mut pool, &mut u, memset)
 }
 
 /// `__builtin_memset` is external and has its type.
