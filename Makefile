@@ -1,12 +1,22 @@
-# `make first` builds the proved program and merges the example; `make test` is the gate.
+# `make try` runs the example without any proof; `make first` proves and builds the program and runs the example with it;
+# `make test` is the gate.
 PREFIX = /usr/local
 PROGRAM = crates/cil/out/cil
 
-.PHONY: first test install check-docs bench bench-lex bench-parse bench-run bench-types bench-memory bench-text program
+.PHONY: try first test install check-docs bench bench-lex bench-parse bench-run bench-types bench-memory bench-text program
 
-# Proves the program and builds it.
+# Proves the program and builds it, the libraries that it stands on first.
 program:
+	@scripts/build-libraries cil
+	@echo "proving cil"
 	cd crates/cil && rt run -- merge data/a.c >/dev/null
+
+# Builds the program with checks in the place of proofs, and merges and runs the example with it.
+try:
+	cd crates/cil && rt try -- merge data/a.c >../../examples/out.c
+	@cat examples/out.c
+	cd crates/cil && rt try --data out.c=../../examples/out.c -- run out.c; status=$$?; echo "its run ends with status $$status"; [ $$status -eq 5 ]
+	@echo "nothing was proved: make first proves it"
 
 first: program
 	$(PROGRAM) merge examples/first.c >examples/out.c
