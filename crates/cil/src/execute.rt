@@ -9,8 +9,8 @@ ghost use Rattle.cil.specs.Execute.{IsRunAnswer, RanAs, RunSays};
 ghost use Rattle.cil.specs.RunEnds.{status_by};
 
 use crate::file::read_file;
-use cil_lines::Status;
 use cil_base::NamePool;
+use cil_lines::Status;
 use cil_reader::{ReadStop as TextStop, read};
 use cil_runner::{Machine, RunEnd};
 use cil_tree::CilUnit;

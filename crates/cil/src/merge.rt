@@ -19,8 +19,8 @@ use crate::printer::print;
 use crate::reader::unit_of;
 use c_lexer::{Tokens, lex};
 use c_parser::parse;
-use cil_lines::{Status, send};
 use cil_base::{Fault, NameId, NamePool, Stop, UnitNo, What};
+use cil_lines::{Status, send};
 use outside::{Files, ReadStop, Sink};
 use std::alloc::Global;
 

@@ -3,9 +3,9 @@
 ghost use Rattle.std.specs.Prelude.{◌≡◌};
 ghost use Rattle.cil_lines.specs.Messages.{HasFiles};
 
-use cil_lines::report;
 use crate::{Status, cil};
 use cil_base::{Code, Fault, Feature, NameId, NamePool, Place, Refusal, UnitNo, What};
+use cil_lines::report;
 use outside::{MemFiles, MemSink, MemSource};
 use std::alloc::Global;
 use std::test::Fail;

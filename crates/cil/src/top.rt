@@ -22,11 +22,11 @@ ghost use Rattle.cil_lines.specs.Messages.{line_of, IsQuiet, HasFiles};
 ghost use Rattle.cil.specs.Messages.{AreNames};
 ghost use Rattle.cil_lines.specs.Sent.{Sent};
 
-use cil_words::{Command, read_words};
 use crate::execute::execute;
 use crate::merge::merge;
-use cil_lines::{Status, report};
 use cil_base::NamePool;
+use cil_lines::{Status, report};
+use cil_words::{Command, read_words};
 use outside::{Files, Sink, Source};
 use std::alloc::Global;
 

@@ -32,7 +32,10 @@ fn add_aggregate(
 ) -> Result<TypeId, LayoutStop> {
     let mut members = Vec::new(alloc);
     for t in parts {
-        if members.push(Member::named(NameId(t.0), plain(*t), 0)).is_err() {
+        if members
+            .push(Member::named(NameId(t.0), plain(*t), 0))
+            .is_err()
+        {
             return Err(LayoutStop::Memory);
         }
     }
