@@ -6,8 +6,10 @@
 //! The rules are own.
 #![tactic(auto)]
 
+mod laws;
 mod mapping;
 
+pub use laws::mapped_types_keep_layouts;
 pub use mapping::map_graph;
 
 #[cfg(test)]

@@ -1,5 +1,5 @@
 -- Device: an arena keeps its qualified types in normal form while it grows.
-use Rattle.std.proofs.Common.{◌≡◌, ℕ, zero, suc, ◌<◌, ◌≤◌, Bool, true, false, ◌&&◌, ◌||◌, List, [], ◌∷◌, ◌++◌, length, slice_get, nat_lt, Option, Some, None, ◌⊎◌, inl, inr, refl, sym, ap, ◌∙◌, subst, eqb, eqb-true, eq-eqb, true≢false, ltb-false, arith}
+use Rattle.std.proofs.Common.{◌≡◌, ℕ, zero, suc, ◌<◌, ◌≤◌, Bool, true, false, ◌&&◌, ◌||◌, List, [], ◌∷◌, ◌++◌, length, slice_get, nat_lt, Some, None, ◌⊎◌, inl, inr, refl, sym, ap, ◌∙◌, subst, eqb, eqb-true, eq-eqb, true≢false, ltb-false, arith}
 use Rattle.std.proofs.Math.ListN.{set}
 use borrow.Author.Tests.{ltb-true}
 use Rattle.std.specs.Option.{option_and_then}
@@ -12,11 +12,11 @@ use Rattle.type_graph.specs.declared.nodes.Node.TheVariants.{Void, Int, Ptr, Arr
 use Rattle.type_graph.specs.declared.nodes.Quals.{Quals}
 use Rattle.type_graph.specs.Shapes.{Shape, VoidType, IntType, PtrType, ArrayType, FuncType, AggType, shape}
 use Rattle.type_graph.specs.Arena.{Graph, IsArena, NamesBelow, EachBelow, empty_graph, members_of}
-use Rattle.type_graph.specs.Growth.{Grows, AddsNode, with_agg, with_members}
+use Rattle.type_graph.specs.Growth.{Grows, KeepsAggregates, AddsNode, with_agg, with_members}
 use Rattle.type_graph.proofs.ArenaLaws.{agg_there}
 use Rattle.type_graph.proofs.Lists.{get_stays, get_push, get_there, get_set_same, get_set_other}
 use Rattle.type_graph.proofs.ShapeLaws.{kept}
-use Rattle.unit_types.specs.Normal.{IsNormal, is_normal, is_plain, bears, qualified, normal_node, normal_member, normal_members}
+use Rattle.unit_types.specs.Normal.{IsNormal, is_normal, is_plain, bears, qualified, normal_node, normal_member, normal_members, NormalFrom}
 
 pub normal_empty : (abi : Abi) → IsNormal (empty_graph abi)
 normal_empty abi = record { nodes = λ t n e. cc; members = λ a i ms m e f. cc }
@@ -61,6 +61,22 @@ normal_pushed g h n w normal names form grows is = record {
     by : (k : ℕ) (x : Node) → (slice_get g.nodes k ≡ Some x) ⊎ ((k ≡ length g.nodes) × (n ≡ x)) → normal_node h.nodes x ≡ true
     by k x (inl old) = node_kept g h k (length g.aggs) x grows (omega (arith, get_below g.nodes k x old)) (w.grounded k x old) ∙ normal.nodes k x old
     by k x (inr new) = subst (λ (y : Node). normal_node h.nodes y ≡ true) new.1 (node_kept g h (length g.nodes) (length g.aggs) n grows (omega arith) names ∙ form)
+
+-- an arena that gained types in normal form
+pub normal_grown : (g h : Graph) → IsArena g → IsNormal g → Grows g h → KeepsAggregates g h → NormalFrom (length g.nodes) h → IsNormal h
+normal_grown g h w normal grows keeps new = record {
+  nodes = λ k x e. by k x e (nat_lt k (length g.nodes)) refl;
+  members = λ a i ms m e f. member_kept g h a i ms m w normal grows (subst (λ xs. members_of xs a ≡ Some ms) keeps.0 e) f;
+}
+  where
+    by : (k : ℕ) (x : Node) → slice_get h.nodes k ≡ Some x → (b : Bool) → nat_lt k (length g.nodes) ≡ b → normal_node h.nodes x ≡ true
+    by k x e true below =
+        let y = get_there g.nodes k (ltb-true _ _ below) in
+        let there : slice_get h.nodes k ≡ Some y.0 = subst (λ ns. slice_get ns k ≡ Some y.0) (sym grows.nodes.1) (get_stays g.nodes grows.nodes.0 k y.0 y.1) in
+        let same : y.0 ≡ x = some_same y.0 x (sym there ∙ e) in
+        let old : slice_get g.nodes k ≡ Some x = y.1 ∙ ap Some same in
+        node_kept g h k (length g.aggs) x grows (omega (arith, ltb-true _ _ below)) (w.grounded k x old) ∙ normal.nodes k x old
+    by k x e false past = new k x (ltb-false _ _ past) e
 
 -- one of members that are all in normal form
 member_normal : (g : Graph) (ms : List Member) (i : ℕ) (m : Member) → normal_members g ms ≡ true → slice_get ms i ≡ Some m → normal_member g m ≡ true

@@ -1,8 +1,7 @@
 -- Definition: qualified types in their normal form (C11 6.7.3p9): qualifiers on an array type are those of its elements, and a function type has none (own).
-use Rattle.std.specs.Prelude.{◌≡◌, ℕ, Bool, true, false, ◌&&◌, ◌||◌, not, Option, Some, List, [], ◌∷◌, slice_get}
+use Rattle.std.specs.Prelude.{◌≡◌, ◌≤◌, ℕ, Bool, true, false, ◌&&◌, ◌||◌, not, Some, List, [], ◌∷◌, slice_get}
 use Rattle.type_graph.specs.declared.aggregates.Member.{Member}
 use Rattle.type_graph.specs.declared.nodes.Quals.{Quals}
-use Rattle.type_graph.specs.declared.nodes.QualType.{QualType}
 use Rattle.type_graph.specs.declared.nodes.Node.{Node}
 use Rattle.type_graph.specs.declared.nodes.Node.TheVariants.{Void, Int, Ptr, Array, Func, Agg}
 use Rattle.type_graph.specs.Shapes.{Shape, VoidType, IntType, PtrType, ArrayType, FuncType, AggType, shape}
@@ -49,6 +48,10 @@ normal_members g (m ∷ ms) = normal_member g m && normal_members g ms
 pub record IsNormal (g : Graph) : Type 0 where
   pub nodes : (t : ℕ) (n : Node) → slice_get g.nodes t ≡ Some n → normal_node g.nodes n ≡ true
   pub members : (a i : ℕ) (ms : List Member) (m : Member) → members_of g.aggs a ≡ Some ms → slice_get ms i ≡ Some m → is_normal m.ty.quals (shape g.nodes m.ty.of.0) ≡ true
+
+-- the qualified types that nodes name are in normal form, from a number on
+abbrev pub NormalFrom : ℕ → Graph → Type 0
+NormalFrom k g = (t : ℕ) (n : Node) → k ≤ t → slice_get g.nodes t ≡ Some n → normal_node g.nodes n ≡ true
 
 -- both qualifiers, each once (C11 6.7.3p5)
 abbrev pub joined : Quals → Quals → Quals

@@ -7,6 +7,7 @@
 #![tactic(auto)]
 
 mod class;
+mod constants;
 mod members;
 mod parts;
 mod types;

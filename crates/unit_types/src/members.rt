@@ -2,7 +2,8 @@ ghost use Rattle.std.specs.Prelude.{◌≡◌, ◌<◌, ◌&&◌, ◌||◌, true
 ghost use Rattle.type_graph.specs.declared.aggregates.Aggregate.{Aggregate};
 ghost use Rattle.type_graph.specs.Shapes.{shape};
 ghost use Rattle.type_graph.specs.Arena.{complete, flexible_shape, is_struct, members_of, members_fit};
-ghost use Rattle.unit_types.specs.Normal.{is_plain, bears, is_normal, normal_member, normal_members};
+ghost use Rattle.type_graph.specs.declared.nodes.Node.{Node};
+ghost use Rattle.unit_types.specs.Normal.{is_plain, bears, is_normal, normal_node, normal_member, normal_members, NormalFrom};
 
 use cil_base::{AggId, TypeId};
 use type_graph::{AggKind, Member, Node, QualType, Quals, TypeGraph};
@@ -31,6 +32,30 @@ pub(crate) fn is_normal(g: &TypeGraph, q: QualType) -> bool
     ensures normal { IsTrue result → is_normal q.quals (shape g.now.nodes q.of.0) ≡ true }
 {
     q.of.0 < g.len() && (is_plain(q.quals) || bears(g, q.of))
+}
+
+/// Whether the qualified type that a type names is in normal form.
+fn is_normal_node(g: &TypeGraph, t: TypeId) -> bool
+    requires { t.0 < length g.now.nodes }
+    ensures { IsTrue result → (n : Node) → slice_get g.now.nodes t.0 ≡ Some n → normal_node g.now.nodes n ≡ true }
+{
+    match g.node(t) {
+        Node::Ptr(q) => is_normal(g, *q),
+        Node::Array(q, _) => is_normal(g, *q),
+        Node::Void | Node::Int(_) | Node::Func { .. } | Node::Agg(_) => true,
+    }
+}
+
+/// Whether the types from a number on name types in normal form.
+pub(crate) fn new_are_normal(g: &TypeGraph, first: u32) -> bool
+    ensures { IsTrue result → NormalFrom first g.now }
+{
+    for t in first..g.len() {
+        if !is_normal_node(g, TypeId(t)) {
+            return false;
+        }
+    }
+    true
 }
 
 /// Whether a type is a complete object type (C11 6.2.5p1); one that is not there is none.

@@ -6,11 +6,14 @@ ghost use Rattle.type_graph.specs.Growth.{Grows, AddsNode, KeepsAggregates, with
 ghost use Rattle.layout_lp64.specs.Tables.{InStep, WereInStep};
 ghost use Rattle.layout_lp64.specs.Stops.{StopsAt};
 ghost use Rattle.unit_types.specs.Normal.{IsNormal, normal_node, normal_members};
+ghost use Rattle.type_compat.specs.Composed.{composite_shape};
 ghost use Rattle.unit_types.specs.Steps.{Makes, StopsWith, StopsCompleting};
 
+use crate::members::new_are_normal;
 use cil_base::{Abi, AggId, NameId, TypeId};
 use layout_lp64::{LayoutStop, Layouts};
 use std::alloc::Global;
+use type_compat::composite;
 use type_graph::{AggKind, Members, Node, TypeGraph};
 
 /// An arena with its layouts.
@@ -122,4 +125,33 @@ pub(crate) fn complete(
         Ok(()) => Ok(()),
         Err(stop) => Err(stop),
     }
+}
+
+/// The composite of two types (C11 6.2.7p3). After `TooBig` there are no types.
+#[tactic(auto, using(crate::proofs::StepLaws::were_in_step, crate::proofs::NormalLaws::normal_grown))]
+pub(crate) fn compose(
+    alloc: Global,
+    parts: &mut Parts,
+    a: TypeId,
+    b: TypeId,
+) -> Result<TypeId, LayoutStop>
+    requires step { InStep parts.old.layouts parts.old.graph }
+    requires normal { IsNormal parts.old.graph }
+    requires left { a.0 < length parts.old.graph.nodes }
+    requires right { b.0 < length parts.old.graph.nodes }
+    ensures is { IfOk result (λ t. shape parts.new.graph.nodes t.0 ≡ composite_shape (shape parts.old.graph.nodes a.0) (shape parts.old.graph.nodes b.0)) }
+    ensures there { IfOk result (λ t. t.0 < length parts.new.graph.nodes) }
+    ensures grows { OnOk result (Grows parts.old.graph parts.new.graph) }
+    ensures aggregates { OnOk result (KeepsAggregates parts.old.graph parts.new.graph) }
+    ensures step { InStep parts.new.layouts parts.new.graph }
+    ensures normal { IsNormal parts.new.graph }
+{
+    let first = parts.graph.len();
+    let composed = composite(alloc, &mut parts.graph, a, b);
+    if !new_are_normal(&parts.graph, first) {
+        *parts = Parts::new(alloc, parts.graph.abi());
+        return Err(LayoutStop::Memory);
+    }
+    keep_up(alloc, parts)?;
+    Ok(composed?)
 }

@@ -223,6 +223,68 @@ fn qualifiers_of_arrays_go_to_their_elements(
     Ok(())
 }
 
+/// A composite keeps the qualifiers of what is pointed to, takes a bound, and has its layout at once (C11 6.2.7p3).
+fn composites_take_bounds(rt: &impl Abort, types: &mut Types) -> Result<(), LayoutStop> {
+    let int = types.int(IntKind::Int)?;
+    let element = QualType {
+        quals: CONST,
+        of: int,
+    };
+    let open = types.array(element, None)?;
+    let seven = types.array(plain(int), Some(7))?;
+    let composite = types.composite(open, seven)?;
+    assert_eq!(rt; types.size(composite), Some(28));
+    assert_eq!(rt; composite, types.array(element, Some(7))?);
+    assert_eq!(rt; types.composite(seven, open)?, seven);
+    assert_eq!(rt;
+        types.composite(int, TypeId(5000)).err(),
+        Some(LayoutStop::Memory)
+    );
+    Ok(())
+}
+
+/// A struct is completed with one member.
+fn add_wrapper(alloc: Global, types: &mut Types, member: QualType) -> Result<AggId, LayoutStop> {
+    let a = types.add_agg(AggKind::Struct, None)?;
+    let mut members = Vec::new(alloc);
+    if members.push(Member::named(NameId(0), member, 0)).is_err() {
+        return Err(LayoutStop::Memory);
+    }
+    types.complete(a, Members::new(members))?;
+    Ok(a)
+}
+
+/// A const member counts through structs and arrays, and not through pointers (C11 6.3.2.1p1).
+fn constant_members_are_found_in_parts(
+    rt: &impl Abort,
+    alloc: Global,
+    types: &mut Types,
+) -> Result<(), LayoutStop> {
+    let int = types.int(IntKind::Int)?;
+    let constant = QualType {
+        quals: CONST,
+        of: int,
+    };
+    let row = types.array(constant, Some(2))?;
+    let table = types.array(plain(row), Some(2))?;
+    let pointer = types.pointer(constant)?;
+    let inner = add_wrapper(alloc, types, constant)?;
+    let record = types.aggregate(inner)?;
+    let records = types.array(plain(record), Some(2))?;
+    for (member, expected) in [
+        (plain(int), false),
+        (constant, true),
+        (plain(table), true),
+        (plain(pointer), false),
+        (plain(record), true),
+        (plain(records), true),
+    ] {
+        let a = add_wrapper(alloc, types, member)?;
+        assert_eq!(rt; types.has_constant_member(a), expected);
+    }
+    Ok(())
+}
+
 /// All of these, over the types of one unit; behind the last there are none.
 fn types_keep_their_rules(
     rt: &impl Abort,
@@ -234,6 +296,8 @@ fn types_keep_their_rules(
     structs_end_in_flexible_arrays(rt, alloc, types)?;
     members_are_complete_but_for_the_last(rt, alloc, types)?;
     qualifiers_of_arrays_go_to_their_elements(rt, alloc, types)?;
+    composites_take_bounds(rt, types)?;
+    constant_members_are_found_in_parts(rt, alloc, types)?;
     the_least_type_that_is_too_big_is_named(rt, alloc, types)
 }
 

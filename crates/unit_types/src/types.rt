@@ -12,12 +12,14 @@ ghost use Rattle.layout_lp64.specs.Stops.{StopsAt};
 ghost use Rattle.unit_types.specs.Steps.{Makes, StopsWith, StopsCompleting};
 ghost use Rattle.unit_types.specs.Classes.{Tells, kind_of, param_of, offset_in};
 ghost use Rattle.type_compat.specs.Compatible.{compatible_shape};
+ghost use Rattle.type_compat.specs.Composed.{composite_shape};
 ghost use Rattle.layout_lp64.specs.Tables.{InStep};
 ghost use Rattle.unit_types.specs.Normal.{is_normal, joined, qualified};
 
 use crate::class::Class;
+use crate::constants::{ConstantMembers, are_constant};
 use crate::members::{can_complete, is_complete, is_normal};
-use crate::parts::{Parts, add, add_agg, complete};
+use crate::parts::{Parts, add, add_agg, complete, compose};
 use cil_base::{Abi, AggId, IntKind, NameId, TypeId};
 use layout_lp64::LayoutStop;
 use std::alloc::Global;
@@ -29,6 +31,7 @@ use type_graph::{AggKind, Member, Members, Node, QualType, Quals, TypeGraph, Typ
 #[derive(Drop)]
 pub struct Types {
     parts: Parts,
+    constants: ConstantMembers,
     alloc: Global,
 }
 
@@ -78,6 +81,7 @@ impl Types {
     {
         Types {
             parts: Parts::new(alloc, abi),
+            constants: ConstantMembers::new(alloc),
             alloc,
         }
     }
@@ -145,6 +149,11 @@ impl Types {
     {
         let count = self.parts.graph.len();
         a.0 < count && b.0 < count && compatible(&self.parts.graph, a, b)
+    }
+
+    /// Whether a struct or union has a member that is const, itself or in a struct, a union or an array in it (C11 6.3.2.1p1).
+    pub fn has_constant_member(&self, a: AggId) -> bool {
+        self.constants.has(a)
     }
 
     /// A parameter of a function type.
@@ -315,7 +324,26 @@ impl Types {
         if !can_complete(&self.parts.graph, a, members.as_slice()) {
             return Err(impossible());
         }
+        if are_constant(&self.parts.graph, &self.constants, members.as_slice()) {
+            self.constants.add(a)?;
+        }
         complete(self.alloc, &mut self.parts, a, members)
+    }
+
+    /// The composite of two compatible types (C11 6.2.7p3): the first, the earlier declaration's, but an array of unknown bound takes
+    /// the bound of the other, and a function without a prototype the prototype of the other. Of types that are not there it answers
+    /// Memory.
+    pub fn composite(&mut self, a: TypeId, b: TypeId) -> Result<TypeId, LayoutStop>
+        ensures is { IfOk result (λ t. shape self.new.nodes t.0 ≡ composite_shape (shape self.old.nodes a.0) (shape self.old.nodes b.0)) }
+        ensures there { IfOk result (λ t. t.0 < length self.new.nodes) }
+        ensures grows { OnOk result (Grows self.old self.new) }
+        ensures aggregates { OnOk result (KeepsAggregates self.old self.new) }
+    {
+        let count = self.parts.graph.len();
+        if a.0 >= count || b.0 >= count {
+            return Err(impossible());
+        }
+        compose(self.alloc, &mut self.parts, a, b)
     }
 }
 
