@@ -1,0 +1,155 @@
+use crate::conversions::{Pair, both_converted, both_values, promoted, value_of};
+use crate::operands::{Operand, Sort, is_arithmetic, is_scalar, is_unreadable, operand_sort};
+use crate::pairings::{Meeting, Pairing, meeting_of, meeting_type, paired};
+use crate::stops::{allowed, made};
+use cil_base::{Code, IntKind, RuleStop, TypeId};
+use std::alloc::Global;
+use typed_tree::{Branches, TypedExp};
+use unit_types::Types;
+
+/// The type that the second and third operands of a conditional give (C11 6.5.15p3, p5, p6).
+#[derive(Clone, Copy)]
+enum Joining {
+    /// The common type of two numbers.
+    Numbers(IntKind),
+    /// One struct or union type, or `void`.
+    Same(TypeId),
+    /// Where two pointers meet.
+    Pointers(Meeting),
+}
+
+/// What two operands give that are not both numbers.
+fn others_join(a: &Operand, b: &Operand, t: &Types) -> Option<Joining> {
+    let of = a.exp.ty().of;
+    match (operand_sort(a, t), operand_sort(b, t)) {
+        (Sort::Void, Sort::Void) => Some(Joining::Same(of)),
+        (Sort::Record(x), Sort::Record(y)) => {
+            if x == y {
+                Some(Joining::Same(of))
+            } else {
+                None
+            }
+        }
+        _ => match meeting_of(a, b, t) {
+            Some(m) => Some(Joining::Pointers(m)),
+            None => None,
+        },
+    }
+}
+
+/// What the second and third operands of a conditional give, if they meet its constraint (C11 6.5.15p3).
+fn joining_of(a: &Operand, b: &Operand, t: &Types) -> Option<Joining> {
+    match paired(a, b, t) {
+        Pairing::Numbers(x, y) => Some(Joining::Numbers(x.common(y))),
+        Pairing::PointerNumber(_)
+        | Pairing::NumberPointer(_)
+        | Pairing::Pointers(..)
+        | Pairing::Others => others_join(a, b, t),
+    }
+}
+
+/// The first constraint that a conditional violates, if there is one (C11 6.5.15p2, p3).
+fn fault_conditional(c: &Operand, a: &Operand, b: &Operand, t: &Types) -> Option<Code> {
+    if is_unreadable(c, t) || is_unreadable(a, t) || is_unreadable(b, t) {
+        Some(Code::Incomplete)
+    } else if !is_scalar(operand_sort(c, t)) || joining_of(a, b, t).is_none() {
+        Some(Code::Operand)
+    } else {
+        None
+    }
+}
+
+/// The type of a conditional.
+fn joined_type(j: Joining, t: &mut Types) -> Result<TypeId, RuleStop> {
+    match j {
+        Joining::Numbers(kind) => made(t.int(kind)),
+        Joining::Same(of) => Ok(of),
+        Joining::Pointers(m) => meeting_type(m, t),
+    }
+}
+
+/// The second and third operands of a conditional, converted to its type.
+fn branches(
+    alloc: Global,
+    of: TypeId,
+    a: TypedExp,
+    b: TypedExp,
+    t: &mut Types,
+) -> Result<Box<Branches>, RuleStop> {
+    let pair = both_values(alloc, a, b, t)?;
+    let Pair { left, right } = both_converted(alloc, of, pair, t)?;
+    let branches = Branches {
+        holds: left,
+        fails: right,
+    };
+    Ok(Box::new(alloc, branches)?)
+}
+
+/// `c ? a : b` (C11 6.5.15).
+pub fn conditional(
+    alloc: Global,
+    c: Operand,
+    a: Operand,
+    b: Operand,
+    t: &mut Types,
+) -> Result<TypedExp, RuleStop> {
+    allowed(fault_conditional(&c, &a, &b, t))?;
+    let Some(joining) = joining_of(&a, &b, t) else {
+        return Err(crate::stops::impossible());
+    };
+    let of = joined_type(joining, t)?;
+    let branches = branches(alloc, of, a.exp, b.exp, t)?;
+    let test = value_of(alloc, c.exp, t)?;
+    Ok(typed_tree::conditional(alloc, of, test, branches)?)
+}
+
+/// The first constraint that a comma violates, if there is one.
+fn fault_comma(a: &Operand, b: &Operand, t: &Types) -> Option<Code> {
+    if is_unreadable(a, t) || is_unreadable(b, t) {
+        Some(Code::Incomplete)
+    } else {
+        None
+    }
+}
+
+/// `a , b` (C11 6.5.17).
+pub fn comma(alloc: Global, a: Operand, b: Operand, t: &mut Types) -> Result<TypedExp, RuleStop> {
+    allowed(fault_comma(&a, &b, t))?;
+    let Pair { left, right } = both_values(alloc, a.exp, b.exp, t)?;
+    Ok(typed_tree::comma(alloc, left, right)?)
+}
+
+/// The first constraint that the controlling expression of an `if` or a loop violates, if there is one.
+fn fault_test(e: &Operand, t: &Types) -> Option<Code> {
+    if is_unreadable(e, t) {
+        Some(Code::Incomplete)
+    } else if !is_scalar(operand_sort(e, t)) {
+        Some(Code::Condition)
+    } else {
+        None
+    }
+}
+
+/// The value of the controlling expression of an `if` or a loop (C11 6.8.4.1p1, 6.8.5p2).
+pub fn scalar_test(alloc: Global, e: Operand, t: &mut Types) -> Result<TypedExp, RuleStop> {
+    allowed(fault_test(&e, t))?;
+    value_of(alloc, e.exp, t)
+}
+
+/// The first constraint that the controlling expression of a `switch` violates, if there is one.
+fn fault_switch(e: &Operand, t: &Types) -> Option<Code> {
+    if is_unreadable(e, t) {
+        Some(Code::Incomplete)
+    } else if !is_arithmetic(operand_sort(e, t)) {
+        Some(Code::Condition)
+    } else {
+        None
+    }
+}
+
+/// The promoted value of the controlling expression of a `switch` (C11 6.8.4.2p1, p5).
+pub fn switch_value(alloc: Global, e: Operand, t: &mut Types) -> Result<TypedExp, RuleStop> {
+    allowed(fault_switch(&e, t))?;
+    let e = value_of(alloc, e.exp, t)?;
+    promoted(alloc, e, t)
+}

@@ -1,0 +1,166 @@
+use crate::operands::{
+    Operand, Sort, arithmetic_kind, is_scalar, is_unreadable, operand_sort, sort_of, unqualified,
+};
+use crate::pairings::is_void;
+use crate::stops::{allowed, impossible, made};
+use cil_base::{Code, RuleStop, TypeId};
+use std::alloc::Global;
+use type_graph::QualType;
+use typed_tree::TypedExp;
+use unit_types::{Class, Types};
+
+/// Two values, in the order of the text.
+#[derive(Drop)]
+pub(crate) struct Pair {
+    pub(crate) left: TypedExp,
+    pub(crate) right: TypedExp,
+}
+
+/// Whether one type is the other, but perhaps for the qualifiers of what they point to: such a conversion changes no value.
+fn is_alike(t: &Types, from: TypeId, to: TypeId) -> bool {
+    if from == to {
+        return true;
+    }
+    match (t.class(from), t.class(to)) {
+        (Class::Ptr(p), Class::Ptr(q)) => p.of == q.of,
+        _ => false,
+    }
+}
+
+/// A value converted to a type as C does it unasked (C11 6.3): there is a node where the type changes, the qualifiers of what a pointer
+/// points to aside.
+pub(crate) fn converted(
+    alloc: Global,
+    to: TypeId,
+    e: TypedExp,
+    t: &Types,
+) -> Result<TypedExp, RuleStop> {
+    if is_alike(t, e.ty().of, to) {
+        return Ok(e);
+    }
+    Ok(typed_tree::convert(alloc, to, e)?)
+}
+
+/// Two values converted to a type.
+pub(crate) fn both_converted(
+    alloc: Global,
+    to: TypeId,
+    pair: Pair,
+    t: &Types,
+) -> Result<Pair, RuleStop> {
+    let Pair { left, right } = pair;
+    let left = converted(alloc, to, left, t)?;
+    let right = converted(alloc, to, right, t)?;
+    Ok(Pair { left, right })
+}
+
+/// An integer promoted (C11 6.3.1.1p2); an enumerated type computes in int (own).
+pub(crate) fn promoted(alloc: Global, e: TypedExp, t: &mut Types) -> Result<TypedExp, RuleStop> {
+    let Some(kind) = arithmetic_kind(sort_of(t, e.ty().of)) else {
+        return Err(impossible());
+    };
+    let to = made(t.int(kind.promoted()))?;
+    converted(alloc, to, e, t)
+}
+
+/// A value after the default argument promotions (C11 6.5.2.2p6).
+pub(crate) fn promoted_argument(
+    alloc: Global,
+    e: TypedExp,
+    t: &mut Types,
+) -> Result<TypedExp, RuleStop> {
+    match sort_of(t, e.ty().of) {
+        Sort::Integer(_) | Sort::Enumerated => promoted(alloc, e, t),
+        Sort::Void | Sort::Pointer(_) | Sort::Record(_) => Ok(e),
+    }
+}
+
+/// An array or a function as a pointer (C11 6.3.2.1p3, p4).
+fn decayed(alloc: Global, to: QualType, e: TypedExp, t: &mut Types) -> Result<TypedExp, RuleStop> {
+    let pointer = made(t.pointer(to))?;
+    Ok(typed_tree::decay(alloc, pointer, e)?)
+}
+
+/// The value of a place, or a value itself.
+fn loaded(alloc: Global, e: TypedExp) -> Result<TypedExp, RuleStop> {
+    if e.is_place() {
+        Ok(typed_tree::load(alloc, e)?)
+    } else {
+        Ok(e)
+    }
+}
+
+/// The value of an operand (C11 6.3.2.1p2 to p4). A void expression stays as it is.
+pub(crate) fn value_of(alloc: Global, e: TypedExp, t: &mut Types) -> Result<TypedExp, RuleStop> {
+    let of = e.ty().of;
+    match t.class(of) {
+        Class::Void => Ok(e),
+        Class::Int(_) | Class::Ptr(_) | Class::Agg(..) => loaded(alloc, e),
+        Class::Array(element, _) => decayed(alloc, element, e, t),
+        Class::Func { .. } => decayed(alloc, unqualified(of), e, t),
+    }
+}
+
+/// The values of two operands.
+pub(crate) fn both_values(
+    alloc: Global,
+    a: TypedExp,
+    b: TypedExp,
+    t: &mut Types,
+) -> Result<Pair, RuleStop> {
+    let left = value_of(alloc, a, t)?;
+    let right = value_of(alloc, b, t)?;
+    Ok(Pair { left, right })
+}
+
+/// The constraint that the reading of an operand violates, if there is one.
+fn fault_value(e: &Operand, t: &Types) -> Option<Code> {
+    if is_unreadable(e, t) {
+        Some(Code::Incomplete)
+    } else {
+        None
+    }
+}
+
+/// The value of an operand: what an lvalue holds, or the pointer to which an array or a function decays (C11 6.3.2.1p2 to p4).
+/// `Incomplete` comes where it has an incomplete struct, union or enum type.
+pub fn value(alloc: Global, e: Operand, t: &mut Types) -> Result<TypedExp, RuleStop> {
+    allowed(fault_value(&e, t))?;
+    value_of(alloc, e.exp, t)
+}
+
+/// Whether a cast is outside C11 6.5.4p2.
+fn is_no_cast(to: TypeId, e: &Operand, t: &Types) -> bool {
+    !is_void(t, to) && !(is_scalar_type(t, to) && is_scalar(operand_sort(e, t)))
+}
+
+/// Whether a type is a scalar type (C11 6.2.5p21).
+fn is_scalar_type(t: &Types, of: TypeId) -> bool {
+    match t.class(of) {
+        Class::Int(_) | Class::Ptr(_) => true,
+        Class::Agg(..) => is_scalar(sort_of(t, of)),
+        Class::Void | Class::Array(..) | Class::Func { .. } => false,
+    }
+}
+
+/// The first constraint that a cast violates, if there is one.
+fn fault_cast(to: TypeId, e: &Operand, t: &Types) -> Option<Code> {
+    if is_unreadable(e, t) {
+        Some(Code::Incomplete)
+    } else if is_no_cast(to, e, t) {
+        Some(Code::Cast)
+    } else {
+        None
+    }
+}
+
+/// `( to ) e` (C11 6.5.4). A cast to void is a node whatever its operand is, since no cast is an lvalue; any other is a node where it
+/// changes the type.
+pub fn cast(alloc: Global, to: TypeId, e: Operand, t: &mut Types) -> Result<TypedExp, RuleStop> {
+    allowed(fault_cast(to, &e, t))?;
+    let e = value_of(alloc, e.exp, t)?;
+    if e.ty().of == to && !is_void(t, to) {
+        return Ok(e);
+    }
+    Ok(typed_tree::convert(alloc, to, e)?)
+}

@@ -1,0 +1,147 @@
+use cil_base::{AggId, IntKind, TypeId};
+use type_graph::{AggKind, QualType, Quals};
+use typed_tree::TypedExp;
+use unit_types::{Class, Types};
+
+/// An operand as it is written, before the conversions of C11 6.3.2.1: it may be an lvalue, an array or a function.
+#[derive(Drop)]
+pub struct Operand {
+    pub exp: TypedExp,
+    /// Whether it is a null pointer constant (C11 6.3.2.3p3).
+    pub null: bool,
+    /// Whether it is an object declared `register`, or a part of one (C11 6.5.3.2p1).
+    pub register: bool,
+}
+
+impl Operand {
+    /// An operand that is neither a null pointer constant nor a part of an object declared `register`.
+    pub fn plain(exp: TypedExp) -> Self {
+        Operand {
+            exp,
+            null: false,
+            register: false,
+        }
+    }
+}
+
+/// What the value of an operand is, once an lvalue is read and an array or a function has become a pointer (C11 6.3.2.1p2 to p4).
+#[derive(Clone, Copy)]
+pub(crate) enum Sort {
+    Void,
+    Integer(IntKind),
+    Enumerated,
+    /// A pointer, and the type that it points to.
+    Pointer(QualType),
+    /// A struct or union.
+    Record(AggId),
+}
+
+/// What a pointer points to.
+#[derive(Clone, Copy)]
+pub(crate) enum Pointee {
+    Complete,
+    /// An object type that is not complete, `void` among them (C11 6.2.5p1, p19).
+    Incomplete,
+    Function,
+}
+
+/// A type without qualifiers.
+pub(crate) fn unqualified(of: TypeId) -> QualType {
+    QualType {
+        quals: Quals {
+            constant: false,
+            restricted: false,
+        },
+        of,
+    }
+}
+
+/// The qualifiers of both (C11 6.7.3p5).
+pub(crate) fn joined(p: Quals, q: Quals) -> Quals {
+    Quals {
+        constant: p.constant || q.constant,
+        restricted: p.restricted || q.restricted,
+    }
+}
+
+/// What the value of an operand of a type is.
+pub(crate) fn sort_of(t: &Types, of: TypeId) -> Sort {
+    match t.class(of) {
+        Class::Void => Sort::Void,
+        Class::Int(kind) => Sort::Integer(kind),
+        Class::Ptr(to) => Sort::Pointer(to),
+        Class::Array(element, _) => Sort::Pointer(element),
+        Class::Func { .. } => Sort::Pointer(unqualified(of)),
+        Class::Agg(AggKind::Enum, _) => Sort::Enumerated,
+        Class::Agg(AggKind::Struct, a) => Sort::Record(a),
+        Class::Agg(AggKind::Union, a) => Sort::Record(a),
+    }
+}
+
+/// What the value of an operand is.
+pub(crate) fn operand_sort(e: &Operand, t: &Types) -> Sort {
+    sort_of(t, e.exp.ty().of)
+}
+
+/// What a pointer to that type points to.
+pub(crate) fn pointee_of(t: &Types, to: QualType) -> Pointee {
+    match t.class(to.of) {
+        Class::Func { .. } => Pointee::Function,
+        Class::Void | Class::Int(_) | Class::Ptr(_) | Class::Array(..) | Class::Agg(..) => {
+            if t.is_complete(to.of) {
+                Pointee::Complete
+            } else {
+                Pointee::Incomplete
+            }
+        }
+    }
+}
+
+/// Whether pointer arithmetic steps over a type that is incomplete (C11 6.5.6p2).
+pub(crate) fn is_incomplete(t: &Types, to: QualType) -> bool {
+    match pointee_of(t, to) {
+        Pointee::Incomplete => true,
+        Pointee::Complete | Pointee::Function => false,
+    }
+}
+
+/// Whether a pointer points to an object type (C11 6.2.5p1), complete or not.
+pub(crate) fn is_object(t: &Types, to: QualType) -> bool {
+    match pointee_of(t, to) {
+        Pointee::Complete | Pointee::Incomplete => true,
+        Pointee::Function => false,
+    }
+}
+
+/// The kind in which an operand of arithmetic type computes before its promotion (C11 6.2.5p18, 6.7.2.2p4).
+pub(crate) fn arithmetic_kind(s: Sort) -> Option<IntKind> {
+    match s {
+        Sort::Integer(kind) => Some(kind),
+        Sort::Enumerated => Some(IntKind::Int),
+        Sort::Void | Sort::Pointer(_) | Sort::Record(_) => None,
+    }
+}
+
+/// Whether an operand has arithmetic type (C11 6.2.5p18). Each is an integer type.
+pub(crate) fn is_arithmetic(s: Sort) -> bool {
+    arithmetic_kind(s).is_some()
+}
+
+/// Whether an operand has scalar type (C11 6.2.5p21).
+pub(crate) fn is_scalar(s: Sort) -> bool {
+    match s {
+        Sort::Integer(_) | Sort::Enumerated | Sort::Pointer(_) => true,
+        Sort::Void | Sort::Record(_) => false,
+    }
+}
+
+/// Whether an operand is a struct, union or enum whose type is incomplete, so that it has no value (C11 6.3.2.1p2).
+pub(crate) fn is_unreadable(e: &Operand, t: &Types) -> bool {
+    let of = e.exp.ty().of;
+    match t.class(of) {
+        Class::Agg(..) => !t.is_complete(of),
+        Class::Void | Class::Int(_) | Class::Ptr(_) | Class::Array(..) | Class::Func { .. } => {
+            false
+        }
+    }
+}

@@ -1,0 +1,203 @@
+use crate::bodies::{Bodies, MemberPath};
+use crate::declared::{Declared, Declaring, Linkage, Tag};
+use crate::entities::{Declarations, DeclaredEntity, Defined, Entities};
+use crate::numbers::{FunctionLocals, Numbers};
+use crate::stops::{impossible, laid};
+use crate::types::{PLAIN, Prototype, function, int, plain, pointer};
+use cil_base::{AggId, EntityId, LocalId, Memory, NameId, NamePool, RuleStop};
+use indexmap::IndexSet;
+use name_scopes::Scopes;
+use std::alloc::Global;
+use type_graph::{QualType, Quals};
+use typed_tree::{EntityKind, Ordinary, TypedLocal};
+use unit_types::Types;
+
+/// What a unit has declared so far (C11 6.2.1 to 6.2.3, 6.7). After an error of a call it is only dropped.
+#[derive(Drop)]
+pub struct Declarer {
+    /// The ordinary names.
+    pub(crate) names: Scopes<Declared>,
+    pub(crate) tags: Scopes<Tag>,
+    pub(crate) numbers: Numbers,
+    pub(crate) bodies: Bodies,
+    pub(crate) entities: Entities,
+    /// The enumerators, and what has internal linkage, by place.
+    pub(crate) ordinary: Vec<Ordinary>,
+    /// The names that begin with `__builtin_`.
+    reserved: IndexSet<NameId>,
+    pub(crate) memset: NameId,
+    /// The base of the names of literals.
+    literal: NameId,
+    pub(crate) alloc: Global,
+}
+
+/// Whether a text begins with `__builtin_`.
+fn is_builtin(text: &[u8]) -> bool {
+    text.starts_with(b"__builtin_")
+}
+
+/// The names of a pool that begin with `__builtin_`.
+fn builtin_names(alloc: Global, names: &NamePool) -> Result<IndexSet<NameId>, Memory> {
+    let mut found = IndexSet::new(alloc);
+    for i in 0..names.len() {
+        if is_builtin(names.text(NameId(i))) {
+            found.insert(NameId(i))?;
+        }
+    }
+    Ok(found)
+}
+
+/// The type `void * ( void * , int , unsigned long )`.
+fn memset_type(alloc: Global, t: &mut Types) -> Result<QualType, RuleStop> {
+    let void = laid(t.void())?;
+    let address = pointer(plain(void), PLAIN, t)?;
+    let int = int(t)?;
+    let kind = t.graph().abi().ulong();
+    let size = laid(t.int(kind))?;
+    let params = [address, int, plain(size)];
+    function(alloc, address, &params, Prototype::Fixed, t)
+}
+
+impl Declarer {
+    /// The declaration of `__builtin_memset`, which stands in front of every unit, with number 0. The names of the unit are in the pool already.
+    pub fn new(alloc: Global, names: &mut NamePool, t: &mut Types) -> Result<Declarer, RuleStop> {
+        let memset = names.intern(b"__builtin_memset")?;
+        let literal = names.bases()?.literal;
+        let mut d = Declarer {
+            names: Scopes::new(alloc),
+            tags: Scopes::new(alloc),
+            numbers: Numbers::new(alloc),
+            bodies: Bodies::new(alloc),
+            entities: Entities::new(alloc),
+            ordinary: Vec::new(alloc),
+            reserved: builtin_names(alloc, names)?,
+            memset,
+            literal,
+            alloc,
+        };
+        let ty = memset_type(alloc, t)?;
+        d.declare_memset(ty)?;
+        Ok(d)
+    }
+
+    /// Declares `__builtin_memset`.
+    fn declare_memset(&mut self, ty: QualType) -> Result<(), Memory> {
+        let e = self.entities.add_linked(DeclaredEntity {
+            name: self.memset,
+            kind: EntityKind::External,
+            ty,
+            bare: false,
+            used: false,
+            defined: Defined::Not,
+        })?;
+        self.names.declare(
+            self.memset,
+            Declared {
+                what: Declaring::Entity(e),
+                ty,
+                linkage: Linkage::External,
+                register: false,
+                depth: 0,
+            },
+        )
+    }
+
+    /// Opens the scope of a block, or of parameters. The parameters of a function that is defined and the outermost block of its body are one scope
+    /// (C11 6.2.1p4).
+    pub fn enter(&mut self) -> Result<(), Memory> {
+        self.names.enter()?;
+        self.tags.enter()?;
+        self.numbers.enter()
+    }
+
+    /// Closes the innermost scope. The parameters of a declarator without body give their numbers back.
+    pub fn leave(&mut self) -> Result<(), Memory> {
+        if self.names.leave().is_none() || self.tags.leave().is_none() {
+            return Err(impossible());
+        }
+        self.numbers.leave()
+    }
+
+    /// The visible declaration of an ordinary name (C11 6.2.1p4).
+    pub fn find(&self, n: NameId) -> Option<Declared> {
+        self.names.find(n)
+    }
+
+    /// Whether no scope is open: declarations are at file scope.
+    pub fn is_outside(&self) -> bool {
+        self.numbers.is_outside()
+    }
+
+    /// Whether a name begins with `__builtin_`, and may not be declared.
+    pub fn is_reserved(&self, n: NameId) -> bool {
+        self.reserved.contains(&n)
+    }
+
+    /// The declaration of a name in the innermost scope.
+    pub(crate) fn find_here(&self, n: NameId, depth: u32) -> Option<Declared> {
+        match self.names.find(n) {
+            None => None,
+            Some(d) => { if d.depth == depth { Some(d) } else { None } }
+        }
+    }
+
+    /// A compound literal in a function, where it is evaluated: its number in the function (C11 6.5.2.5p5). The limit on locals, at its first token.
+    pub fn compound_literal(&mut self) -> Result<u32, RuleStop> {
+        self.numbers.add_literal()
+    }
+
+    /// The parameters and declared objects of the function at hand so far.
+    pub fn locals(&self) -> &[TypedLocal] {
+        self.numbers.locals()
+    }
+
+    /// What the function has whose body's scope was left. The numbers of the next function begin at 0 again.
+    pub fn end_function(&mut self) -> FunctionLocals {
+        self.numbers.end()
+    }
+
+    /// An object or function by its number.
+    pub fn entity(&self, e: EntityId) -> Option<DeclaredEntity> {
+        self.entities.get(e)
+    }
+
+    /// The objects with static storage duration and functions by their numbers, which they have in the order in which they were met.
+    pub fn entities(&self) -> &[DeclaredEntity] {
+        self.entities.as_slice()
+    }
+
+    /// Notes that an object or function is named where it is evaluated.
+    pub fn mark_used(&mut self, e: EntityId) {
+        self.entities.mark_used(e);
+    }
+
+    /// The object of a string literal (C11 6.4.5p6), or of a compound literal outside functions (6.5.2.5p5).
+    pub fn literal(&mut self, ty: QualType) -> Result<EntityId, Memory> {
+        self.entities.add(DeclaredEntity {
+            name: self.literal,
+            kind: EntityKind::Literal,
+            ty,
+            bare: false,
+            used: true,
+            defined: Defined::Full,
+        })
+    }
+
+    /// The path to a name that a struct or union offers (C11 6.7.2.1p13); None where it offers no such name or is incomplete.
+    pub fn member_path(
+        &self,
+        a: AggId,
+        n: NameId,
+        t: &Types,
+    ) -> Result<Option<MemberPath>, Memory> {
+        self.bodies.path(a, n, t)
+    }
+
+    /// What the unit declares.
+    pub fn into_declarations(self) -> Declarations {
+        Declarations {
+            entities: self.entities.into_list(),
+            ordinary: self.ordinary,
+        }
+    }
+}

@@ -1,0 +1,33 @@
+//! What a translation unit has declared so far: scopes, linkage, tags, the bodies of structs, unions and enums, derived types, and the numbers of objects
+//! and functions.
+//!
+//! Its public contract answers for every number, whatever was declared before; each call is one step of a declaration, which refuses what C refuses, and
+//! the caller adds the place.
+//!
+//! The rules come from C11 6.2.1 to 6.2.3, 6.2.7, 6.7 and 6.9.
+#![tactic(auto)]
+
+mod basics;
+mod bodies;
+mod declare;
+mod declared;
+mod declarer;
+mod ending;
+mod entities;
+mod headings;
+mod linking;
+mod made_names;
+mod numbers;
+mod spelled;
+mod stops;
+mod tags;
+mod types;
+
+pub use bodies::{MemberPath, PathStep};
+pub use declared::{Behind, BodyForm, Declared, Declaring, Form, Linkage, MemberAt};
+pub use declarer::Declarer;
+pub use entities::{Declarations, DeclaredEntity, Defined, LateFault};
+pub use headings::{Heading, Inline, Position, heading_of};
+pub use numbers::FunctionLocals;
+pub use spelled::qualifiers;
+pub use types::{Prototype, array, function, is_constant, parameter, pointer};
