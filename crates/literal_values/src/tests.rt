@@ -1,0 +1,67 @@
+use crate::characters::character_value;
+use crate::integers::integer_value;
+use cil_base::{Abi, IntKind, Memory};
+use std::process::Abort;
+
+/// Integer constants with the kind that gcc gives them (`_Generic`) on a 64-bit system, and their values.
+const CONSTANTS: [(&[u8], Option<(IntKind, i128)>); 17] = [
+    (b"0", Some((IntKind::Int, 0))),
+    (b"2147483647", Some((IntKind::Int, 2147483647))),
+    (b"2147483648", Some((IntKind::Long, 2147483648))),
+    (b"0x7fffffff", Some((IntKind::Int, 2147483647))),
+    (b"0x80000000", Some((IntKind::UInt, 2147483648))),
+    (
+        b"0XFFFFFFFFFFFFFFFF",
+        Some((IntKind::ULong, 18446744073709551615)),
+    ),
+    (b"037777777777", Some((IntKind::UInt, 4294967295))),
+    (b"017", Some((IntKind::Int, 15))),
+    (b"1u", Some((IntKind::UInt, 1))),
+    (b"1L", Some((IntKind::Long, 1))),
+    (b"1ll", Some((IntKind::LLong, 1))),
+    (b"1uLL", Some((IntKind::ULLong, 1))),
+    (b"4294967296U", Some((IntKind::ULong, 4294967296))),
+    (
+        b"9223372036854775807",
+        Some((IntKind::Long, 9223372036854775807)),
+    ),
+    (b"9223372036854775808", None),
+    (
+        b"9223372036854775808u",
+        Some((IntKind::ULong, 9223372036854775808)),
+    ),
+    (b"18446744073709551616u", None),
+];
+
+#[test]
+fn integer_constants_have_the_first_type_that_holds_them(rt: HostRuntime) {
+    for (text, expected) in CONSTANTS {
+        assert!(rt; integer_value(text, Abi::Lp64) == expected);
+    }
+}
+
+/// Character constants and the values that gcc gives them.
+const CHARACTERS: [(&[u8], i128); 12] = [
+    (b"'a'", 97),
+    (b"'\\n'", 10),
+    (b"'\\''", 39),
+    (b"'\"'", 34),
+    (b"'\\\\'", 92),
+    (b"'\\0'", 0),
+    (b"'\\377'", -1),
+    (b"'\\x7f'", 127),
+    (b"'\\x80'", -128),
+    (b"'\\12'", 10),
+    (b"'\\v'", 11),
+    (b"'\xe9'", -23),
+];
+
+#[test]
+fn characters_have_the_values_of_chars(rt: HostRuntime) -> Result<(), Memory> {
+    for (text, expected) in CHARACTERS {
+        assert!(rt; character_value(rt.alloc(), text)? == Some(expected));
+    }
+    assert!(rt; character_value(rt.alloc(), b"'\\400'")? == None);
+    assert!(rt; character_value(rt.alloc(), b"'\\x100'")? == None);
+    Ok(())
+}
