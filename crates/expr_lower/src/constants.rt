@@ -1,0 +1,59 @@
+use crate::shapes::impossible;
+use cil_base::{BinOp, IntKind, Memory, TypeId, UnOp};
+use cil_nodes::{binary, boxed, cast, constant, unary};
+use cil_tree::Exp;
+use std::alloc::Global;
+
+/// The greatest number of a constant.
+const MOST: i128 = 0xffff_ffff_ffff_ffff;
+
+/// A constant of a kind that is int or wider, from a number that is not negative.
+pub(crate) fn natural(alloc: Global, kind: IntKind, n: i128) -> Result<Box<Exp>, Memory> {
+    if n < 0 || n > MOST {
+        return Err(impossible());
+    }
+    boxed(alloc, constant(kind, n as u64))
+}
+
+/// A constant with a minus.
+fn negated(alloc: Global, kind: IntKind, n: i128) -> Result<Box<Exp>, Memory> {
+    let positive = natural(alloc, kind, n)?;
+    boxed(alloc, unary(UnOp::Neg, positive))
+}
+
+/// The least value of a signed kind, whose positive counterpart the kind lacks.
+fn least(alloc: Global, kind: IntKind) -> Result<Box<Exp>, Memory> {
+    let most = negated(alloc, kind, kind.greatest())?;
+    let one = natural(alloc, kind, 1)?;
+    boxed(alloc, binary(BinOp::Sub, most, one))
+}
+
+/// A value of a kind that is int or wider: constants themselves are not negative (C11 6.4.4.1).
+fn number(alloc: Global, kind: IntKind, n: i128) -> Result<Box<Exp>, Memory> {
+    if n < 0 - MOST || !kind.fits(n) {
+        return Err(impossible());
+    }
+    if n >= 0 {
+        natural(alloc, kind, n)
+    } else if n == kind.least() {
+        least(alloc, kind)
+    } else {
+        negated(alloc, kind, 0 - n)
+    }
+}
+
+/// A value of an integer type: one of a type narrower than int is an int that is cast.
+pub(crate) fn integer(
+    alloc: Global,
+    kind: IntKind,
+    t: TypeId,
+    n: i128,
+) -> Result<Box<Exp>, Memory> {
+    let wide = kind.promoted();
+    let value = number(alloc, wide, n)?;
+    if wide == kind {
+        Ok(value)
+    } else {
+        boxed(alloc, cast(t, value))
+    }
+}

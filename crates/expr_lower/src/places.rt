@@ -1,0 +1,224 @@
+use crate::constants::natural;
+use crate::output::FunctionOut;
+use crate::shapes::{element_of, impossible, is_function, member_of, pointer_to};
+use cil_base::{BinOp, EntityId, IntKind, LocalId, Memory, TypeId};
+use cil_nodes::{add_element, add_field, address, at, binary, boxed, set, start, value, whole};
+use cil_tree::{Exp, Host, Lval, Stmt};
+use std::alloc::Global;
+use typed_tree::{Path, Step, TypedExp, TypedNode};
+
+/// A place that can be named any number of times, and is the same one each time.
+#[derive(Clone, Copy)]
+pub(crate) enum Kept {
+    /// A variable that is printed with the place's type.
+    Global(EntityId),
+    /// A local that is printed with the place's type.
+    Local(LocalId),
+    /// What the pointer in a temporary points to.
+    Behind(LocalId),
+}
+
+/// The place of a local.
+pub(crate) fn variable(alloc: Global, n: LocalId) -> Lval {
+    whole(alloc, Host::Var(n))
+}
+
+/// The value of a place.
+pub(crate) fn read(alloc: Global, place: Lval) -> Result<Box<Exp>, Memory> {
+    boxed(alloc, value(place))
+}
+
+/// A kept place, named once more.
+pub(crate) fn named(alloc: Global, kept: Kept) -> Result<Lval, Memory> {
+    match kept {
+        Kept::Global(n) => Ok(whole(alloc, Host::Global(n))),
+        Kept::Local(n) => Ok(variable(alloc, n)),
+        Kept::Behind(n) => {
+            let pointer = read(alloc, variable(alloc, n))?;
+            Ok(whole(alloc, at(pointer)))
+        }
+    }
+}
+
+/// Stores a value in a place.
+pub(crate) fn store(place: Lval, x: Box<Exp>, out: &mut Vec<Stmt>) -> Result<(), Memory> {
+    out.push(Stmt::Instr(set(place, x)))?;
+    Ok(())
+}
+
+/// Stores a value in a new temporary of a type.
+pub(crate) fn saved(
+    f: &mut FunctionOut,
+    x: Box<Exp>,
+    t: TypeId,
+    out: &mut Vec<Stmt>,
+) -> Result<LocalId, Memory> {
+    let n = f.add_unnamed(t)?;
+    store(variable(f.alloc, n), x, out)?;
+    Ok(n)
+}
+
+/// The variable that a place is, if it is a whole variable.
+fn plain(place: &Lval) -> Option<Kept> {
+    if !place.offsets.is_empty() {
+        return None;
+    }
+    match &place.host {
+        Host::Global(n) => Some(Kept::Global(*n)),
+        Host::Var(n) => Some(Kept::Local(*n)),
+        Host::At(_) => None,
+    }
+}
+
+/// The pointer to what an lvalue begins with: that to what a pointer points to is the pointer.
+fn address_of_host(alloc: Global, host: Host) -> Result<Box<Exp>, Memory> {
+    match host {
+        Host::At(pointer) => Ok(pointer),
+        Host::Global(n) => boxed(alloc, address(whole(alloc, Host::Global(n)))),
+        Host::Var(n) => boxed(alloc, address(variable(alloc, n))),
+    }
+}
+
+/// The pointer to a place or a function (C11 6.5.3.2p3).
+pub(crate) fn address_of(alloc: Global, place: Lval) -> Result<Box<Exp>, Memory> {
+    let Lval { host, offsets } = place;
+    if offsets.is_empty() {
+        address_of_host(alloc, host)
+    } else {
+        boxed(alloc, address(Lval { host, offsets }))
+    }
+}
+
+/// Keeps a place of a type: a whole variable is named again, of any other the address goes into a temporary.
+pub(crate) fn keep(
+    f: &mut FunctionOut,
+    place: Lval,
+    t: TypeId,
+    out: &mut Vec<Stmt>,
+) -> Result<Kept, Memory> {
+    match plain(&place) {
+        Some(kept) => Ok(kept),
+        None => {
+            let pointer = address_of(f.alloc, place)?;
+            let t = pointer_to(&mut f.unit.graph, t)?;
+            Ok(Kept::Behind(saved(f, pointer, t, out)?))
+        }
+    }
+}
+
+/// The place of a left part, kept where a part behind it in the same node has an effect.
+pub(crate) fn left_place(
+    f: &mut FunctionOut,
+    e: &TypedExp,
+    place: Lval,
+    later: &TypedExp,
+    out: &mut Vec<Stmt>,
+) -> Result<Lval, Memory> {
+    if !later.has_effect() {
+        return Ok(place);
+    }
+    let t = f.type_of(e)?;
+    let kept = keep(f, place, t, out)?;
+    named(f.alloc, kept)
+}
+
+/// The value of a left operand, saved where an operand behind it in the same node has an effect.
+pub(crate) fn left_value(
+    f: &mut FunctionOut,
+    e: &TypedExp,
+    x: Box<Exp>,
+    later: &TypedExp,
+    out: &mut Vec<Stmt>,
+) -> Result<Box<Exp>, Memory> {
+    if !later.has_effect() {
+        return Ok(x);
+    }
+    let t = f.type_of(e)?;
+    let n = saved(f, x, t, out)?;
+    read(f.alloc, variable(f.alloc, n))
+}
+
+/// What a pointer of either sort, array or function, decays to (C11 6.3.2.1p3, p4), from the place of what decays.
+pub(crate) fn decayed(f: &FunctionOut, e: &TypedExp, place: Lval) -> Result<Box<Exp>, Memory> {
+    let t = f.type_of(e)?;
+    if is_function(&f.unit.graph, t) {
+        address_of(f.alloc, place)
+    } else {
+        boxed(f.alloc, start(place))
+    }
+}
+
+/// What a sum of a pointer and an integer points to (C11 6.5.2.1p2).
+pub(crate) fn element_at(alloc: Global, left: Box<Exp>, right: Box<Exp>) -> Result<Lval, Memory> {
+    let sum = boxed(alloc, binary(BinOp::Add, left, right))?;
+    Ok(whole(alloc, at(sum)))
+}
+
+/// An element of an array that has a place.
+pub(crate) fn element(place: Lval, index: Box<Exp>) -> Result<Lval, Memory> {
+    let mut place = place;
+    add_element(&mut place, index)?;
+    Ok(place)
+}
+
+/// A member of a struct or union that has a place.
+pub(crate) fn member(place: Lval, i: u32) -> Result<Lval, Memory> {
+    let mut place = place;
+    add_field(&mut place, i)?;
+    Ok(place)
+}
+
+/// A member of the value of a struct or union, which stands somewhere.
+pub(crate) fn member_of_value(alloc: Global, x: Box<Exp>, i: u32) -> Result<Box<Exp>, Memory> {
+    match Box::into_inner(x) {
+        Exp::Lval(place) => {
+            let place = member(place, i)?;
+            read(alloc, place)
+        }
+        Exp::Const(..)
+        | Exp::Un(..)
+        | Exp::Bin(..)
+        | Exp::Cast(..)
+        | Exp::AddrOf(_)
+        | Exp::StartOf(_) => Err(impossible()),
+    }
+}
+
+/// Whether what an expression is stands in an object: it is a place, or a member of what is.
+pub(crate) fn is_part(e: &TypedExp) -> bool {
+    match e.node() {
+        TypedNode::Member(..) => true,
+        _ => e.is_place(),
+    }
+}
+
+/// The part of a local to which a path leads.
+pub(crate) fn part(alloc: Global, n: LocalId, path: &Path) -> Result<Lval, Memory> {
+    let mut place = variable(alloc, n);
+    for step in path.as_slice() {
+        match step {
+            Step::Field(i) => add_field(&mut place, *i)?,
+            Step::Index(i) => {
+                let index = natural(alloc, IntKind::Int, *i as i128)?;
+                add_element(&mut place, index)?;
+            }
+        }
+    }
+    Ok(place)
+}
+
+/// The type of the part of a local to which a path leads.
+pub(crate) fn part_type(f: &FunctionOut, n: LocalId, path: &Path) -> Result<TypeId, Memory> {
+    let mut t = f.local_type(n)?;
+    for step in path.as_slice() {
+        let next = match step {
+            Step::Field(i) => member_of(&f.unit.graph, t, *i),
+            Step::Index(_) => element_of(&f.unit.graph, t),
+        };
+        match next {
+            Some(next) => t = next,
+            None => return Err(impossible()),
+        }
+    }
+    Ok(t)
+}

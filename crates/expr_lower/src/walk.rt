@@ -1,0 +1,447 @@
+use crate::calls::{
+    argument, before_effects, by_name, by_pointer, call_for_effect, call_for_value, called_by_name,
+};
+use crate::output::FunctionOut;
+use crate::places::{
+    Kept, address_of, decayed, element, element_at, is_part, keep, left_place, left_value, member,
+    member_of_value, named, part, part_type, read, saved, store, variable,
+};
+use crate::results::{
+    Computing, choose, compute, computes, constant_of, decide, old_value, short_circuit,
+    short_circuit_effects, step, step_op, stepped, value_at, value_of,
+};
+use crate::shapes::{element_of, impossible, is_void};
+use cil_base::{BinOp, Bytes, IntKind, LocalId, Memory, TypeId};
+use cil_nodes::{at, binary, boxed, cast, constant, push_argument, unary, whole, zero};
+use cil_tree::{Callee, Exp, Lval, Stmt};
+use typed_tree::{InitStep, Path, StepForm, TypedExp, TypedInit, TypedNode};
+
+/// An expression that was lowered: what it does, and then its value, none where it has type void.
+#[derive(Drop)]
+pub struct Lowered {
+    pub instrs: Vec<Stmt>,
+    pub value: Option<Box<Exp>>,
+}
+
+/// Lowers an expression.
+pub fn lower(e: &TypedExp, f: &mut FunctionOut) -> Result<Lowered, Memory> {
+    let mut instrs = Vec::new(f.alloc);
+    let t = f.type_of(e)?;
+    if is_void(&f.unit.graph, t) {
+        effect(f, e, &mut instrs)?;
+        return Ok(Lowered {
+            instrs,
+            value: None,
+        });
+    }
+    let x = value(f, e, &mut instrs)?;
+    Ok(Lowered {
+        instrs,
+        value: Some(x),
+    })
+}
+
+/// The value of an expression, behind what is put at the end of the code. It stays the same until the next effect.
+#[cycle(lower)]
+pub fn value(f: &mut FunctionOut, e: &TypedExp, out: &mut Vec<Stmt>) -> Result<Box<Exp>, Memory> {
+    let t = f.type_of(e)?;
+    match e.node() {
+        TypedNode::Integer(n) => constant_of(f, t, *n),
+        TypedNode::Load(p) => {
+            let place = place(f, p, out)?;
+            read(f.alloc, place)
+        }
+        TypedNode::Decay(p) => {
+            let place = place(f, p, out)?;
+            decayed(f, p, place)
+        }
+        TypedNode::Address(p) => {
+            let place = place(f, p, out)?;
+            address_of(f.alloc, place)
+        }
+        TypedNode::Member(of, _, i) => {
+            let x = value(f, of, out)?;
+            member_of_value(f.alloc, x, *i)
+        }
+        TypedNode::Convert(a) => {
+            let x = value(f, a, out)?;
+            boxed(f.alloc, cast(t, x))
+        }
+        TypedNode::Unary(op, a) => {
+            let x = value(f, a, out)?;
+            boxed(f.alloc, unary(*op, x))
+        }
+        TypedNode::Binary(op, a, b) => {
+            let x = value(f, a, out)?;
+            let x = left_value(f, a, x, b, out)?;
+            let y = value(f, b, out)?;
+            boxed(f.alloc, binary(*op, x, y))
+        }
+        TypedNode::Logical(..)
+        | TypedNode::Conditional(..)
+        | TypedNode::Comma(..)
+        | TypedNode::Assign(..)
+        | TypedNode::Compute(..)
+        | TypedNode::Step(..)
+        | TypedNode::Call(..) => value_of_act(f, e, out),
+        TypedNode::Local(_)
+        | TypedNode::Literal(..)
+        | TypedNode::Entity(_)
+        | TypedNode::Indirect(_)
+        | TypedNode::Subscript(..) => Err(impossible()),
+    }
+}
+
+/// The value of an expression that is an effect itself, or has no value.
+#[cycle(lower)]
+fn value_of_act(
+    f: &mut FunctionOut,
+    e: &TypedExp,
+    out: &mut Vec<Stmt>,
+) -> Result<Box<Exp>, Memory> {
+    let t = f.type_of(e)?;
+    match e.node() {
+        TypedNode::Logical(op, a, b) => {
+            let x = value(f, a, out)?;
+            let n = f.add_unnamed(t)?;
+            let second = truth(f, b, n)?;
+            short_circuit(f.alloc, n, *op, x, second, out)?;
+            value_of(f, n)
+        }
+        TypedNode::Conditional(test, branches) => {
+            let x = value(f, test, out)?;
+            let n = f.add_unnamed(t)?;
+            let holds = branch(f, &branches.holds, n)?;
+            let fails = branch(f, &branches.fails, n)?;
+            choose(x, holds, fails, out)?;
+            value_of(f, n)
+        }
+        TypedNode::Comma(a, b) => {
+            effect(f, a, out)?;
+            value(f, b, out)
+        }
+        TypedNode::Assign(p, v) => {
+            let kept = kept_place(f, p, out)?;
+            assigned(f, v, kept, out)?;
+            value_at(f, kept)
+        }
+        TypedNode::Compute(op, at, p, v) => {
+            let kept = kept_place(f, p, out)?;
+            let c = computes(f, *op, *at, p)?;
+            computed(f, v, c, kept, out)?;
+            value_at(f, kept)
+        }
+        TypedNode::Step(form, at, p) => {
+            let kept = kept_place(f, p, out)?;
+            let c = computes(f, step_op(*form), *at, p)?;
+            stepped(f, *form, c, kept, out)
+        }
+        TypedNode::Call(callee, arguments) => {
+            let callee = called(f, callee, arguments, out)?;
+            let arguments = values(f, arguments, out)?;
+            let n = call_for_value(f, t, callee, arguments, out)?;
+            value_of(f, n)
+        }
+        TypedNode::Integer(_)
+        | TypedNode::Load(_)
+        | TypedNode::Decay(_)
+        | TypedNode::Address(_)
+        | TypedNode::Convert(_)
+        | TypedNode::Unary(..)
+        | TypedNode::Binary(..)
+        | TypedNode::Member(..)
+        | TypedNode::Local(_)
+        | TypedNode::Literal(..)
+        | TypedNode::Entity(_)
+        | TypedNode::Indirect(_)
+        | TypedNode::Subscript(..) => Err(impossible()),
+    }
+}
+
+/// The place of an effect, kept.
+#[cycle(lower)]
+fn kept_place(f: &mut FunctionOut, p: &TypedExp, out: &mut Vec<Stmt>) -> Result<Kept, Memory> {
+    let it = place(f, p, out)?;
+    let t = f.type_of(p)?;
+    keep(f, it, t, out)
+}
+
+/// Computes the new value of a kept place from its old one and the right operand (C11 6.5.16.2p3).
+#[cycle(lower)]
+fn computed(
+    f: &mut FunctionOut,
+    v: &TypedExp,
+    c: Computing,
+    kept: Kept,
+    out: &mut Vec<Stmt>,
+) -> Result<(), Memory> {
+    let old = old_value(f, c, kept, v, out)?;
+    let y = value(f, v, out)?;
+    compute(f, c, kept, old, y, out)
+}
+
+/// Stores a value in a kept place.
+#[cycle(lower)]
+fn assigned(
+    f: &mut FunctionOut,
+    v: &TypedExp,
+    kept: Kept,
+    out: &mut Vec<Stmt>,
+) -> Result<(), Memory> {
+    let x = value(f, v, out)?;
+    let place = named(f.alloc, kept)?;
+    store(place, x, out)
+}
+
+/// What the second operand of `&&` or `||` does, and stores its truth in a local.
+#[cycle(lower)]
+fn truth(f: &mut FunctionOut, e: &TypedExp, n: LocalId) -> Result<Vec<Stmt>, Memory> {
+    let mut out = Vec::new(f.alloc);
+    let x = value(f, e, &mut out)?;
+    decide(f.alloc, n, x, &mut out)?;
+    Ok(out)
+}
+
+/// What an operand of a conditional does, and stores its value in a local.
+#[cycle(lower)]
+fn branch(f: &mut FunctionOut, e: &TypedExp, n: LocalId) -> Result<Vec<Stmt>, Memory> {
+    let mut out = Vec::new(f.alloc);
+    let x = value(f, e, &mut out)?;
+    store(variable(f.alloc, n), x, &mut out)?;
+    Ok(out)
+}
+
+/// What an expression does that is evaluated in one case alone, for its effects.
+#[cycle(lower)]
+fn effects(f: &mut FunctionOut, e: &TypedExp) -> Result<Vec<Stmt>, Memory> {
+    let mut out = Vec::new(f.alloc);
+    effect(f, e, &mut out)?;
+    Ok(out)
+}
+
+/// What is called, by its name or through a pointer.
+#[cycle(lower)]
+fn called(
+    f: &mut FunctionOut,
+    callee: &TypedExp,
+    arguments: &[TypedExp],
+    out: &mut Vec<Stmt>,
+) -> Result<Callee, Memory> {
+    match called_by_name(f, callee)? {
+        Some(n) => Ok(by_name(n)),
+        None => {
+            let pointer = value(f, callee, out)?;
+            by_pointer(f, callee, pointer, arguments, out)
+        }
+    }
+}
+
+/// The values of arguments, from the left, each saved where one behind it has an effect.
+#[cycle(lower)]
+fn values(
+    f: &mut FunctionOut,
+    arguments: &[TypedExp],
+    out: &mut Vec<Stmt>,
+) -> Result<Vec<Exp>, Memory> {
+    let count = before_effects(arguments);
+    let mut done = Vec::new(f.alloc);
+    for i in 0..arguments.len() {
+        let x = value(f, &arguments[i], out)?;
+        let x = argument(f, &arguments[i], x, i < count, out)?;
+        push_argument(&mut done, x)?;
+    }
+    Ok(done)
+}
+
+/// The place of an lvalue or a function, behind what is put at the end of the code. A member of a value stands in an object of its own,
+/// which the value is put into.
+#[cycle(lower)]
+fn place(f: &mut FunctionOut, e: &TypedExp, out: &mut Vec<Stmt>) -> Result<Lval, Memory> {
+    let t = f.type_of(e)?;
+    match e.node() {
+        TypedNode::Local(n) => f.local_place(*n, t),
+        TypedNode::Entity(n) => f.global_place(*n, t),
+        TypedNode::Literal(n, init) => {
+            let n = f.literal(*n)?;
+            initialise(f, init, n, out)?;
+            Ok(variable(f.alloc, n))
+        }
+        TypedNode::Indirect(a) => {
+            let pointer = value(f, a, out)?;
+            Ok(whole(f.alloc, at(pointer)))
+        }
+        TypedNode::Subscript(a, b) => match a.node() {
+            TypedNode::Decay(array) => {
+                let p = place(f, array, out)?;
+                let p = left_place(f, array, p, b, out)?;
+                let index = value(f, b, out)?;
+                element(p, index)
+            }
+            _ => {
+                let x = value(f, a, out)?;
+                let x = left_value(f, a, x, b, out)?;
+                let y = value(f, b, out)?;
+                element_at(f.alloc, x, y)
+            }
+        },
+        TypedNode::Member(of, _, i) => {
+            if is_part(of) {
+                let p = place(f, of, out)?;
+                return member(p, *i);
+            }
+            let x = value(f, of, out)?;
+            let t = f.type_of(of)?;
+            let n = saved(f, x, t, out)?;
+            member(variable(f.alloc, n), *i)
+        }
+        TypedNode::Integer(_)
+        | TypedNode::Load(_)
+        | TypedNode::Decay(_)
+        | TypedNode::Address(_)
+        | TypedNode::Convert(_)
+        | TypedNode::Unary(..)
+        | TypedNode::Binary(..)
+        | TypedNode::Logical(..)
+        | TypedNode::Conditional(..)
+        | TypedNode::Comma(..)
+        | TypedNode::Assign(..)
+        | TypedNode::Compute(..)
+        | TypedNode::Step(..)
+        | TypedNode::Call(..) => Err(impossible()),
+    }
+}
+
+/// Evaluates an expression for its effects (C11 6.8.3p2).
+#[cycle(lower)]
+pub fn effect(f: &mut FunctionOut, e: &TypedExp, out: &mut Vec<Stmt>) -> Result<(), Memory> {
+    if !e.has_effect() {
+        return Ok(());
+    }
+    match e.node() {
+        TypedNode::Integer(_) | TypedNode::Local(_) | TypedNode::Entity(_) => Ok(()),
+        TypedNode::Literal(n, init) => {
+            let n = f.literal(*n)?;
+            initialise(f, init, n, out)
+        }
+        TypedNode::Load(a)
+        | TypedNode::Decay(a)
+        | TypedNode::Address(a)
+        | TypedNode::Indirect(a)
+        | TypedNode::Member(a, _, _)
+        | TypedNode::Convert(a)
+        | TypedNode::Unary(_, a) => effect(f, a, out),
+        TypedNode::Subscript(a, b) | TypedNode::Binary(_, a, b) | TypedNode::Comma(a, b) => {
+            effect(f, a, out)?;
+            effect(f, b, out)
+        }
+        TypedNode::Logical(..)
+        | TypedNode::Conditional(..)
+        | TypedNode::Assign(..)
+        | TypedNode::Compute(..)
+        | TypedNode::Step(..)
+        | TypedNode::Call(..) => act(f, e, out),
+    }
+}
+
+/// Does what an expression does that is an effect itself; its value is dropped.
+#[cycle(lower)]
+fn act(f: &mut FunctionOut, e: &TypedExp, out: &mut Vec<Stmt>) -> Result<(), Memory> {
+    match e.node() {
+        TypedNode::Logical(op, a, b) => {
+            let x = value(f, a, out)?;
+            let second = effects(f, b)?;
+            short_circuit_effects(f.alloc, *op, x, second, out)
+        }
+        TypedNode::Conditional(test, branches) => {
+            let x = value(f, test, out)?;
+            let holds = effects(f, &branches.holds)?;
+            let fails = effects(f, &branches.fails)?;
+            choose(x, holds, fails, out)
+        }
+        TypedNode::Assign(p, v) => {
+            let place = place(f, p, out)?;
+            let place = left_place(f, p, place, v, out)?;
+            let x = value(f, v, out)?;
+            store(place, x, out)
+        }
+        TypedNode::Compute(op, at, p, v) => {
+            let kept = kept_place(f, p, out)?;
+            let c = computes(f, *op, *at, p)?;
+            computed(f, v, c, kept, out)
+        }
+        TypedNode::Step(form, at, p) => {
+            let kept = kept_place(f, p, out)?;
+            let c = computes(f, step_op(*form), *at, p)?;
+            step(f, c, kept, out)
+        }
+        TypedNode::Call(callee, arguments) => {
+            let callee = called(f, callee, arguments, out)?;
+            let arguments = values(f, arguments, out)?;
+            call_for_effect(callee, arguments, out)
+        }
+        TypedNode::Integer(_)
+        | TypedNode::Load(_)
+        | TypedNode::Decay(_)
+        | TypedNode::Address(_)
+        | TypedNode::Convert(_)
+        | TypedNode::Unary(..)
+        | TypedNode::Binary(..)
+        | TypedNode::Member(..)
+        | TypedNode::Comma(..)
+        | TypedNode::Local(_)
+        | TypedNode::Literal(..)
+        | TypedNode::Entity(_)
+        | TypedNode::Indirect(_)
+        | TypedNode::Subscript(..) => Err(impossible()),
+    }
+}
+
+/// Stores the bytes of a string in the first elements of an array.
+fn store_bytes(
+    f: &FunctionOut,
+    n: LocalId,
+    path: &Path,
+    bytes: &Bytes,
+    out: &mut Vec<Stmt>,
+) -> Result<(), Memory> {
+    let array = part_type(f, n, path)?;
+    let Some(t) = element_of(&f.unit.graph, array) else {
+        return Err(impossible());
+    };
+    let bytes = bytes.as_slice();
+    for i in 0..bytes.len() {
+        let index = boxed(f.alloc, constant(IntKind::Int, i as u64))?;
+        let place = part(f.alloc, n, path)?;
+        let place = element(place, index)?;
+        let x = boxed(f.alloc, constant(IntKind::Int, bytes[i] as u64))?;
+        let x = boxed(f.alloc, cast(t, x))?;
+        store(place, x, out)?;
+    }
+    Ok(())
+}
+
+/// Initialises a local (C11 6.7.9), in the order of the text.
+#[cycle(lower)]
+pub fn initialise(
+    f: &mut FunctionOut,
+    init: &TypedInit,
+    n: LocalId,
+    out: &mut Vec<Stmt>,
+) -> Result<(), Memory> {
+    for step in &init.steps {
+        match step {
+            InitStep::Zero(path) => {
+                let place = part(f.alloc, n, path)?;
+                out.push(Stmt::Instr(zero(place)))?;
+            }
+            InitStep::Scalar(path, e) | InitStep::Aggregate(path, e) => {
+                let x = value(f, e, out)?;
+                let place = part(f.alloc, n, path)?;
+                store(place, x, out)?;
+            }
+            InitStep::Bytes(path, bytes) => store_bytes(f, n, path, bytes, out)?,
+            InitStep::Constant(..) => return Err(impossible()),
+        }
+    }
+    Ok(())
+}

@@ -1,0 +1,66 @@
+ghost use Rattle.std.specs.Prelude.{◌≡◌, false, [], OnOk};
+ghost use Rattle.type_graph.specs.Shapes.{shape};
+ghost use Rattle.init_expand.specs.Images.{is_zero, HasNoZero};
+ghost use Rattle.init_expand.specs.Spots.{RisesTo};
+
+use crate::spots::scalar_at;
+use cil_base::{Constant, Memory, TypeId};
+use cil_tree::ImageItem;
+use std::alloc::Global;
+use unit_types::Types;
+
+/// What a branch answers that never comes.
+pub(crate) fn impossible() -> Memory {
+    Memory
+}
+
+/// Whether a value is zero, or a null pointer.
+pub(crate) fn is_zero(value: Constant) -> bool
+    ensures { result ≡ is_zero value }
+{
+    match value {
+        Constant::Int(_, n) => n == 0,
+        Constant::Address(..) | Constant::Function(_) => false,
+    }
+}
+
+/// An image that grows: scalars that are not zero, at rising offsets, and the least offset at which the next one may stand.
+#[derive(Drop)]
+pub(crate) struct Growing {
+    pub(crate) items: Vec<ImageItem>,
+    least: u64,
+}
+
+impl Growing {
+    /// No scalars.
+    pub(crate) fn new(alloc: Global) -> Self
+        ensures items { result.items.items ≡ [] }
+        ensures least { result.least ≡ 0 }
+    {
+        Growing {
+            items: Vec::new(alloc),
+            least: 0,
+        }
+    }
+
+    /// Adds a scalar of an object that is not zero.
+    #[tactic(auto, using(crate::proofs::ImageLaws::none_pushed, crate::proofs::ImageLaws::rises_with))]
+    pub(crate) fn add(&mut self, types: &Types, ty: TypeId, item: ImageItem) -> Result<(), Memory>
+        requires { is_zero item.value ≡ false }
+        ensures none { OnOk result (HasNoZero self.old.items.items → HasNoZero self.new.items.items) }
+        ensures rises { OnOk result (RisesTo types.now (shape types.now.nodes ty.0) 0 self.old.items.items self.old.least → RisesTo types.now (shape types.now.nodes ty.0) 0 self.new.items.items self.new.least) }
+    {
+        let Some(at) = scalar_at(types, ty, &item.path) else {
+            return Err(impossible());
+        };
+        if at.offset < self.least {
+            return Err(impossible());
+        }
+        let Some(least) = at.offset.checked_add(1) else {
+            return Err(impossible());
+        };
+        self.items.push(item)?;
+        self.least = least;
+        Ok(())
+    }
+}

@@ -1,0 +1,262 @@
+ghost use Rattle.std.specs.Prelude.{◌≡◌, IfOk, OnOk};
+ghost use Rattle.type_graph.specs.Shapes.{shape};
+ghost use Rattle.init_expand.specs.Images.{is_zero, HasNoZero, IsRising, IsImage};
+ghost use Rattle.init_expand.specs.Spots.{RisesTo};
+
+use crate::growing::{Growing, impossible, is_zero};
+use crate::spots::{element, end, kind_of, part_at, plain_step};
+use crate::sweep::{Event, Given, Placed, What, swept};
+use cil_base::{Bytes, Constant, EntityId, Memory, TypeId, wrap};
+use cil_tree::{GlobalDef, ImageItem, Step};
+use std::alloc::Global;
+use typed_tree::{InitStep, Path, TypedInit};
+use unit_types::Types;
+
+/// The object that is initialised: the unit's types, and its type.
+#[derive(Clone, Copy)]
+struct Object<'a> {
+    types: &'a Types,
+    ty: TypeId,
+}
+
+/// The steps of an initialiser, and the places that objects and functions have among the program's globals.
+#[derive(Clone, Copy)]
+struct Steps<'a> {
+    all: &'a [InitStep],
+    numbers: &'a [Option<EntityId>],
+}
+
+/// Adds what a step makes zero.
+fn add_cleared(
+    o: Object,
+    number: usize,
+    step: &InitStep,
+    events: &mut Vec<Event>,
+) -> Result<(), Memory> {
+    let InitStep::Zero(path) = step else {
+        return Ok(());
+    };
+    let Some(at) = part_at(o.types, o.ty, path) else {
+        return Err(impossible());
+    };
+    let Some(to) = end(o.types, at) else {
+        return Err(impossible());
+    };
+    events.push(Event {
+        offset: at.offset,
+        what: What::Cleared { step: number, to },
+    })?;
+    Ok(())
+}
+
+/// Adds a scalar that a step gives a value.
+fn add_scalar(
+    o: Object,
+    number: usize,
+    path: &Path,
+    value: Constant,
+    events: &mut Vec<Event>,
+) -> Result<(), Memory> {
+    let Some(at) = part_at(o.types, o.ty, path) else {
+        return Err(impossible());
+    };
+    events.push(Event {
+        offset: at.offset,
+        what: What::Given(Given {
+            step: number,
+            element: None,
+            value,
+        }),
+    })?;
+    Ok(())
+}
+
+/// Adds the characters that a step gives the elements of an array.
+fn add_bytes(
+    o: Object,
+    number: usize,
+    path: &Path,
+    bytes: &Bytes,
+    events: &mut Vec<Event>,
+) -> Result<(), Memory> {
+    let Some(array) = part_at(o.types, o.ty, path) else {
+        return Err(impossible());
+    };
+    let bytes = bytes.as_slice();
+    for i in 0..bytes.len() {
+        let Some(at) = element(o.types, array, i as u64) else {
+            return Err(impossible());
+        };
+        let Some(kind) = kind_of(o.types, at.ty) else {
+            return Err(impossible());
+        };
+        events.push(Event {
+            offset: at.offset,
+            what: What::Given(Given {
+                step: number,
+                element: Some(i as u64),
+                value: Constant::Int(kind, wrap(kind, bytes[i] as i128)),
+            }),
+        })?;
+    }
+    Ok(())
+}
+
+/// Adds the scalars that a step gives values. In an object with static storage duration these are constants (C11 6.7.9p4).
+fn add_given(
+    o: Object,
+    number: usize,
+    step: &InitStep,
+    events: &mut Vec<Event>,
+) -> Result<(), Memory> {
+    match step {
+        InitStep::Zero(_) => Ok(()),
+        InitStep::Constant(path, value) => add_scalar(o, number, path, *value, events),
+        InitStep::Bytes(path, bytes) => add_bytes(o, number, path, bytes, events),
+        InitStep::Scalar(..) | InitStep::Aggregate(..) => Err(impossible()),
+    }
+}
+
+/// Adds all that steps make zero.
+fn all_cleared(o: Object, steps: &[InitStep], events: &mut Vec<Event>) -> Result<(), Memory> {
+    for i in 0..steps.len() {
+        add_cleared(o, i, &steps[i], events)?;
+    }
+    Ok(())
+}
+
+/// Adds all scalars that steps give values.
+fn all_given(o: Object, steps: &[InitStep], events: &mut Vec<Event>) -> Result<(), Memory> {
+    for i in 0..steps.len() {
+        add_given(o, i, &steps[i], events)?;
+    }
+    Ok(())
+}
+
+/// The place among a program's globals of an object or function of the typed unit.
+fn number_in(numbers: &[Option<EntityId>], n: EntityId) -> Result<EntityId, Memory> {
+    match numbers.get(n.0 as usize) {
+        Some(Some(number)) => Ok(*number),
+        Some(None) | None => Err(impossible()),
+    }
+}
+
+/// A constant that names the program's globals.
+fn numbered(numbers: &[Option<EntityId>], value: Constant) -> Result<Constant, Memory>
+    ensures { IfOk result (λ c. is_zero c ≡ is_zero value) }
+{
+    match value {
+        Constant::Int(..) => Ok(value),
+        Constant::Address(n, offset) => Ok(Constant::Address(number_in(numbers, n)?, offset)),
+        Constant::Function(n) => Ok(Constant::Function(number_in(numbers, n)?)),
+    }
+}
+
+/// The steps of a path.
+fn path_of(alloc: Global, path: &Path) -> Result<Vec<Step>, Memory> {
+    let mut steps = Vec::new(alloc);
+    for step in path.as_slice() {
+        steps.push(plain_step(*step))?;
+    }
+    Ok(steps)
+}
+
+/// The path of the part that a step initialises.
+fn part(steps: &[InitStep], number: usize) -> Result<&Path, Memory> {
+    match steps.get(number) {
+        Some(
+            InitStep::Zero(path)
+            | InitStep::Scalar(path, _)
+            | InitStep::Constant(path, _)
+            | InitStep::Aggregate(path, _)
+            | InitStep::Bytes(path, _),
+        ) => Ok(path),
+        None => Err(impossible()),
+    }
+}
+
+/// The path of a scalar that is given a value.
+fn scalar_path(alloc: Global, steps: &[InitStep], given: Given) -> Result<Vec<Step>, Memory> {
+    let part = part(steps, given.step)?;
+    let mut path = path_of(alloc, part)?;
+    if let Some(i) = given.element {
+        path.push(Step::Index(i))?;
+    }
+    Ok(path)
+}
+
+/// A scalar of an image, from what a step gives it.
+fn item(alloc: Global, s: Steps, given: Given) -> Result<ImageItem, Memory>
+    ensures { IfOk result (λ x. is_zero x.value ≡ is_zero given.value) }
+{
+    let value = numbered(s.numbers, given.value)?;
+    let path = scalar_path(alloc, s.all, given)?;
+    Ok(ImageItem { path, value })
+}
+
+/// Adds the scalar that a step gives a value to an image, unless it is zero.
+fn add_item(
+    types: &Types,
+    ty: TypeId,
+    s: Steps,
+    given: Given,
+    image: &mut Growing,
+) -> Result<(), Memory>
+    ensures none { OnOk result (HasNoZero image.old.items.items → HasNoZero image.new.items.items) }
+    ensures rises { OnOk result (RisesTo types.now (shape types.now.nodes ty.0) 0 image.old.items.items image.old.least → RisesTo types.now (shape types.now.nodes ty.0) 0 image.new.items.items image.new.least) }
+{
+    if is_zero(given.value) {
+        return Ok(());
+    }
+    let alloc = *image.items.allocator();
+    let item = item(alloc, s, given)?;
+    image.add(types, ty, item)
+}
+
+/// The scalars of an image: the values that stay and are not zero.
+#[tactic(auto, using(crate::proofs::ImageLaws::rising_from))]
+fn items(
+    alloc: Global,
+    types: &Types,
+    ty: TypeId,
+    s: Steps,
+    kept: &[Placed],
+) -> Result<Vec<ImageItem>, Memory>
+    ensures none { IfOk result (λ found. HasNoZero found.items) }
+    ensures rising { IfOk result (λ found. IsRising types.now (shape types.now.nodes ty.0) found.items) }
+{
+    let mut image = Growing::new(alloc);
+    for placed in kept {
+        add_item(types, ty, s, placed.given, &mut image)?;
+    }
+    Ok(image.items)
+}
+
+/// The definition of an object of a type with an initialiser: its scalars that are not zero, by rising offsets.
+///
+/// The table gives each object or function that the constants name its place among the program's globals.
+pub fn image(
+    alloc: Global,
+    t: &TypedInit,
+    types: &Types,
+    ty: TypeId,
+    numbers: &[Option<EntityId>],
+) -> Result<GlobalDef, Memory>
+    ensures { IfOk result (IsImage types.now (shape types.now.nodes ty.0)) }
+{
+    let mut events = Vec::new(alloc);
+    let object = Object { types, ty };
+    all_cleared(object, &t.steps, &mut events)?;
+    all_given(object, &t.steps, &mut events)?;
+    let kept = swept(alloc, events)?;
+    let all = Steps {
+        all: &t.steps,
+        numbers,
+    };
+    let items = items(alloc, types, ty, all, &kept)?;
+    if items.is_empty() {
+        Ok(GlobalDef::Zero)
+    } else {
+        Ok(GlobalDef::Image(items))
+    }
+}

@@ -1,0 +1,16 @@
+//! The initialisers of objects with static storage duration become images: the scalars that are not zero, each with the path to it.
+//!
+//! Its public contract answers for every initialiser: it ends, and want of memory is its one other answer.
+//!
+//! The rules are those of C11 6.7.9.
+#![tactic(auto)]
+
+mod growing;
+mod images;
+mod spots;
+mod sweep;
+
+pub use images::image;
+
+#[cfg(test)]
+mod tests;

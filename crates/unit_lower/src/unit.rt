@@ -1,0 +1,36 @@
+use crate::globals::{globals, plain_ordinary, printed_types, sites};
+use crate::order::{numbered, ordered};
+use crate::types::plain_types;
+use cil_base::{Bases, Memory};
+use cil_tree::CilUnit;
+use expr_lower::{FunctionOut, UnitOut};
+use link_names::Fronted;
+use std::alloc::Global;
+use typed_tree::TypedUnit;
+
+/// A typed unit as a CIL program, whose names are those that are asked for.
+pub fn lower_unit(alloc: Global, unit: &TypedUnit, bases: Bases) -> Result<Fronted, Memory> {
+    let plain = plain_types(alloc, unit.types.graph())?;
+    let printed = printed_types(alloc, &plain.types, &unit.entities)?;
+    let order = ordered(alloc, &unit.entities)?;
+    let numbers = numbered(alloc, unit.entities.len(), &order)?;
+    let ordinary = plain_ordinary(alloc, &numbers, &unit.ordinary)?;
+    let sites = sites(alloc, &unit.entities, &order)?;
+    let shared = UnitOut {
+        graph: plain.graph,
+        types: plain.types,
+        numbers,
+        printed,
+        bases,
+    };
+    let mut f = FunctionOut::new(alloc, shared);
+    let globals = globals(&mut f, &unit.types, &unit.entities, &order)?;
+    Ok(Fronted {
+        cil: CilUnit {
+            graph: f.into_graph(),
+            globals,
+        },
+        sites,
+        ordinary,
+    })
+}
