@@ -1,0 +1,195 @@
+use crate::arena::Arena;
+use crate::numbers::{entity_number, impossible, type_in};
+use cil_base::{EntityId, Memory, NameId, TypeId};
+use cil_tree::{CilUnit, GlobalDecl, GlobalDef};
+use indexmap::IndexMap;
+use link_names::Fronted;
+use std::alloc::Global;
+use type_graph::{Node, QualType, Quals, TypeGraph};
+
+/// How a unit's object or function is used in the program.
+#[derive(Clone, Copy)]
+pub(crate) struct Use {
+    /// What it is there.
+    pub(crate) entity: EntityId,
+    /// The pointer to the type that it has in the unit, where that is not the one with which it is printed.
+    pub(crate) through: Option<TypeId>,
+}
+
+/// The globals of a program while they are numbered: external ones by their names.
+#[derive(Drop)]
+pub(crate) struct Globals {
+    external: IndexMap<NameId, EntityId>,
+    pub(crate) all: Vec<GlobalDecl>,
+    /// For each unit what its globals are in the program.
+    pub(crate) numbers: Vec<Vec<EntityId>>,
+}
+
+/// A type of the program.
+fn node(graph: &TypeGraph, t: TypeId) -> Result<&Node, Memory> {
+    if t.0 >= graph.len() {
+        return Err(impossible());
+    }
+    Ok(graph.node(t))
+}
+
+/// Whether a declaration gives a bound or a prototype that the type so far lacks (C11 6.2.7p3).
+fn says_more(graph: &TypeGraph, before: TypeId, next: TypeId) -> Result<bool, Memory> {
+    match (node(graph, before)?, node(graph, next)?) {
+        (Node::Array(_, None), Node::Array(_, Some(_))) => Ok(true),
+        (Node::Func { proto: false, .. }, Node::Func { proto: true, .. }) => Ok(true),
+        _ => Ok(false),
+    }
+}
+
+/// Gives an external global the bound or the prototype of another declaration.
+fn add_type(graph: &TypeGraph, global: &mut GlobalDecl, next: TypeId) -> Result<(), Memory> {
+    if says_more(graph, global.ty, next)? {
+        global.ty = next;
+    }
+    Ok(())
+}
+
+impl Globals {
+    /// Adds a global that is not there yet.
+    fn append(&mut self, global: &GlobalDecl, ty: TypeId) -> Result<EntityId, Memory> {
+        let number = entity_number(self.all.len())?;
+        self.all.push(GlobalDecl {
+            name: global.name,
+            ty,
+            internal: global.internal,
+            def: GlobalDef::Declared,
+        })?;
+        Ok(number)
+    }
+
+    /// Adds an external global at its first unit.
+    fn append_external(&mut self, global: &GlobalDecl, ty: TypeId) -> Result<EntityId, Memory> {
+        let number = self.append(global, ty)?;
+        self.external.insert(global.name, number)?;
+        Ok(number)
+    }
+
+    /// Adds what another unit says of an external global.
+    fn add_external(
+        &mut self,
+        graph: &TypeGraph,
+        global: &GlobalDecl,
+        ty: TypeId,
+    ) -> Result<EntityId, Memory> {
+        let known = match self.external.get(&global.name) {
+            Some(known) => *known,
+            None => return self.append_external(global, ty),
+        };
+        if known.0 as usize >= self.all.len() {
+            return Err(impossible());
+        }
+        add_type(graph, &mut self.all[known.0 as usize], ty)?;
+        Ok(known)
+    }
+
+    /// The number of a unit's global in the program.
+    fn add(
+        &mut self,
+        graph: &TypeGraph,
+        global: &GlobalDecl,
+        ty: TypeId,
+    ) -> Result<EntityId, Memory> {
+        if global.internal {
+            return self.append(global, ty);
+        }
+        self.add_external(graph, global, ty)
+    }
+
+    /// Adds the globals of a unit, whose types have numbers in the program.
+    fn add_unit(
+        &mut self,
+        alloc: Global,
+        graph: &TypeGraph,
+        unit: &CilUnit,
+        types: &[TypeId],
+    ) -> Result<(), Memory> {
+        let mut numbers = Vec::new(alloc);
+        for global in &unit.globals {
+            let ty = type_in(types, global.ty)?;
+            numbers.push(self.add(graph, global, ty)?)?;
+        }
+        self.numbers.push(numbers)?;
+        Ok(())
+    }
+}
+
+/// The globals of the program that units become, without their definitions: by unit, and an external one at its first unit, with the
+/// type of its first declaration and the bound or the prototype that any unit gives it.
+pub(crate) fn all_globals(
+    alloc: Global,
+    units: &[Fronted],
+    arena: &Arena,
+) -> Result<Globals, Memory> {
+    let mut globals = Globals {
+        external: IndexMap::new(alloc),
+        all: Vec::new(alloc),
+        numbers: Vec::new(alloc),
+    };
+    for u in 0..units.len() {
+        let Some(types) = arena.types.get(u) else {
+            return Err(impossible());
+        };
+        globals.add_unit(alloc, &arena.graph, &units[u].cil, types)?;
+    }
+    Ok(globals)
+}
+
+/// A pointer to a type.
+fn pointer_to(graph: &mut TypeGraph, of: TypeId) -> Result<TypeId, Memory> {
+    if of.0 >= graph.len() {
+        return Err(impossible());
+    }
+    let quals = Quals {
+        constant: false,
+        restricted: false,
+    };
+    graph.add_node(Node::Ptr(QualType { quals, of }))
+}
+
+/// How a unit's global is used, by its type there and its number in the program.
+fn use_of(
+    graph: &mut TypeGraph,
+    all: &[GlobalDecl],
+    ty: TypeId,
+    entity: EntityId,
+) -> Result<Use, Memory> {
+    let Some(global) = all.get(entity.0 as usize) else {
+        return Err(impossible());
+    };
+    if global.ty == ty {
+        return Ok(Use {
+            entity,
+            through: None,
+        });
+    }
+    Ok(Use {
+        entity,
+        through: Some(pointer_to(graph, ty)?),
+    })
+}
+
+/// How the globals of a unit are used.
+pub(crate) fn uses_of(
+    alloc: Global,
+    graph: &mut TypeGraph,
+    all: &[GlobalDecl],
+    unit: &CilUnit,
+    types: &[TypeId],
+    numbers: &[EntityId],
+) -> Result<Vec<Use>, Memory> {
+    let mut uses = Vec::new(alloc);
+    for e in 0..unit.globals.len() {
+        let ty = type_in(types, unit.globals[e].ty)?;
+        let Some(entity) = numbers.get(e) else {
+            return Err(impossible());
+        };
+        uses.push(use_of(graph, all, ty, *entity)?)?;
+    }
+    Ok(uses)
+}

@@ -1,0 +1,15 @@
+//! Names that are distinct over several translation units that become one program.
+//!
+//! External names stay; the names of statics, enumerators, literals, parameters, objects, temporaries, labels and tags get a suffix where
+//! they are taken, or where they are made.
+//!
+//! The name spaces and scopes are those of C11 6.2.1 and 6.2.3; the suffixes are own.
+#![tactic(auto)]
+
+mod bodies;
+mod files;
+mod fresh;
+mod renaming;
+mod types;
+
+pub use renaming::rename;

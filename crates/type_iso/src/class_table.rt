@@ -1,0 +1,45 @@
+use crate::web::First;
+use cil_base::{AggId, UnitNo};
+
+/// The number of a class: its place in the order in which the classes are printed.
+#[derive(Clone, Copy, PartialEq, Eq)]
+pub struct ClassNo(pub u32);
+
+/// The classes of the aggregates of several units.
+#[derive(Drop)]
+pub struct Classes {
+    pub(crate) firsts: Vec<First>,
+    pub(crate) of: Vec<u32>,
+    pub(crate) representatives: Vec<(UnitNo, AggId)>,
+}
+
+impl Classes {
+    /// The number of classes.
+    pub fn count(&self) -> usize {
+        self.representatives.len()
+    }
+
+    /// The class of an aggregate, if it is there.
+    pub fn class_of(&self, u: UnitNo, a: AggId) -> Option<ClassNo> {
+        let first = self.firsts.get(u.0 as usize)?;
+        let class = self.of.get(first.aggregate.checked_add(a.0)? as usize)?;
+        Some(ClassNo(*class))
+    }
+
+    /// Whether two aggregates are in one class.
+    pub fn same(&self, x: (UnitNo, AggId), y: (UnitNo, AggId)) -> bool {
+        match (self.class_of(x.0, x.1), self.class_of(y.0, y.1)) {
+            (Some(a), Some(b)) => a == b,
+            _ => false,
+        }
+    }
+
+    /// The aggregate that stands for a class, if there is such a class: the first complete one by unit and number, or the first of
+    /// all where none is complete.
+    pub fn representative(&self, class: ClassNo) -> Option<(UnitNo, AggId)> {
+        match self.representatives.get(class.0 as usize) {
+            Some(found) => Some(*found),
+            None => None,
+        }
+    }
+}
