@@ -7,11 +7,11 @@ instructions() {
         awk '/Collected : / { sum += $NF } END { printf "%.0f\n", sum }'
 }
 
-# Compares the program with gcc. NAME: who complains; PROGRAM; BEHIND: what is put behind the unit that gcc reads; TOLD: how the line on
-# standard error ends, by which it is seen that the program went so far and no further; the most instructions for each of gcc's, and
-# bytes of memory for each byte of the unit.
+# Compares the program with gcc. NAME: who complains; PROGRAM; FRONT and BEHIND: what is put in front of the unit that gcc reads, and
+# behind it; TOLD: how the line on standard error ends, by which it is seen that the program went so far and no further; the most
+# instructions for each of gcc's, and bytes of memory for each byte of the unit.
 beside() {
-    name=$1 program=$2 behind=$3 told=$4 most=$5 bytes=$6
+    name=$1 program=$2 front=$3 behind=$4 told=$5 most=$6 bytes=$7
     folder=$(mktemp -d) || return 1
     trap 'rm -rf "$folder"' EXIT
     status=0
@@ -21,7 +21,7 @@ beside() {
         theirs=$folder/gcc-$mib.c unit=$folder/unit-$mib.c
         "$(dirname "$0")/unit.py" $mib >"$theirs" || return 1
         gcc -std=c11 -fsyntax-only "$theirs" || return 1
-        { cat "$theirs" && printf '%s' "$behind"; } >"$unit"
+        { printf '%s' "$front" && cat "$theirs" && printf '%s' "$behind"; } >"$unit"
         line=$("$program" merge "$unit" 2>&1 >/dev/null)
         case $line in
         *": $told") ;;

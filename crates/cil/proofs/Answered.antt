@@ -5,65 +5,65 @@ use Rattle.c_meaning.specs.SourceFile.{SourceFile}
 use Rattle.c_meaning.specs.Grammar.{Expression, IsUnit}
 use Rattle.outside.specs.Named.{Told}
 use Rattle.cil_tree.specs.Tree.{Program}
-use Rattle.cil.specs.Lowering.{Merges}
 use Rattle.cil_words.specs.Command.{steps_asked}
-use Rattle.cil.specs.Merge.{unit_asked, IsMergeAnswer, IsRefused, IsRefusedLike, IfRefused}
+use Rattle.cil.specs.Grammatical.{IsGrammatical}
+use Rattle.cil.specs.Merge.{unit_asked, IsMergeAnswer, IsMergedTo, IsNoGrammar, IsRefused, IsRefusedLike, IfRefused}
 use Rattle.cil_lines.specs.Messages.{line_of}
 use Rattle.cil.specs.Messages.{AreNames, names_asked}
-use Rattle.cil.proofs.Units.{not_both, like_refusal}
+use Rattle.cil.proofs.Units.{not_both, not_grammar, like_refusal}
 use Rattle.cil_lines.specs.declared.status.Status.{Status}
 use Rattle.cil_lines.specs.declared.status.Status.TheVariants.{Done, Exited, StillRunning, WentUndefined, Usage, Refused, NotCil, ReadFault, WriteFault, Memory}
 
 -- of a unit of the form
-accepted_as : (status : Status) (files out : Type 0) → IsMergeAnswer status → (status ≡ ReadFault → files) → (status ≡ WriteFault → out) → IfRefused status (λ refusal. ⊥)
+accepted_as : (units : ℕ) (status : Status) (files out : Type 0) → IsMergeAnswer units status → (status ≡ ReadFault → files) → (status ≡ WriteFault → out) → IfRefused status (λ refusal. ⊥)
     → ¬ files → ¬ out → (status ≡ Done) ⊎ (status ≡ Memory)
-accepted_as Done files out kind read write refused calm quiet = inl refl
-accepted_as (Exited s) files out kind read write refused calm quiet = absurd kind
-accepted_as StillRunning files out kind read write refused calm quiet = absurd kind
-accepted_as WentUndefined files out kind read write refused calm quiet = absurd kind
-accepted_as Usage files out kind read write refused calm quiet = absurd kind
-accepted_as (Refused r) files out kind read write refused calm quiet = absurd refused
-accepted_as (NotCil k) files out kind read write refused calm quiet = absurd kind
-accepted_as ReadFault files out kind read write refused calm quiet = absurd (calm (read refl))
-accepted_as WriteFault files out kind read write refused calm quiet = absurd (quiet (write refl))
-accepted_as Memory files out kind read write refused calm quiet = inr refl
+accepted_as units Done files out kind read write refused calm quiet = inl refl
+accepted_as units (Exited s) files out kind read write refused calm quiet = absurd kind
+accepted_as units StillRunning files out kind read write refused calm quiet = absurd kind
+accepted_as units WentUndefined files out kind read write refused calm quiet = absurd kind
+accepted_as units Usage files out kind read write refused calm quiet = absurd kind
+accepted_as units (Refused r) files out kind read write refused calm quiet = absurd refused
+accepted_as units (NotCil k) files out kind read write refused calm quiet = absurd kind
+accepted_as units ReadFault files out kind read write refused calm quiet = absurd (calm (read refl))
+accepted_as units WriteFault files out kind read write refused calm quiet = absurd (quiet (write refl))
+accepted_as units Memory files out kind read write refused calm quiet = inr refl
 
 not_refused : (status : Status) (unit : SourceFile) (e : Expression) (names : List (List ℕ)) → IsUnit unit e → IfRefused status (λ refusal. IsRefused unit refusal names) → IfRefused status (λ refusal. ⊥)
 not_refused (Refused r) unit e names is says = not_both unit e r names is says
 not_refused _ unit e names is says = tt
 
-pub accepted_by : (asked : Option SourceFile) (status : Status) (names : List (List ℕ)) (files out : Type 0) → IsMergeAnswer status → (status ≡ ReadFault → files) → (status ≡ WriteFault → out)
+pub accepted_by : (units : ℕ) (asked : Option SourceFile) (status : Status) (names : List (List ℕ)) (files out : Type 0) → IsMergeAnswer units status → (status ≡ ReadFault → files) → (status ≡ WriteFault → out)
     → IfSome asked (λ unit. IfRefused status (λ refusal. IsRefused unit refusal names))
     → IfSome asked (λ unit. (e : Expression) → IsUnit unit e → ¬ files → ¬ out → (status ≡ Done) ⊎ (status ≡ Memory))
-accepted_by None status names files out kind read write refused = tt
-accepted_by (Some unit) status names files out kind read write refused = λ e is calm quiet. accepted_as status files out kind read write (not_refused status unit e names is refused) calm quiet
+accepted_by units None status names files out kind read write refused = tt
+accepted_by units (Some unit) status names files out kind read write refused = λ e is calm quiet. accepted_as units status files out kind read write (not_refused status unit e names is refused) calm quiet
 
 -- of a file that is refused: what is written is a program that some unit is merged to
-refused_as : (status : Status) (unit : SourceFile) (refusal : Refusal) (names others : List (List ℕ)) (files : Type 0) → IsMergeAnswer status → (status ≡ ReadFault → files) → status ≢ Done → status ≢ WriteFault
-    → IfRefused status (λ r. IsRefused unit r names) → IsRefused unit refusal others → ¬ files → IsRefusedLike status refusal ⊎ (status ≡ Memory)
-refused_as Done unit refusal names others files kind read done write says is calm = absurd (done refl)
-refused_as (Exited s) unit refusal names others files kind read done write says is calm = absurd kind
-refused_as StillRunning unit refusal names others files kind read done write says is calm = absurd kind
-refused_as WentUndefined unit refusal names others files kind read done write says is calm = absurd kind
-refused_as Usage unit refusal names others files kind read done write says is calm = absurd kind
-refused_as (Refused r) unit refusal names others files kind read done write says is calm = inl (r, refl, like_refusal unit r refusal names others says is)
-refused_as (NotCil k) unit refusal names others files kind read done write says is calm = absurd kind
-refused_as ReadFault unit refusal names others files kind read done write says is calm = absurd (calm (read refl))
-refused_as WriteFault unit refusal names others files kind read done write says is calm = absurd (write refl)
-refused_as Memory unit refusal names others files kind read done write says is calm = inr refl
+refused_as : (units : ℕ) (status : Status) (unit : SourceFile) (refusal : Refusal) (names others : List (List ℕ)) (files : Type 0) → IsMergeAnswer units status → (status ≡ ReadFault → files) → status ≢ Done → status ≢ WriteFault
+    → IfRefused status (λ r. IsRefused unit r names) → IsNoGrammar unit refusal others → ¬ files → IsRefusedLike status refusal ⊎ (status ≡ Memory)
+refused_as units Done unit refusal names others files kind read done write says is calm = absurd (done refl)
+refused_as units (Exited s) unit refusal names others files kind read done write says is calm = absurd kind
+refused_as units StillRunning unit refusal names others files kind read done write says is calm = absurd kind
+refused_as units WentUndefined unit refusal names others files kind read done write says is calm = absurd kind
+refused_as units Usage unit refusal names others files kind read done write says is calm = absurd kind
+refused_as units (Refused r) unit refusal names others files kind read done write says is calm = inl (r, refl, like_refusal unit r refusal names others says is)
+refused_as units (NotCil k) unit refusal names others files kind read done write says is calm = absurd kind
+refused_as units ReadFault unit refusal names others files kind read done write says is calm = absurd (calm (read refl))
+refused_as units WriteFault unit refusal names others files kind read done write says is calm = absurd (write refl)
+refused_as units Memory unit refusal names others files kind read done write says is calm = inr refl
 
-pub refuses_by : (asked : Option SourceFile) (status : Status) (names : List (List ℕ)) (files : Type 0) → IsMergeAnswer status → (status ≡ ReadFault → files)
-    → (status ≡ Done → IfSome asked (λ unit. (e : Expression) × IsUnit unit e)) → (status ≡ WriteFault → IfSome asked (λ unit. (e : Expression) × IsUnit unit e))
+pub refuses_by : (units : ℕ) (asked : Option SourceFile) (status : Status) (names : List (List ℕ)) (files : Type 0) → IsMergeAnswer units status → (status ≡ ReadFault → files)
+    → (status ≡ Done → IfSome asked (λ unit. IsGrammatical unit)) → (status ≡ WriteFault → IfSome asked (λ unit. IsGrammatical unit))
     → IfSome asked (λ unit. IfRefused status (λ refusal. IsRefused unit refusal names))
-    → IfSome asked (λ unit. (refusal : Refusal) (others : List (List ℕ)) → IsRefused unit refusal others → ¬ files → IsRefusedLike status refusal ⊎ (status ≡ Memory))
-refuses_by None status names files kind read done write refused = tt
-refuses_by (Some unit) status names files kind read done write refused = λ refusal others is calm.
-    refused_as status unit refusal names others files kind read (λ s. not_both unit (done s).0 refusal others (done s).1 is) (λ s. not_both unit (write s).0 refusal others (write s).1 is) refused is calm
+    → IfSome asked (λ unit. (refusal : Refusal) (others : List (List ℕ)) → IsNoGrammar unit refusal others → ¬ files → IsRefusedLike status refusal ⊎ (status ≡ Memory))
+refuses_by units None status names files kind read done write refused = tt
+refuses_by units (Some unit) status names files kind read done write refused = λ refusal others is calm.
+    refused_as units status unit refusal names others files kind read (λ s. not_grammar unit refusal others (done s) is) (λ s. not_grammar unit refusal others (write s) is) refused is calm
 
--- what is merged is a unit
-pub unit_of_merged : (asked : Option SourceFile) (p : Program) → IfSome asked (λ unit. Merges unit p) → IfSome asked (λ unit. (e : Expression) × IsUnit unit e)
+-- what is merged is grammatical
+pub unit_of_merged : (asked : Option SourceFile) (p : Program) → IfSome asked (λ unit. IsMergedTo unit p) → IfSome asked (λ unit. IsGrammatical unit)
 unit_of_merged None p merged = tt
-unit_of_merged (Some unit) p merged = (merged.made.tree, merged.made.unit_of)
+unit_of_merged (Some unit) p merged = merged.grammatical
 
 -- a refusal is told with the names of its places
 some_names : (status : Status) (unit : SourceFile) (names : List (List ℕ)) → IfRefused status (λ refusal. IsRefused unit refusal names) → IfRefused status (λ refusal. (others : List (List ℕ)) × IsRefused unit refusal others)

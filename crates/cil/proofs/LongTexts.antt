@@ -3,7 +3,7 @@ use Rattle.std.proofs.Common.{◌≡◌, ℕ, ◌<◌, ◌≤◌, List, [], ◌+
 use Rattle.cil_tree.specs.Programs.{text_limit}
 use Rattle.cil_tree.specs.LaidOut.{bad_place, first_bad, lines_from}
 use Rattle.cil_reader.specs.Stops.{IsNoText}
-use Rattle.cil.specs.Merge.{IsFrontOf}
+use Rattle.cil_sources.specs.Files.{IsFrontOf}
 use Rattle.cil.specs.Execute.{Ran, RunSays}
 use Rattle.cil_lines.specs.declared.status.Status.{Status}
 use Rattle.cil_lines.specs.declared.status.Status.TheVariants.{Done, Exited, StillRunning, WentUndefined, Usage, Refused, NotCil, ReadFault, WriteFault, Memory}

@@ -31,8 +31,10 @@ use Rattle.cil.specs.Lowering.{Merges}
 use Rattle.cil_base.specs.declared.faults.Fault.{Fault}
 use Rattle.cil_base.specs.declared.faults.Fault.TheVariants.{Lexical, Excluded, Syntax, Constraint, Limit, Duplicate, Incompatible, NotBuilt}
 use Rattle.cil.specs.Grammatical.{AreTokens, IsGrammatical}
-use Rattle.cil.specs.Merge.{IsMergeFault, HasOther, IsFrontOf, IsRefused, Large, OfToken, OfGrammar, NotOfForm, IsLike, IfRefused, not_built, too_large}
-use Rattle.cil.specs.Merged.{file_in, IsAlone, IsMergeRefusal}
+use Rattle.cil_sources.specs.Files.{IsFrontOf}
+use Rattle.cil.specs.Merge.{IsRefused, NoGrammar, OfUnit, IsNoGrammar, Large, OfToken, OfGrammar, IsNoUnit, IsMergedTo, IsLike, IfRefused, too_large}
+use Rattle.unit_merger.specs.Refusals.{IsUnitFault, IsUnitRefusal, IsMergeFault, HasOther, IsMergeRefusal, KeepsFirst}
+use Rattle.cil.specs.Merged.{file_in, IsAlone}
 use Rattle.cil.proofs.SmallUnits.{small_is_grammatical}
 use Rattle.cil_lines.specs.declared.status.Status.{Status}
 use Rattle.cil_lines.specs.declared.status.Status.TheVariants.{Done, Exited, StillRunning, WentUndefined, Usage, Refused as IsRefusal, NotCil, ReadFault, WriteFault, Memory}
@@ -50,18 +52,21 @@ same_file name bytes file P front small says =
     let below : length bytes < 4194305 = omega arith in
     subst (λ bs. P (record { name = name; bytes = bs })) (sym (whole 4194305 bytes file front below)) says
 
-merges_file : (name bytes file : List ℕ) (p : Program) → IsFrontOf 4194305 bytes file → Merges (record { name = name; bytes = bytes }) p → Merges (record { name = name; bytes = file }) p
-merges_file name bytes file p front merges = same_file name bytes file (λ f. Merges f p) front merges.made.unit_of.tokens.small merges
+merges_file : (name bytes file : List ℕ) (p : Program) → IsFrontOf 4194305 bytes file → IsMergedTo (record { name = name; bytes = bytes }) p → IsMergedTo (record { name = name; bytes = file }) p
+merges_file name bytes file p front merges = same_file name bytes file (λ f. IsMergedTo f p) front merges.grammatical.are.small merges
+
+grammar_file : (name bytes file : List ℕ) (names : List (List ℕ)) (refusal : Refusal) → IsFrontOf 4194305 bytes file → IsNoGrammar (record { name = name; bytes = bytes }) refusal names → IsNoGrammar (record { name = name; bytes = file }) refusal names
+grammar_file name bytes file _ _ front (Large names large) = Large names (omega (arith, large, at_least 4194305 bytes file front))
+grammar_file name bytes file _ _ front (OfToken refusal names small lexed) = same_file name bytes file (λ f. IsNoGrammar f refusal names) front small (OfToken refusal names small lexed)
+grammar_file name bytes file _ _ front (OfGrammar refusal names tokens are fault) = same_file name bytes file (λ f. IsNoGrammar f refusal names) front are.small (OfGrammar refusal names tokens are fault)
 
 refused_file : (name bytes file : List ℕ) (names : List (List ℕ)) (refusal : Refusal) → IsFrontOf 4194305 bytes file → IsRefused (record { name = name; bytes = bytes }) refusal names → IsRefused (record { name = name; bytes = file }) refusal names
-refused_file name bytes file _ _ front (Large names large) = Large names (omega (arith, large, at_least 4194305 bytes file front))
-refused_file name bytes file _ _ front (OfToken refusal names small lexed) = same_file name bytes file (λ f. IsRefused f refusal names) front small (OfToken refusal names small lexed)
-refused_file name bytes file _ _ front (OfGrammar refusal names tokens are fault) = same_file name bytes file (λ f. IsRefused f refusal names) front are.small (OfGrammar refusal names tokens are fault)
-refused_file name bytes file _ _ front (NotOfForm names reads none) = same_file name bytes file (λ f. IsRefused f not_built names) front reads.are.small (NotOfForm names reads none)
+refused_file name bytes file _ _ front (NoGrammar refusal names wrong) = NoGrammar refusal names (grammar_file name bytes file names refusal front wrong)
+refused_file name bytes file _ _ front (OfUnit refusal names reads none fault) = same_file name bytes file (λ f. IsRefused f refusal names) front reads.are.small (OfUnit refusal names reads none fault)
 
 -- of a file that may not be told
-pub merges_asked : (asked : Option (List ℕ)) (name bytes : List ℕ) (p : Program) → IfSome asked (IsFrontOf 4194305 bytes) → Merges (record { name = name; bytes = bytes }) p
-    → IfSome (option_map (λ (bs : List ℕ). let f : SourceFile = record { name = name; bytes = bs } in f) asked) (λ unit. Merges unit p)
+pub merges_asked : (asked : Option (List ℕ)) (name bytes : List ℕ) (p : Program) → IfSome asked (IsFrontOf 4194305 bytes) → IsMergedTo (record { name = name; bytes = bytes }) p
+    → IfSome (option_map (λ (bs : List ℕ). let f : SourceFile = record { name = name; bytes = bs } in f) asked) (λ unit. IsMergedTo unit p)
 merges_asked None name bytes p front merges = tt
 merges_asked (Some file) name bytes p front merges = merges_file name bytes file p front merges
 
@@ -114,11 +119,18 @@ not_grammatical : (unit : SourceFile) (t : Lexed) (names : List (List ℕ)) (ref
 not_grammatical unit t names refusal are fault reads =
     fault.refuses.no_unit reads.tree (subst (λ u. ReadsUnit (lexemes u) reads.tree) (same_tokens unit reads.tokens t reads.names names reads.are are) reads.reads)
 
+-- a grammatical file is not refused by its grammar
+grammar_clash : (unit : SourceFile) (refusal : Refusal) (names : List (List ℕ)) → IsGrammatical unit → IsNoGrammar unit refusal names → ⊥
+grammar_clash unit _ _ reads (Large names large) = omega (arith, reads.are.small, large)
+grammar_clash unit _ _ reads (OfToken refusal names small lexed) = clash unit reads.tokens.entries reads.tokens.end reads.names names refusal reads.are.lexed lexed
+grammar_clash unit _ _ reads (OfGrammar refusal names tokens are fault) = not_grammatical unit tokens names refusal are fault reads
+
+pub not_grammar : (unit : SourceFile) (refusal : Refusal) (names : List (List ℕ)) → IsGrammatical unit → IsNoGrammar unit refusal names → ⊥
+not_grammar unit refusal names reads wrong = grammar_clash unit refusal names reads wrong
+
 pub not_both : (unit : SourceFile) (e : Expression) (refusal : Refusal) (names : List (List ℕ)) → IsUnit unit e → IsRefused unit refusal names → ⊥
-not_both unit e _ _ is (Large names large) = omega (arith, is.tokens.small, large)
-not_both unit e _ _ is (OfToken refusal names small lexed) = clash unit is.tokens.entries is.tokens.end is.tokens.names names refusal is.tokens.lexed lexed
-not_both unit e _ _ is (OfGrammar refusal names tokens are fault) = not_grammatical unit tokens names refusal are fault (small_is_grammatical unit e is)
-not_both unit e _ _ is (NotOfForm names grammatical none) = none e is
+not_both unit e _ _ is (NoGrammar refusal names wrong) = grammar_clash unit refusal names (small_is_grammatical unit e is) wrong
+not_both unit e _ _ is (OfUnit refusal names grammatical none fault) = none e is
 
 like_itself : (one two : Refusal) → one ≡ two → IsLike one two
 like_itself one two same = record { fault = ap (λ (r : Refusal). r.fault) same; at = ap (λ (r : Refusal). r.at) same; other = λ no. ap (λ (r : Refusal). r.other) same }
@@ -130,37 +142,38 @@ same_start t one two first second =
     let places : Some one.at ≡ Some two.at = sym first.at ∙ (ap (place_at t) start ∙ second.at) in
     record { fault = first.fault ∙ sym second.fault; at = same_Some one.at two.at places; other = λ no. absurd (no first.fault) }
 
-pub like_refusal : (unit : SourceFile) (one two : Refusal) (names others : List (List ℕ)) → IsRefused unit one names → IsRefused unit two others → IsLike one two
-like_refusal unit _ _ _ _ (Large names large) (Large others also) = like_itself too_large too_large refl
-like_refusal unit _ _ _ _ (Large names large) (OfToken two others small lexed) = absurd (omega (arith, large, small))
-like_refusal unit _ _ _ _ (Large names large) (OfGrammar two others tokens are fault) = absurd (omega (arith, large, are.small))
-like_refusal unit _ _ _ _ (Large names large) (NotOfForm others reads none) = absurd (omega (arith, large, reads.are.small))
-like_refusal unit _ _ _ _ (OfToken one names small lexed) (Large others large) = absurd (omega (arith, large, small))
-like_refusal unit _ _ _ _ (OfToken one names small lexed) (OfToken two others low also) =
+like_grammar : (unit : SourceFile) (one two : Refusal) (names others : List (List ℕ)) → IsNoGrammar unit one names → IsNoGrammar unit two others → IsLike one two
+like_grammar unit _ _ _ _ (Large names large) (Large others also) = like_itself too_large too_large refl
+like_grammar unit _ _ _ _ (Large names large) (OfToken two others small lexed) = absurd (omega (arith, large, small))
+like_grammar unit _ _ _ _ (Large names large) (OfGrammar two others tokens are fault) = absurd (omega (arith, large, are.small))
+like_grammar unit _ _ _ _ (OfToken one names small lexed) (Large others large) = absurd (omega (arith, large, small))
+like_grammar unit _ _ _ _ (OfToken one names small lexed) (OfToken two others low also) =
     let same : Refused one names ≡ Refused two others = same_answer (record { 0 = 0 }) (record { 0 = 0 }) (unit.name ∷ []) unit.bytes (Refused one names) (Refused two others) lexed also in
     like_itself one two cc
-like_refusal unit _ _ _ _ (OfToken one names small lexed) (OfGrammar two others tokens are fault) = absurd (no_token unit tokens others names one are lexed)
-like_refusal unit _ _ _ _ (OfToken one names small lexed) (NotOfForm others reads none) = absurd (no_token unit reads.tokens reads.names names one reads.are lexed)
-like_refusal unit _ _ _ _ (OfGrammar one names tokens are fault) (Large others large) = absurd (omega (arith, large, are.small))
-like_refusal unit _ _ _ _ (OfGrammar one names tokens are fault) (OfToken two others small lexed) = absurd (no_token unit tokens names others two are lexed)
-like_refusal unit _ _ _ _ (OfGrammar one names tokens are fault) (OfGrammar two others more also wrong) =
+like_grammar unit _ _ _ _ (OfToken one names small lexed) (OfGrammar two others tokens are fault) = absurd (no_token unit tokens others names one are lexed)
+like_grammar unit _ _ _ _ (OfGrammar one names tokens are fault) (Large others large) = absurd (omega (arith, large, are.small))
+like_grammar unit _ _ _ _ (OfGrammar one names tokens are fault) (OfToken two others small lexed) = absurd (no_token unit tokens names others two are lexed)
+like_grammar unit _ _ _ _ (OfGrammar one names tokens are fault) (OfGrammar two others more also wrong) =
     same_start tokens one two fault (subst (λ u. IsSyntaxFault u two) (same_tokens unit more tokens others names also are) wrong)
-like_refusal unit _ _ _ _ (OfGrammar one names tokens are fault) (NotOfForm others reads none) = absurd (not_grammatical unit tokens names one are fault reads)
-like_refusal unit _ _ _ _ (NotOfForm names reads none) (Large others large) = absurd (omega (arith, large, reads.are.small))
-like_refusal unit _ _ _ _ (NotOfForm names reads none) (OfToken two others small lexed) = absurd (no_token unit reads.tokens reads.names others two reads.are lexed)
-like_refusal unit _ _ _ _ (NotOfForm names reads none) (OfGrammar two others tokens are fault) = absurd (not_grammatical unit tokens others two are fault reads)
-like_refusal unit _ _ _ _ (NotOfForm names reads none) (NotOfForm others also nor) = like_itself not_built not_built refl
+
+pub like_refusal : (unit : SourceFile) (one two : Refusal) (names others : List (List ℕ)) → IsRefused unit one names → IsNoGrammar unit two others → IsLike one two
+like_refusal unit _ two _ others (NoGrammar one names first) second = like_grammar unit one two names others first second
+like_refusal unit _ two _ others (OfUnit one names reads none fault) second = absurd (grammar_clash unit two others reads second)
 
 -- what the parser says of the first unit
 
 pub refused_by_grammar : {A : Type 0} (r : Result A Stop) (file : SourceFile) (t : Lexed) (names : List (List ℕ)) → AreTokens file t names → IfStopped r (IsSyntaxFault t) → IfStopped r (λ refusal. IsRefused file refusal names)
 refused_by_grammar (Ok a) file t names are says = tt
-refused_by_grammar (Err (stops.Refused refusal)) file t names are says = OfGrammar refusal names t are says
+refused_by_grammar (Err (stops.Refused refusal)) file t names are says = NoGrammar refusal names (OfGrammar refusal names t are says)
 refused_by_grammar (Err stops.Memory) file t names are says = tt
 
 entry_unit : (unit : UnitNo) (i : ℕ) (o : Option Entry) (place : Place) → option_map (λ (e : Entry). place_of unit i e.file e.line) o ≡ Some place → place.unit ≡ unit
 entry_unit unit i None place is = let none : None ≡ Some place = is in cc
 entry_unit unit i (Some e) place is = sym (ap (λ (p : Place). p.unit) (same_Some (place_of unit i e.file e.line) place is))
+
+-- the first unit is one of one
+first_unit : (u : UnitNo) → u ≡ record { 0 = 0 } → u.0 < 1
+first_unit u is = omega (arith, ap (λ (v : UnitNo). v.0) is)
 
 -- a place has the unit's number
 place_unit : (t : Lexed) (i : ℕ) (place : Place) → place_at t i ≡ Some place → place.unit ≡ t.unit
@@ -170,16 +183,16 @@ place_unit t i place is = by (i == length t.entries) is
     by true is = sym (ap (λ (p : Place). p.unit) (same_Some (place_of t.unit i t.end.file t.end.line) place is))
     by false is = entry_unit t.unit i (slice_get t.entries i) place is
 
-grammar_fault : (file : SourceFile) (t : Lexed) (names : List (List ℕ)) (count : ℕ) (refusal : Refusal) → AreTokens file t names → PlacesWithin count t → IsSyntaxFault t refusal → IsMergeRefusal count refusal
+grammar_fault : (file : SourceFile) (t : Lexed) (names : List (List ℕ)) (count : ℕ) (refusal : Refusal) → AreTokens file t names → PlacesWithin count t → IsSyntaxFault t refusal → IsMergeRefusal 1 count refusal
 grammar_fault file t names count refusal are within fault = record {
   fault = subst IsMergeFault (sym fault.fault) tt;
-  unit = place_unit t fault.start refusal.at fault.at ∙ are.unit;
+  unit = first_unit refusal.at.unit (place_unit t fault.start refusal.at fault.at ∙ are.unit);
   file = within fault.start refusal.at fault.at;
-  other = subst (λ f. HasOther f refusal.other) (sym fault.fault) (fault.other, fault.told, place_unit t fault.stop fault.other fault.behind ∙ are.unit);
+  other = subst (λ f. HasOther 1 f refusal.other) (sym fault.fault) (fault.other, fault.told, first_unit fault.other.unit (place_unit t fault.stop fault.other fault.behind ∙ are.unit));
   other_file = λ place is. within fault.stop place (fault.behind ∙ (sym fault.told ∙ is));
 }
 
-pub grammar_refusal : {A : Type 0} (r : Result A Stop) (file : SourceFile) (t : Lexed) (names : List (List ℕ)) (count : ℕ) → AreTokens file t names → PlacesWithin count t → IfStopped r (IsSyntaxFault t) → IfStopped r (IsMergeRefusal count)
+pub grammar_refusal : {A : Type 0} (r : Result A Stop) (file : SourceFile) (t : Lexed) (names : List (List ℕ)) (count : ℕ) → AreTokens file t names → PlacesWithin count t → IfStopped r (IsSyntaxFault t) → IfStopped r (IsMergeRefusal 1 count)
 grammar_refusal (Ok a) file t names count are within says = tt
 grammar_refusal (Err (stops.Refused refusal)) file t names count are within says = grammar_fault file t names count refusal are within says
 grammar_refusal (Err stops.Memory) file t names count are within says = tt
@@ -192,10 +205,8 @@ has_tokens file t names are = record { small = are.small; entries = t.entries; e
 pub found_unit : (file : SourceFile) (t : Lexed) (names : List (List ℕ)) (e : Expression) → AreTokens file t names → reading (spelled_in t.source t.entries) ≡ Some e → IsUnit file e
 found_unit file t names e are is = (unit_reads file (spelled_in t.source t.entries) e (has_tokens file t names are)).1 is
 
-pub found_none : (file : SourceFile) (t : Lexed) (names : List (List ℕ)) → AreTokens file t names → IsGrammatical file → reading (spelled_in t.source t.entries) ≡ None → IsRefused file not_built names
-found_none file t names are reads is =
-    NotOfForm names reads
-    (λ e unit. let some : reading (spelled_in t.source t.entries) ≡ Some e = (unit_reads file (spelled_in t.source t.entries) e (has_tokens file t names are)).0 unit in cc)
+pub found_none : (file : SourceFile) (t : Lexed) (names : List (List ℕ)) → AreTokens file t names → reading (spelled_in t.source t.entries) ≡ None → IsNoUnit file
+found_none file t names are is = λ e unit. (let some : reading (spelled_in t.source t.entries) ≡ Some e = (unit_reads file (spelled_in t.source t.entries) e (has_tokens file t names are)).0 unit in cc)
 
 pub found_tree : (file : SourceFile) (t : Lexed) (names : List (List ℕ)) (tree : UnitTree) → AreTokens file t names → ReadsUnit (lexemes t) tree → IsGrammatical file
 found_tree file t names tree are reads = record { tokens = t; names = names; are = are; tree = tree; reads = reads }
@@ -222,8 +233,8 @@ first_within (name ∷ other ∷ names) new alone grows = absurd alone
 -- what the lexer says of the first unit
 
 pub too_large_by : (names : List (List ℕ)) (unit : List ℕ) (others : List (List ℕ)) → 4194304 < length unit → IsRefused (file_in names unit) too_large others
-too_large_by [] unit others large = Large others large
-too_large_by (name ∷ names) unit others large = Large others large
+too_large_by [] unit others large = NoGrammar too_large others (Large others large)
+too_large_by (name ∷ names) unit others large = NoGrammar too_large others (Large others large)
 
 first_is : (file : NameId) → file.0 ≡ 0 → file ≡ record { 0 = 0 }
 first_is file zero_is = ap (λ (n : ℕ). let f : NameId = record { 0 = n } in f) zero_is
@@ -231,7 +242,7 @@ first_is file zero_is = ap (λ (n : ℕ). let f : NameId = record { 0 = n } in f
 lexed_refused : (r : Result Lexed Stop) (name unit : List ℕ) (others : List (List ℕ)) (answer : Answer) → length unit ≤ 4194304 → IsAnswer (record { 0 = 0 }) (record { 0 = 0 }) (name ∷ []) unit answer → Gives r unit (record { 0 = 0 }) others answer
     → IfStopped r (λ refusal. IsRefused (record { name = name; bytes = unit }) refusal others)
 lexed_refused (Ok t) name unit others answer small is gives = tt
-lexed_refused (Err (stops.Refused refusal)) name unit others answer small is gives = OfToken refusal others small (subst (IsAnswer (record { 0 = 0 }) (record { 0 = 0 }) (name ∷ []) unit) gives is)
+lexed_refused (Err (stops.Refused refusal)) name unit others answer small is gives = NoGrammar refusal others (OfToken refusal others small (subst (IsAnswer (record { 0 = 0 }) (record { 0 = 0 }) (name ∷ []) unit) gives is))
 lexed_refused (Err stops.Memory) name unit others answer small is gives = tt
 
 pub refused_by_tokens : (r : Result Lexed Stop) (names : List (List ℕ)) (unit : List ℕ) (file : NameId) (others : List (List ℕ)) → IsAlone names → file.0 ≡ 0 → length unit ≤ 4194304
@@ -253,15 +264,12 @@ has_by_tokens r (name ∷ []) unit file others alone zero_is small answered =
     lexed_tokens r name unit others answered.0 small (subst (λ (f : NameId). IsAnswer (record { 0 = 0 }) f (name ∷ []) unit answered.0) (first_is file zero_is) answered.1) answered.2
 has_by_tokens r (name ∷ other ∷ names) unit file others alone zero_is small answered = absurd alone
 
-pub not_built_is : (count : ℕ) → 0 < count → IsMergeRefusal count not_built
-not_built_is count within = record { fault = tt; unit = refl; file = within; other = refl; other_file = λ place e. let none : None ≡ Some place = e in cc }
-
-pub too_large_is : (count : ℕ) → 0 < count → IsMergeRefusal count too_large
-too_large_is count within = record { fault = tt; unit = refl; file = within; other = refl; other_file = λ place e. let none : None ≡ Some place = e in cc }
+pub too_large_is : (count : ℕ) → 0 < count → IsMergeRefusal 1 count too_large
+too_large_is count within = record { fault = tt; unit = omega arith; file = within; other = refl; other_file = λ place e. let none : None ≡ Some place = e in cc }
 
 -- a refusal of tokens is one of `merge`
 
-merge_fault : (fault : Fault) (other : Option Place) → IsTokenFault fault → other ≡ None → IsMergeFault fault × HasOther fault other
+merge_fault : (fault : Fault) (other : Option Place) → IsTokenFault fault → other ≡ None → IsMergeFault fault × HasOther 1 fault other
 merge_fault Lexical other is none = (tt, none)
 merge_fault (Excluded feature) other is none = (tt, none)
 merge_fault Syntax other is none = absurd is
@@ -271,19 +279,66 @@ merge_fault Duplicate other is none = absurd is
 merge_fault Incompatible other is none = absurd is
 merge_fault NotBuilt other is none = absurd is
 
-pub token_refusal : (r : Result Lexed Stop) (count : ℕ) → IfStopped r (IsTokenRefusal (record { 0 = 0 }) count) → IfStopped r (IsMergeRefusal count)
+pub token_refusal : (r : Result Lexed Stop) (count : ℕ) → IfStopped r (IsTokenRefusal (record { 0 = 0 }) count) → IfStopped r (IsMergeRefusal 1 count)
 token_refusal (Ok t) count is = tt
 token_refusal (Err (stops.Refused refusal)) count is =
-    let both : IsMergeFault refusal.fault × HasOther refusal.fault refusal.other = merge_fault refusal.fault refusal.other is.fault is.other in
-    record { fault = both.0; unit = is.unit; file = is.file; other = both.1; other_file = λ place e. let some : None ≡ Some place = sym is.other ∙ e in cc }
+    let both : IsMergeFault refusal.fault × HasOther 1 refusal.fault refusal.other = merge_fault refusal.fault refusal.other is.fault is.other in
+    record { fault = both.0; unit = first_unit refusal.at.unit is.unit; file = is.file; other = both.1; other_file = λ place e. let some : None ≡ Some place = sym is.other ∙ e in cc }
 token_refusal (Err stops.Memory) count is = tt
+
+-- a refusal of a grammatical unit is one of `merge`
+
+unit_fault : (fault : Fault) (other : Option Place) → IsUnitFault fault → other ≡ None → IsMergeFault fault × HasOther 1 fault other
+unit_fault Lexical other is none = absurd is
+unit_fault (Excluded feature) other is none = (tt, none)
+unit_fault Syntax other is none = absurd is
+unit_fault (Constraint code) other is none = (tt, none)
+unit_fault (Limit what) other is none = (tt, none)
+unit_fault Duplicate other is none = absurd is
+unit_fault Incompatible other is none = absurd is
+unit_fault NotBuilt other is none = absurd is
+
+pub unit_refusal : {A : Type 0} (r : Result A Stop) (count : ℕ) → IfStopped r (IsUnitRefusal count) → IfStopped r (IsMergeRefusal 1 count)
+unit_refusal (Ok t) count is = tt
+unit_refusal (Err (stops.Refused refusal)) count is =
+    let both : IsMergeFault refusal.fault × HasOther 1 refusal.fault refusal.other = unit_fault refusal.fault refusal.other is.fault is.other in
+    record { fault = both.0; unit = first_unit refusal.at.unit is.unit; file = is.file; other = both.1; other_file = λ place e. let some : None ≡ Some place = sym is.other ∙ e in cc }
+unit_refusal (Err stops.Memory) count is = tt
+
+-- what stopped a text of bytes stops one of a vector
+abbrev pub stopped : (A : Type 0) → Stop → Result A Stop
+stopped A stop = Err stop
+
+pub unit_refused : (A B : Type 0) (stop : Stop) (file : SourceFile) (names : List (List ℕ)) (count : ℕ) → IsGrammatical file → IsNoUnit file → IfStopped (stopped A stop) (IsUnitRefusal count) → IfStopped (stopped B stop) (λ refusal. IsRefused file refusal names)
+unit_refused A B (stops.Refused refusal) file names count reads none is = OfUnit refusal names reads none is.fault
+unit_refused A B stops.Memory file names count reads none is = tt
+
+-- the first name stays
+
+pub first_stays : {A : Type 0} (r : Result A Stop) (names : List (List ℕ)) → KeepsFirst r names names
+first_stays r names = λ known name more is. (more, is)
+
+pub stopped_first : (A B : Type 0) (stop : Stop) (old new : List (List ℕ)) → KeepsFirst (stopped A stop) old new → KeepsFirst (stopped B stop) old new
+stopped_first A B (stops.Refused refusal) old new keeps = λ known. keeps (λ same. (let clash : stopped A (stops.Refused refusal) ≡ stopped A stops.Memory = same in cc))
+stopped_first A B stops.Memory old new keeps = λ known. absurd (known refl)
+
+pub first_grown : {A : Type 0} (r : Result A Stop) (old middle new : List (List ℕ)) → IsAlone old → Grows old middle → KeepsFirst r middle new → KeepsFirst r old new
+first_grown r [] middle new alone grows keeps = absurd alone
+first_grown r (first ∷ []) middle new alone grows keeps = λ known name more is.
+    (let begun = grows_begins first middle grows in
+    let kept = keeps known first begun.more begun.is in
+    let same : first ≡ name = cc in
+    (kept.0, kept.1 ∙ ap (λ n. n ∷ kept.0) same))
+first_grown r (first ∷ other ∷ more) middle new alone grows keeps = absurd alone
 
 -- the pool of a file's name alone
 interned_first : (old middle : List (List ℕ)) (name text : List ℕ) (n : ℕ) → old ≡ [] → text ≡ name → Interns old middle text n → middle ≡ name ∷ []
 interned_first old middle name text n none same interns = interns.after ∙ (ap (λ ns. interned ns text) none ∙ ap (λ t. t ∷ []) same)
 
-pub begun_names : (old middle new : List (List ℕ)) (name text : List ℕ) (n : ℕ) → old ≡ [] → text ≡ name → Interns old middle text n → Grows middle new → Begins (name ∷ []) new
-begun_names old middle new name text n none same interns grows = grows_begins name new (subst (λ ns. Grows ns new) (interned_first old middle name text n none same interns) grows)
+pub begun_names : (old middle new : List (List ℕ)) (name text : List ℕ) (n : ℕ) → old ≡ [] → text ≡ name → Interns old middle text n → ((first : List ℕ) (more : List (List ℕ)) → middle ≡ first ∷ more → (rest : List (List ℕ)) × (new ≡ first ∷ rest)) → Begins (name ∷ []) new
+begun_names old middle new name text n none same interns keeps =
+    let kept = keeps name [] (interned_first old middle name text n none same interns) in
+    record { more = kept.0; is = kept.1 }
 
 pub merge_refused : (asked : Option (List ℕ)) (old middle names : List (List ℕ)) (name text bytes read : List ℕ) (n : ℕ) (status : Status) → old ≡ [] → text ≡ name → Interns old middle text n → read ≡ bytes → IfSome asked (IsFrontOf 4194305 bytes)
     → IfRefused status (λ refusal. IsRefused (file_in middle read) refusal names)

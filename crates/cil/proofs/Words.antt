@@ -1,6 +1,6 @@
 -- Where a command's file stands among the words.
-use Rattle.std.proofs.Common.{◌≡◌, ℕ, suc, ◌<◌, Bool, true, false, List, [], ◌∷◌, append-nil, String, map, length, drop, get_or, codes, Option, Some, None, IsSome, IfSome, unwrap_or, slice_get, refl, ap, sym, subst, ◌∙◌, arith}
-use Rattle.std.proofs.lemmas.List.{length-map, drop-map}
+use Rattle.std.proofs.Common.{◌≡◌, ◌≢◌, ℕ, suc, ◌+◌, ◌<◌, Bool, true, false, List, [], ◌∷◌, append-nil, String, map, length, drop, get_or, codes, Option, Some, None, IsSome, IfSome, unwrap_or, slice_get, refl, ap, sym, subst, ◌∙◌, arith}
+use Rattle.std.proofs.lemmas.List.{length-map, drop-map, drop_more, drop_all, length-drop}
 use Rattle.std.specs.Prelude.{if◌then◌else◌}
 use Rattle.std.specs.Global.{Global}
 use Rattle.std.specs.Option.{option_map, option_and_then, option_to_list}
@@ -8,9 +8,11 @@ use Rattle.std.specs.Str.{bytes_eq}
 use Rattle.std.specs.String.{string_bytes}
 use Rattle.std.proofs.lemmas.Option.{slice_get-map, slice_get-get_or}
 use Rattle.outside.specs.Named.{Told}
-use Rattle.cil_words.specs.Command.{command_of, command_in, merge_of, run_of, run_bounded_of, steps_of, are_words, names_file, file_position, merged_position, run_position, bound_of, file_of, run_file, steps_asked, words_given}
+use Rattle.cil_words.specs.Command.{command_of, command_in, merge_of, are_files, merged_file, merged_files, files_of, files_by, alone, run_of, run_bounded_of, steps_of, are_words, names_file, file_position, merged_position, run_position, bound_of, file_of, run_file, steps_asked, words_given}
 use Rattle.cil.specs.Execute.{RunSays}
-use Rattle.cil.specs.Merge.{unit_asked, bytes_under, file_under, IsRefused, IfRefused}
+use Rattle.cil_sources.specs.Files.{bytes_under, found_all, all_under}
+use Rattle.outside.specs.Named.{find_file}
+use Rattle.cil.specs.Merge.{unit_asked, file_under, IsRefused, IfRefused}
 use Rattle.cil_lines.specs.Messages.{HasFiles}
 use Rattle.cil.specs.Messages.{names_asked, Begins, AreNames}
 use Rattle.cil_words.specs.declared.command.Command.{Command}
@@ -26,10 +28,15 @@ within_if : (count : ℕ) (test : Bool) (a b : Option Command) → Within count 
 within_if count true a b first second = first
 within_if count false a b first second = second
 
-within_merge : (file : List ℕ) (rest : List (List ℕ)) → Within (suc (suc (length rest))) (merge_of file rest)
+within_merge : (word : List ℕ) (rest : List (List ℕ)) → Within (suc (suc (length rest))) (merge_of word rest)
 unfolding Within
-within_merge file [] = within_if 2 (names_file file) (Some (Merge 1)) None (omega arith) tt
-within_merge file (word ∷ words) = tt
+within_merge word rest =
+    within_if (suc (suc (length rest))) (bytes_eq word (codes "--common")) (if are_files rest then Some (Merge true 2) else None) (if are_files (word ∷ rest) then Some (Merge false 1) else None)
+    (common rest) (within_if (suc (suc (length rest))) (are_files (word ∷ rest)) (Some (Merge false 1)) None (omega arith) tt)
+  where
+    common : (files : List (List ℕ)) → Within (suc (suc (length files))) (if are_files files then Some (Merge true 2) else None)
+    common [] = tt
+    common (file ∷ files) = within_if (suc (suc (length (file ∷ files)))) (are_files (file ∷ files)) (Some (Merge true 2)) None (omega arith) tt
 
 within_map : (count : ℕ) (bound : Option ℕ) → 3 < count → Within count (option_map (λ steps. Run steps 3) bound)
 unfolding Within
@@ -65,8 +72,8 @@ position_within : (words : List (List ℕ)) (command : Command) → command_of w
 unfolding Within
 position_within words command is = subst (Within (length words)) is (within words)
 
-pub merge_within : (words : List (String Global)) (first : ℕ) → command_of (map string_bytes words) ≡ Some (Merge first) → first < length words
-merge_within words first is = omega (arith, position_within (map string_bytes words) (Merge first) is, length-map words string_bytes)
+pub merge_within : (words : List (String Global)) (common : Bool) (first : ℕ) → command_of (map string_bytes words) ≡ Some (Merge common first) → first < length words
+merge_within words common first is = omega (arith, position_within (map string_bytes words) (Merge common first) is, length-map words string_bytes)
 
 pub run_within : (words : List (String Global)) (steps file : ℕ) → command_of (map string_bytes words) ≡ Some (Run steps file) → file < length words
 run_within words steps file is = omega (arith, position_within (map string_bytes words) (Run steps file) is, length-map words string_bytes)
@@ -76,20 +83,67 @@ word_at : (words : List (String Global)) (i : ℕ) (d : String Global) → i < l
 word_at words i d below = slice_get-map string_bytes words i ∙ ap (option_map string_bytes) (slice_get-get_or words i d below)
 
 -- what the words ask for, by the command that they are
-pub unit_asked_is : (told : Option Told) (words : List (String Global)) (first : ℕ) (d : String Global) → command_of (map string_bytes words) ≡ Some (Merge first)
+merged_files_are : (words : List (String Global)) (common : Bool) (first : ℕ) → command_of (map string_bytes words) ≡ Some (Merge common first) → merged_files (map string_bytes words) ≡ drop first (map string_bytes words)
+merged_files_are words common first is = ap (λ command. unwrap_or (option_map (λ at. drop at (map string_bytes words)) (option_and_then merged_position command)) []) is
+
+pub merge_files_are : (words : List (String Global)) (common : Bool) (first : ℕ) → command_of (map string_bytes words) ≡ Some (Merge common first) → files_of (map string_bytes words) ≡ map string_bytes (drop first words)
+merge_files_are words common first is = ap (files_by (map string_bytes words)) is ∙ drop-map string_bytes first words
+
+-- the last of words alone
+last_alone : (words : List (String Global)) (first : ℕ) (d : String Global) → first + 1 ≡ length words → drop first words ≡ get_or words first d ∷ []
+last_alone words first d last =
+    drop_more words first d (omega (arith, last)) ∙ ap (λ rest. get_or words first d ∷ rest) (drop_all (first + 1) words (omega (arith, last)))
+
+pub merge_file_alone : (words : List (String Global)) (common : Bool) (first : ℕ) (d : String Global) → command_of (map string_bytes words) ≡ Some (Merge common first) → first + 1 ≡ length words
+    → files_of (map string_bytes words) ≡ string_bytes (get_or words first d) ∷ []
+merge_file_alone words common first d is last = merge_files_are words common first is ∙ ap (map string_bytes) (last_alone words first d last)
+
+pub unit_asked_is : (told : Option Told) (words : List (String Global)) (common : Bool) (first : ℕ) (d : String Global) → command_of (map string_bytes words) ≡ Some (Merge common first) → first + 1 ≡ length words
     → unit_asked told (map string_bytes words) ≡ file_under told (string_bytes (get_or words first d))
-unit_asked_is told words first d is =
-    ap (λ command. option_and_then (file_under told) (option_and_then (slice_get (map string_bytes words)) (option_and_then merged_position command))) is
-    ∙ ap (option_and_then (file_under told)) (word_at words first d (merge_within words first is))
+unit_asked_is told words common first d is last =
+    ap (λ names. option_and_then (file_under told) (alone names)) (merged_files_are words common first is ∙ (drop-map string_bytes first words ∙ ap (map string_bytes) (last_alone words first d last)))
+
+-- several files are no unit alone
+two_left : (names : List (List ℕ)) → length names ≢ 1 → alone names ≡ None
+two_left [] several = refl
+two_left (name ∷ []) several = absurd (several refl)
+two_left (name ∷ other ∷ names) several = refl
+
+pub several_asked : (told : Option Told) (words : List (String Global)) (common : Bool) (first : ℕ) → command_of (map string_bytes words) ≡ Some (Merge common first) → first + 1 ≢ length words
+    → unit_asked told (map string_bytes words) ≡ None
+several_asked told words common first is several =
+    ap (option_and_then (file_under told))
+    (ap alone (merged_files_are words common first is ∙ drop-map string_bytes first words)
+    ∙ two_left (map string_bytes (drop first words)) (λ one. several (omega (arith, one, length-map (drop first words) string_bytes, length-drop first words, merge_within words common first is))))
+
+-- what is said of one file that is read
+pub one_missing : (told : Option Told) (files : List (List ℕ)) (name : List ℕ) (Says : Type 0) → files ≡ name ∷ [] → IfSome told (λ t. find_file name t.names ≡ None → Says) → IfSome told (λ t. found_all t.names files ≡ None → Says)
+one_missing None files name Says is says = tt
+one_missing (Some t) files name Says is says = λ none. says (one (find_file name t.names) (sym (ap (found_all t.names) is) ∙ none))
+  where
+    one : (o : Option (List ℕ)) → option_and_then (λ bytes. option_map (λ more. bytes ∷ more) (Some [])) o ≡ None → o ≡ None
+    one None none = refl
+    one (Some bytes) none = cc
+
+pub one_stray : (told : Option Told) (files : List (List ℕ)) (name : List ℕ) (Says : Type 0) → files ≡ name ∷ [] → IfSome (bytes_under told name) (λ _. Says) → IfSome (all_under told files) (λ _. Says)
+one_stray told files name Says is says = subst (λ names. IfSome (all_under told names) (λ _. Says)) (sym is) (by told says)
+  where
+    found : (o : Option (List ℕ)) → IfSome o (λ _. Says) → IfSome (option_and_then (λ bytes. option_map (λ more. bytes ∷ more) (Some [])) o) (λ _. Says)
+    found None says = tt
+    found (Some bytes) says = says
+
+    by : (o : Option Told) → IfSome (bytes_under o name) (λ _. Says) → IfSome (all_under o (name ∷ [])) (λ _. Says)
+    by None says = tt
+    by (Some t) says = found (find_file name t.names) says
 
 -- `run` asks for no unit
 pub no_unit_asked : (told : Option Told) (words : List (List ℕ)) (steps file : ℕ) → command_of words ≡ Some (Run steps file) → unit_asked told words ≡ None
-no_unit_asked told words steps file is = ap (λ command. option_and_then (file_under told) (option_and_then (slice_get words) (option_and_then merged_position command))) is
+no_unit_asked told words steps file is = ap (λ command. option_and_then (file_under told) (alone (unwrap_or (option_map (λ at. drop at words) (option_and_then merged_position command)) []))) is
 
-pub merge_file_is : (words : List (String Global)) (first : ℕ) (d : String Global) → command_of (map string_bytes words) ≡ Some (Merge first)
+pub merge_file_is : (words : List (String Global)) (common : Bool) (first : ℕ) (d : String Global) → command_of (map string_bytes words) ≡ Some (Merge common first)
     → file_of (map string_bytes words) ≡ Some (string_bytes (get_or words first d))
-merge_file_is words first d is =
-    ap (option_and_then (λ command. slice_get (map string_bytes words) (file_position command))) is ∙ word_at words first d (merge_within words first is)
+merge_file_is words common first d is =
+    ap (option_and_then (λ command. slice_get (map string_bytes words) (file_position command))) is ∙ word_at words first d (merge_within words common first is)
 
 pub run_file_is : (words : List (String Global)) (steps file : ℕ) (d : String Global) → command_of (map string_bytes words) ≡ Some (Run steps file)
     → file_of (map string_bytes words) ≡ Some (string_bytes (get_or words file d))
@@ -119,6 +173,10 @@ steps_asked_is words steps file is = ap (λ command. unwrap_or (option_map bound
 pub if_some_by : {A : Type 0} (asked there : Option A) (P : A → Type 0) → asked ≡ there → IfSome there P → IfSome asked P
 if_some_by asked there P is says = subst (λ o. IfSome o P) (sym is) says
 
+pub run_files_are : (words : List (String Global)) (steps file : ℕ) (d : String Global) → command_of (map string_bytes words) ≡ Some (Run steps file)
+    → files_of (map string_bytes words) ≡ string_bytes (get_or words file d) ∷ []
+run_files_are words steps file d is = ap (files_by (map string_bytes words)) is ∙ ap option_to_list (word_at words file d (run_within words steps file is))
+
 -- what `run` answers, said in terms of the words
 pub asked_run : (idle unread failed : Type 0) (told : Option Told) (words args : List (String Global)) (steps file : ℕ) (d : String Global) (name : List ℕ) (status : Status) (left left' taken taken' : Option (List ℕ))
     → command_of (map string_bytes words) ≡ Some (Run steps file) → name ≡ string_bytes (get_or words file d) → args ≡ drop file words
@@ -142,3 +200,16 @@ run_names told words names status steps at name word command is file same files 
   begin = record { more = []; is = is ∙ (ap (λ t. t ∷ []) same ∙ (sym (ap option_to_list file) ∙ sym (append-nil _))) };
   refused = if_some_by (unit_asked told words) None (λ unit. IfRefused status (λ refusal. IsRefused unit refusal names)) (no_unit_asked told words steps at command) tt;
 }
+
+-- the first of several files names the pool's first name
+pub several_begin : (words : List (String Global)) (common : Bool) (first : ℕ) (names : List (List ℕ)) → command_of (map string_bytes words) ≡ Some (Merge common first)
+    → ((file : List ℕ) (more : List (List ℕ)) → map string_bytes (drop first words) ≡ file ∷ more → Begins (file ∷ []) names) → Begins (names_asked (map string_bytes words)) names
+several_begin words common first names is begins = by (drop first words) refl
+  where
+    by : (rest : List (String Global)) → drop first words ≡ rest → Begins (names_asked (map string_bytes words)) names
+    by [] none = absurd (omega (arith, ap length none, length-drop first words, merge_within words common first is))
+    by (w ∷ ws) some =
+        let same : w ∷ ws ≡ get_or words first w ∷ drop (first + 1) words = sym some ∙ drop_more words first w (merge_within words common first is) in
+        let head : w ≡ get_or words first w = cc in
+        subst (λ ns. Begins ns names) (sym (ap option_to_list (merge_file_is words common first w is) ∙ ap (λ v. string_bytes v ∷ []) (sym head)))
+        (begins (string_bytes w) (map string_bytes ws) (ap (map string_bytes) some))

@@ -1,7 +1,8 @@
 -- Definition: the statuses that each command answers (own).
-use Rattle.std.specs.Prelude.{Option, Some, None}
+use Rattle.std.specs.Prelude.{ℕ, List, length, Option, Some, None}
 use Rattle.cil.specs.Merge.{IsMergeAnswer}
 use Rattle.cil.specs.Execute.{IsRunAnswer}
+use Rattle.cil_words.specs.Command.{command_of, files_of}
 use Rattle.cil_words.specs.declared.command.Command.{Command}
 use Rattle.cil_words.specs.declared.command.Command.TheVariants.{Merge, Run}
 use Rattle.cil_lines.specs.declared.status.Status.{Status}
@@ -12,7 +13,10 @@ IsUsage Usage = Unit {0}
 IsUsage _ = ⊥
 
 -- words that are no command are answered by Usage alone
-abbrev pub IsAnswerTo : Option Command → Status → Type 0
-IsAnswerTo None status = IsUsage status
-IsAnswerTo (Some (Merge first)) status = IsMergeAnswer status
-IsAnswerTo (Some (Run steps file)) status = IsRunAnswer status
+abbrev pub IsAnswerBy : List (List ℕ) → Option Command → Status → Type 0
+IsAnswerBy files None status = IsUsage status
+IsAnswerBy files (Some (Merge common first)) status = IsMergeAnswer (length files) status
+IsAnswerBy files (Some (Run steps file)) status = IsRunAnswer status
+
+abbrev pub IsAnswerTo : List (List ℕ) → Status → Type 0
+IsAnswerTo words status = IsAnswerBy (files_of words) (command_of words) status

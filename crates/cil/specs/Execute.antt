@@ -14,7 +14,7 @@ use Rattle.cil_turns.specs.Ends.{ReadAsNeeded}
 use Rattle.outside.specs.Moves.{WasRead, Wrote}
 use Rattle.outside.specs.Named.{Told}
 use Rattle.cil_words.specs.Command.{run_file}
-use Rattle.cil.specs.Merge.{bytes_under}
+use Rattle.cil_sources.specs.Files.{bytes_under}
 use Rattle.cil_lines.specs.declared.status.Status.{Status}
 use Rattle.cil_lines.specs.declared.status.Status.TheVariants.{Done, Exited, StillRunning, WentUndefined, Usage, Refused, NotCil, ReadFault, WriteFault, Memory}
 

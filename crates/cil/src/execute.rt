@@ -4,15 +4,15 @@ ghost use Rattle.cil_tree.specs.View.{program_of};
 ghost use Rattle.cil_tree.specs.Programs.{IsProgram};
 ghost use Rattle.outside.specs.Counts.{Rose};
 ghost use Rattle.outside.specs.Named.{find_file, names_of};
-ghost use Rattle.cil.specs.Merge.{bytes_under};
+ghost use Rattle.cil_sources.specs.Files.{bytes_under};
 ghost use Rattle.cil.specs.Execute.{IsRunAnswer, RanAs, RunSays};
 ghost use Rattle.cil.specs.RunEnds.{status_by};
 
-use crate::file::read_file;
 use cil_base::NamePool;
 use cil_lines::Status;
 use cil_reader::{ReadStop as TextStop, read};
 use cil_runner::{Machine, RunEnd};
+use cil_sources::read_file;
 use cil_tree::CilUnit;
 use outside::{Files, ReadStop, Sink, Source};
 use std::alloc::Global;

@@ -17,8 +17,6 @@ const SUM_TEXT: &str = "int main ( void ) ;\nint main ( void ) {\n  return ( 2 +
 const USAGE: &str =
     "cil: usage: cil merge FILE... | cil run [--steps N] FILE [ARG...] | cil sample SEED UNITS\n";
 
-const NOT_BUILT: &str = "cil: a.c:1: not built\n";
-
 // A CIL text with a loop, which returns in its first turn.
 const LOOP_TEXT: &str =
     "static int x ;\nint main ( void ) ;\nint main ( void ) {\n  int y ;\n  y = ( x + 1 ) ;\n  while ( 1 ) {\n    return y ;\n  }\n}\n";
@@ -123,7 +121,7 @@ fn owned(alloc: Global, words: &[&str]) -> Result<Vec<String>, Fail> {
     Ok(owned)
 }
 
-// Grammatical units, and the text of the expression that their program returns, or none where they are not of the form.
+// Units whose program is main alone, and the text of the expression that it returns.
 fn units() -> &'static [(&'static [u8], &'static str)] {
     &[
         (b"int main(void) { return 2 + 3; }", "( 2 + 3 )"),
@@ -136,35 +134,125 @@ fn units() -> &'static [(&'static [u8], &'static str)] {
             b"# 7 \"main.c\"\nint /* the\nstart */ main(void)\n{ return 1; // one\n}",
             "1",
         ),
-        (b"int main(void) { return 2147483648; }", ""),
-        (b"int main(void) { return 007; }", ""),
-        (b"int main(void) { return 1 - -1; }", ""),
-        (b"int main(void) { return 1; } int main(void);", ""),
-        (b"# 9 \"other.c\"\nint x;", ""),
-        (b"int f(a, b) int b; { return a; }", ""),
         (
-            b"typedef int T; int main(void) { int r; { int T = 6, x = 7; T * x; r = T * x; } { T * x = 0; return r + (x == 0); } }",
-            "",
+            b"int main(void) { return 2147483648; }",
+            "( ( int ) 2147483648L )",
         ),
+        (b"int main(void) { return 007; }", "7"),
+        (b"int main(void) { return 1 - -1; }", "( 1 - ( - 1 ) )"),
+        (b"int main(void) { return 1; } int main(void);", "1"),
     ]
 }
 
 #[test]
-fn merges_units_of_the_form_and_no_others(rt: HostRuntime) -> Result<(), Fail> {
+fn merges_units_that_are_main_alone(rt: HostRuntime) -> Result<(), Fail> {
     let alloc = rt.alloc();
     for (unit, expression) in units() {
         let answer = answer_to(alloc, &["merge", "a.c"], unit, &[], &[], &[])?;
         let text = format!(in alloc;
             "int main ( void ) ;\nint main ( void ) {{\n  return {expression} ;\n}}\n"
         )?;
-        let (status, written, told) = if expression.is_empty() {
-            (65, "", NOT_BUILT)
-        } else {
-            (0, text.as_str(), "")
-        };
-        assert_eq!(rt; answer.status, status, "{unit:?}");
-        assert_eq!(rt; answer.written.as_slice(), written.as_bytes(), "{unit:?}");
-        assert_eq!(rt; answer.told.as_slice(), told.as_bytes(), "{unit:?}");
+        assert_eq!(rt; answer.status, 0, "{unit:?}");
+        assert_eq!(rt; answer.written.as_slice(), text.as_bytes(), "{unit:?}");
+        assert_eq!(rt; answer.told.as_slice(), b"".as_slice(), "{unit:?}");
+    }
+    Ok(())
+}
+
+// Files of several units, the words behind `merge`, and what is answered: the status, what is written and what is told.
+#[derive(Clone, Copy, Debug)]
+struct Merge {
+    files: &'static [(&'static str, &'static [u8])],
+    words: &'static [&'static str],
+    status: u8,
+    written: &'static str,
+    told: &'static str,
+}
+
+const MERGES: [Merge; 6] = [
+    Merge {
+        files: &[
+            ("a.c", b"static int n = 1; int f(void) { return n; }"),
+            (
+                "b.c",
+                b"int f(void); static int n; int main(void) { return f() + n; }",
+            ),
+        ],
+        words: &["merge", "a.c", "b.c"],
+        status: 0,
+        written: "static int n ;\nint f ( void ) ;\nstatic int n___0 ;\nint main ( void ) ;\nstatic int n = 1 ;\nint f ( void ) {\n  return n ;\n}\nint main ( void ) {\n  int __t___0 ;\n  __t___0 = f ( ) ;\n  return ( __t___0 + n___0 ) ;\n}\n",
+        told: "",
+    },
+    Merge {
+        files: &[("a.c", b"int n = 1;"), ("b.c", b"int m;\nint n = 1;")],
+        words: &["merge", "a.c", "b.c"],
+        status: 65,
+        written: "",
+        told: "cil: b.c:2: duplicate definition, other at a.c:1\n",
+    },
+    Merge {
+        files: &[("a.c", b"int n;"), ("b.c", b"int n;")],
+        words: &["merge", "--common", "a.c", "b.c"],
+        status: 0,
+        written: "extern int n ;\nint n ;\n",
+        told: "",
+    },
+    Merge {
+        files: &[
+            ("a.c", b"struct s { int a; }; extern struct s *p;"),
+            ("b.c", b"struct s { long a; };\nstruct s *p;"),
+        ],
+        words: &["merge", "a.c", "b.c"],
+        status: 65,
+        written: "",
+        told: "cil: b.c:2: incompatible declaration, other at a.c:1\n",
+    },
+    Merge {
+        files: &[("a.c", b"int a;"), ("b.c", b"int f(void) {\n return y; }")],
+        words: &["merge", "a.c", "b.c"],
+        status: 65,
+        written: "",
+        told: "cil: b.c:2: constraint: undeclared\n",
+    },
+    Merge {
+        files: &[("a.c", b"int 08;"), ("b.c", b"")],
+        words: &["merge", "a.c", "c.c"],
+        status: 74,
+        written: "",
+        told: "cil: read fault\n",
+    },
+];
+
+// What a merge answers over its files.
+fn answer_to_merge(alloc: Global, row: &Merge) -> Result<Answer, Fail> {
+    let words = owned(alloc, row.words)?;
+    let mut there = Vec::new(alloc);
+    for (name, bytes) in row.files {
+        there.push((
+            String::from_str(alloc, name)?,
+            Vec::from_slice(alloc, bytes)?,
+        ))?;
+    }
+    let mut files = MemFiles::new(there, Vec::new(alloc));
+    let mut input = MemSource::new(Vec::new(alloc), 1, Vec::new(alloc));
+    let mut out = MemSink::new(alloc, 10, 4096, Vec::new(alloc))?;
+    let mut err = MemSink::new(alloc, 5, 4096, Vec::new(alloc))?;
+    let status = cil(alloc, &words, &mut files, &mut input, &mut out, &mut err);
+    Ok(Answer {
+        status: status.code(),
+        written: Vec::from_slice(alloc, out.taken())?,
+        told: Vec::from_slice(alloc, err.taken())?,
+    })
+}
+
+#[test]
+fn merges_several_units(rt: HostRuntime) -> Result<(), Fail> {
+    let alloc = rt.alloc();
+    for row in &MERGES {
+        let answer = answer_to_merge(alloc, row)?;
+        assert_eq!(rt; answer.status, row.status);
+        assert_eq!(rt; answer.written.as_slice(), row.written.as_bytes());
+        assert_eq!(rt; answer.told.as_slice(), row.told.as_bytes());
     }
     Ok(())
 }
@@ -238,7 +326,8 @@ fn tells_a_unit_that_is_too_high(rt: HostRuntime) -> Result<(), Fail> {
     Ok(())
 }
 
-// Units with a token that is refused, and the line that tells it: each of what is excluded, then lexical faults, and the first of several.
+// Units with a token that is refused, and the line that tells it: each of what is excluded, then lexical faults, and the first of several;
+// then units that are refused behind their grammar.
 fn refused_units() -> &'static [(&'static [u8], &'static str)] {
     &[
         (b"double x;", "a.c:1: excluded: floating"),
@@ -301,11 +390,20 @@ fn refused_units() -> &'static [(&'static [u8], &'static str)] {
         (b"# 3 \"q\\\"b\\\\.h\"\n@", "q\"b\\.h:3: lexical fault"),
         (b"double 08;", "a.c:1: excluded: floating"),
         (b"08 double;", "a.c:1: lexical fault"),
+        (
+            b"int f(a, b) int b; { return a; }",
+            "a.c:1: excluded: identifier list",
+        ),
+        (
+            b"int f(void) {\n return y; }",
+            "a.c:2: constraint: undeclared",
+        ),
+        (b"char a[2147483648];", "a.c:1: limit: object size"),
     ]
 }
 
 #[test]
-fn tells_the_first_token_that_is_refused(rt: HostRuntime) -> Result<(), Fail> {
+fn tells_the_first_fault(rt: HostRuntime) -> Result<(), Fail> {
     let alloc = rt.alloc();
     for (unit, told) in refused_units() {
         let answer = answer_to(alloc, &["merge", "a.c"], unit, &[], &[], &[])?;
@@ -410,7 +508,8 @@ fn no_commands() -> &'static [&'static [&'static str]] {
         &["merge"],
         &["merge", ""],
         &["merge", "-x"],
-        &["merge", "a.c", "a.c"],
+        &["merge", "--common"],
+        &["merge", "a.c", "-x"],
         &["run"],
         &["run", "-p"],
         &["run", "--steps", "0", "p"],

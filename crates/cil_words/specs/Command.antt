@@ -1,7 +1,7 @@
 -- Definition: which words are a command (own).
-use Rattle.std.specs.Prelude.{ℕ, ◌-◌, ◌^◌, Bool, false, not, ◌==◌, ◌&&◌, nat_lt, nat_le, List, [], ◌∷◌, length, drop, codes, decimal, Option, Some, None, slice_get, unwrap_or, if◌then◌else◌}
+use Rattle.std.specs.Prelude.{ℕ, ◌-◌, ◌^◌, Bool, true, false, not, ◌==◌, ◌&&◌, nat_lt, nat_le, List, [], ◌∷◌, length, drop, codes, decimal, Option, Some, None, slice_get, unwrap_or, if◌then◌else◌}
 use Rattle.std.specs.List.{list_any, list_all}
-use Rattle.std.specs.Option.{option_map, option_and_then}
+use Rattle.std.specs.Option.{option_map, option_and_then, option_to_list}
 use Rattle.std.specs.Str.{bytes_eq}
 use Rattle.std.specs.Str.Parse.{digits_value}
 use Rattle.cil_words.specs.declared.command.Command.{Command}
@@ -30,10 +30,14 @@ bound_up_to most word =
 abbrev pub steps_of : List ℕ → Option ℕ
 steps_of word = bound_up_to 1000000000000 word
 
--- behind `merge`: FILE
+-- 1 to 1,024 words that name files
+abbrev pub are_files : List (List ℕ) → Bool
+are_files words = (nat_le 1 (length words) && nat_le (length words) 1024) && list_all names_file words
+
+-- behind `merge`: FILE..., or --common and the same
 abbrev pub merge_of : List ℕ → List (List ℕ) → Option Command
-merge_of file [] = if names_file file then Some (Merge 1) else None
-merge_of file (word ∷ words) = None
+merge_of word words =
+    if bytes_eq word (codes "--common") then (if are_files words then Some (Merge true 2) else None) else (if are_files (word ∷ words) then Some (Merge false 1) else None)
 
 -- behind `run --steps`: N FILE ARG..., of which the arguments are any words
 abbrev pub run_bounded_of : List (List ℕ) → Option Command
@@ -57,31 +61,55 @@ command_of words = if are_words words then command_in words else None
 
 -- the position of the first file of a command
 abbrev pub file_position : Command → ℕ
-file_position (Merge first) = first
+file_position (Merge common first) = first
 file_position (Run steps file) = file
 
--- the position of the file that is to be merged, or run
+-- the position of the first file that is to be merged, and of the file that is to be run
 abbrev pub merged_position : Command → Option ℕ
-merged_position (Merge first) = Some first
+merged_position (Merge common first) = Some first
 merged_position (Run steps file) = None
 
 abbrev pub run_position : Command → Option ℕ
-run_position (Merge first) = None
+run_position (Merge common first) = None
 run_position (Run steps file) = Some file
 
--- the word that names the first file of the command, the file to be merged, and the file to be run
+-- the word that names the first file of the command, and the file to be run
 abbrev pub file_of : List (List ℕ) → Option (List ℕ)
 file_of words = option_and_then (λ command. slice_get words (file_position command)) (command_of words)
-
-abbrev pub merged_file : List (List ℕ) → Option (List ℕ)
-merged_file words = option_and_then (slice_get words) (option_and_then merged_position (command_of words))
 
 abbrev pub run_file : List (List ℕ) → Option (List ℕ)
 run_file words = option_and_then (slice_get words) (option_and_then run_position (command_of words))
 
+-- the words that name the files to be merged
+abbrev pub merged_files : List (List ℕ) → List (List ℕ)
+merged_files words = unwrap_or (option_map (λ at. drop at words) (option_and_then merged_position (command_of words))) []
+
+-- the one of one
+abbrev pub alone : List (List ℕ) → Option (List ℕ)
+alone (name ∷ []) = Some name
+alone _ = None
+
+-- the file to be merged, where there is one alone
+abbrev pub merged_file : List (List ℕ) → Option (List ℕ)
+merged_file words = alone (merged_files words)
+
+-- the files that the command reads
+abbrev pub files_by : List (List ℕ) → Option Command → List (List ℕ)
+files_by words None = []
+files_by words (Some (Merge common first)) = drop first words
+files_by words (Some (Run steps file)) = option_to_list (slice_get words file)
+
+abbrev pub files_of : List (List ℕ) → List (List ℕ)
+files_of words = files_by words (command_of words)
+
+-- whether tentative definitions of several units are one object in the merge that the words ask for
+abbrev pub is_common : Command → Bool
+is_common (Merge common first) = common
+is_common (Run steps file) = false
+
 -- the bound on the steps of the run that the words ask for
 abbrev pub bound_of : Command → ℕ
-bound_of (Merge first) = 0
+bound_of (Merge common first) = 0
 bound_of (Run steps file) = steps
 
 abbrev pub steps_asked : List (List ℕ) → ℕ

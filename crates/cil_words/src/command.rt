@@ -8,11 +8,15 @@ use itoa::Buffer;
 /// What the words of the command line ask for.
 #[derive(Clone, Copy, Debug, PartialEq, Eq)]
 pub enum Command {
-    /// `merge FILE`: the position of the first file among the words.
-    Merge { first: u32 },
+    /// `merge [--common] FILE...`: whether tentative definitions of several units are one object, and the position of the first file
+    /// among the words, from which all are files.
+    Merge { common: bool, first: u32 },
     /// `run [--steps N] FILE [ARG...]`: the bound on steps, and the position of the file among the words.
     Run { steps: u64, file: u32 },
 }
+
+/// The greatest number of files of a merge.
+const MOST_FILES: usize = 1024;
 
 /// The bound on the steps of a run where the words give none.
 const STEPS: u64 = 10_000_000;
@@ -46,19 +50,38 @@ fn named_command(name: &str, word: &String, rest: &[String]) -> Option<Command>
     }
 }
 
-fn merge_command(file: &String, rest: &[String]) -> Option<Command>
-    ensures { result ≡ merge_of (string_bytes file.now) (map string_bytes rest.now) }
+fn merge_command(word: &String, rest: &[String]) -> Option<Command>
+    ensures { result ≡ merge_of (string_bytes word.now) (map string_bytes rest.now) }
 {
-    match rest {
-        [] => {
-            if is_file_name(file.as_bytes()) {
-                Some(Command::Merge { first: 1 })
-            } else {
-                None
-            }
+    if word.as_str() == "--common" {
+        if rest.len() >= 1 && rest.len() <= MOST_FILES && name_files(rest) {
+            Some(Command::Merge {
+                common: true,
+                first: 2,
+            })
+        } else {
+            None
         }
-        _ => None,
+    } else if rest.len() < MOST_FILES && is_file_name(word.as_bytes()) && name_files(rest) {
+        Some(Command::Merge {
+            common: false,
+            first: 1,
+        })
+    } else {
+        None
     }
+}
+
+// Whether each word can name a file.
+fn name_files(words: &[String]) -> bool
+    ensures { result ≡ list_all names_file (map string_bytes words.now) }
+{
+    for word in words {
+        if !is_file_name(word.as_bytes()) {
+            return false;
+        }
+    }
+    true
 }
 
 fn run_command(word: &String, rest: &[String]) -> Option<Command>

@@ -2,7 +2,7 @@ use Rattle.std.proofs.Common.{◌≡◌, ◌≢◌, Ok, Err, map, sym, subst, If
 use Rattle.std.specs.String.{string_bytes}
 use Rattle.outside.specs.Counts.{Rose}
 use Rattle.outside.specs.declared.transfer.ReadStop.TheVariants.{Failed}
-use Rattle.cil.specs.Merge.{bytes_under, IsFrontOf}
+use Rattle.cil_sources.specs.Files.{bytes_under, IsFrontOf}
 use Rattle.cil.proofs.LongTexts.{says_file}
 use Rattle.cil.proofs.execute.execute.Goals as goal
 

@@ -1,10 +1,10 @@
-use Rattle.cil.specs.Merge.{bytes_under}
+use Rattle.cil_sources.specs.Files.{bytes_under}
 use Rattle.cil.proofs.Units.{begun_names, merge_refused}
 use Rattle.cil.proofs.merge.merge.Goals as goal
 
 pub returns-in-Ok-read_file-clause-names : goal.returns-in-Ok-read_file-clause-names
 returns-in-Ok-read_file-clause-names g c = λ known.
-    begun_names c.args.names.now c.intern.new.self c.merge_unit.new.names c.args.name.now c.as_bytes.result.now _ c.requires c.as_bytes.ensures.value c.in-Ok.ensures.ok c.merge_unit.ensures.pool
+    begun_names c.args.names.now c.intern.new.self c.merge_unit.new.names c.args.name.now c.as_bytes.result.now _ c.requires c.as_bytes.ensures.value c.in-Ok.ensures.ok (c.merge_unit.ensures.pool known)
 
 pub returns-in-Ok-read_file-clause-refused : goal.returns-in-Ok-read_file-clause-refused
 returns-in-Ok-read_file-clause-refused g c =

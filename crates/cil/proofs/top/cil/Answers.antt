@@ -4,7 +4,7 @@ use Rattle.std.specs.String.{string_bytes}
 use Rattle.outside.specs.Counts.{Rose}
 use Rattle.cil_words.specs.Command.{bound_of, run_file, words_given, steps_asked}
 use Rattle.cil.specs.Execute.{text_asked}
-use Rattle.cil.specs.Merge.{bytes_under}
+use Rattle.cil_sources.specs.Files.{bytes_under}
 use Rattle.cil_lines.specs.Sent.{Sent}
 use Rattle.cil.proofs.Answered.{line_by}
 use Rattle.cil.proofs.Ran.{runs_asked, answers_by, not_cil_asked}

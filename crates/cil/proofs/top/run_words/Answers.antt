@@ -1,11 +1,10 @@
-use Rattle.std.proofs.Common.{◌∙◌, ap, sym, map, get_or, length}
-use Rattle.std.specs.Option.{option_and_then}
+use Rattle.std.proofs.Common.{◌≡◌, ◌∷◌, [], ◌⊎◌, ◌∙◌, ap, sym, map, get_or, length, arith, rules}
 use Rattle.std.proofs.lemmas.List.{take_rest}
 use Rattle.std.specs.String.{string_bytes}
-use Rattle.cil_words.specs.Command.{file_of}
-use Rattle.cil.specs.Merge.{bytes_under}
+use Rattle.cil_words.specs.Command.{files_of}
+use Rattle.cil_lines.specs.declared.status.Status.TheVariants.{ReadFault, Memory}
 use Rattle.cil.proofs.Ran.{run_kind, run_files, read_failed}
-use Rattle.cil.proofs.Words.{run_file_is, run_is_asked, asked_run, if_some_by, run_names}
+use Rattle.cil.proofs.Words.{run_within, run_file_is, run_files_are, run_is_asked, asked_run, one_missing, one_stray, run_names}
 use Rattle.cil.proofs.top.run_words.Goals as goal
 
 pub returns-clause-kind : goal.returns-clause-kind
@@ -31,11 +30,25 @@ returns-clause-named g c = run_is_asked c.args.words.now c.args.steps c.args.fil
 pub returns-clause-read : goal.returns-clause-read
 returns-clause-read g c = read_failed _ _ _ _ _ _ _ _ c.execute.result _ _ _ _ c.execute.ensures.says (returns-clause-named g c)
 
+pub returns-clause-missing : goal.returns-clause-missing
+returns-clause-missing g c =
+    one_missing (g.F.Files.told c.args.files.now) (files_of (map string_bytes c.args.words.now)) c.as_str.result.now ((c.execute.result ≡ ReadFault) ⊎ (c.execute.result ≡ Memory))
+    (run_files_are c.args.words.now c.args.steps c.args.file c.index-words-file.result c.requires.command ∙ ap (λ name. name ∷ []) (sym (c.as_str.ensures.value ∙ ap string_bytes c.index-words-file.is)))
+    c.execute.ensures.missing
+
 pub returns-clause-strays : goal.returns-clause-strays
 returns-clause-strays g c =
-    if_some_by (option_and_then (bytes_under (g.F.Files.told c.args.files.now)) (file_of (map string_bytes c.args.words.now)))
-    (bytes_under (g.F.Files.told c.args.files.now) c.as_str.result.now) _
-    (ap (option_and_then (bytes_under (g.F.Files.told c.args.files.now)))
-    (run_file_is c.args.words.now c.args.steps c.args.file c.index-words-file.result c.requires.command)
-    ∙ ap (λ name. bytes_under (g.F.Files.told c.args.files.now) name) (sym (c.as_str.ensures.value ∙ ap string_bytes c.index-words-file.is)))
+    one_stray (g.F.Files.told c.args.files.now) (files_of (map string_bytes c.args.words.now)) c.as_str.result.now (g.F.Files.strays c.execute.new.files ≡ g.F.Files.strays c.args.files.now)
+    (run_files_are c.args.words.now c.args.steps c.args.file c.index-words-file.result c.requires.command ∙ ap (λ name. name ∷ []) (sym (c.as_str.ensures.value ∙ ap string_bytes c.index-words-file.is)))
     c.execute.ensures.strays
+
+pub slice_bounds-args-count : goal.slice_bounds-args-count
+slice_bounds-args-count g c = omega (arith, run_within c.args.words.now c.args.steps c.args.file c.requires.command)
+
+pub slice_bounds-args-start : goal.slice_bounds-args-start
+slice_bounds-args-start g c =
+    let within = run_within c.args.words.now c.args.steps c.args.file c.requires.command in
+    search rules
+
+pub bounds-words-file : goal.bounds-words-file
+bounds-words-file g c = run_within c.args.words.now c.args.steps c.args.file c.requires.command

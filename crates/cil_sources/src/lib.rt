@@ -1,0 +1,16 @@
+//! The translation units of a merge, as they are read from files.
+//!
+//! Its public contract says which bytes are kept, and which limit the first unit that is not kept passes; every file is read, also
+//! those behind it, and no file is opened behind a call that failed.
+//!
+//! The limits are own.
+#![tactic(auto)]
+
+mod file;
+mod sources;
+
+pub use file::read_file;
+pub use sources::{Sources, read_units};
+
+#[cfg(test)]
+mod tests;

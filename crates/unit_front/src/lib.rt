@@ -1,0 +1,9 @@
+//! A translation unit from its bytes to a CIL program.
+//!
+//! Its tokens are read (C11 6.4), its external declarations (6.9), the types and conversions of its expressions (6.3, 6.5), and its
+//! functions and objects become those of a CIL program.
+#![tactic(auto)]
+
+mod units;
+
+pub use units::{front, parsed_front};

@@ -1,0 +1,173 @@
+ghost use Rattle.std.specs.Prelude.{length, IfOk};
+ghost use Rattle.c_lexer.specs.Lexed.{IfRefused};
+ghost use Rattle.cil_tree.specs.Tree.{Program};
+ghost use Rattle.cil_tree.specs.Programs.{IsTextOf};
+ghost use Rattle.unit_merger.specs.Refusals.{IsUnitRefusal, IsMergeRefusal, KeepsFirst};
+
+use crate::pool::{begins, first_name};
+use crate::refusals::{impossible, of_first, of_units};
+use c_lexer::Tokens;
+use c_tree::Unit;
+use cil_base::{Abi, Bytes, Fault, Mode, NameId, NamePool, Place, Refusal, Stop, UnitNo, What};
+use cil_check::check;
+use cil_merge::merge;
+use cil_printer::{PrintStop, print};
+use cil_sources::Sources;
+use cil_tree::CilUnit;
+use link_names::Fronted;
+use std::alloc::Global;
+use unit_front::{front, parsed_front};
+
+/// The text of the CIL program that a translation unit, of these tokens, becomes. Own.
+#[tactic(auto, using(crate::proofs::Firsts::keeps_first))]
+pub fn unit_text(
+    alloc: Global,
+    unit: &Unit,
+    tokens: &Tokens<'_>,
+    names: &mut NamePool,
+) -> Result<Bytes, Stop>
+    ensures text { IfOk result (λ b. (p : Program) × IsTextOf b p) }
+    ensures refused { IfRefused result (IsUnitRefusal (length names.new)) }
+    ensures first { KeepsFirst result names.old names.new }
+{
+    let first = first_name(alloc, names)?;
+    let end = text_of_unit(alloc, unit, tokens, names);
+    if !begins(names, &first) {
+        return Err(impossible());
+    }
+    match end {
+        Ok(text) => Ok(text),
+        Err(Stop::Refused(refusal)) => Err(of_first(refusal, names)),
+        Err(Stop::Memory) => Err(Stop::Memory),
+    }
+}
+
+/// The text of the CIL program that translation units of these files become, whose tentative definitions of one name are one object
+/// where they are common. Own.
+#[tactic(auto, using(crate::proofs::Firsts::keeps_first))]
+pub fn units_text(
+    alloc: Global,
+    sources: &Sources,
+    files: &[String],
+    common: bool,
+    names: &mut NamePool,
+) -> Result<Bytes, Stop>
+    ensures text { IfOk result (λ b. (p : Program) × IsTextOf b p) }
+    ensures refused { IfRefused result (IsMergeRefusal (length files.now) (length names.new)) }
+    ensures first { KeepsFirst result names.old names.new }
+{
+    let first = first_name(alloc, names)?;
+    let end = text_of_units(alloc, sources, files, common, names);
+    if !begins(names, &first) {
+        return Err(impossible());
+    }
+    match end {
+        Ok(text) => Ok(text),
+        Err(Stop::Refused(refusal)) => Err(of_units(refusal, files.len(), names)),
+        Err(Stop::Memory) => Err(Stop::Memory),
+    }
+}
+
+/// The text of the program that one unit becomes.
+fn text_of_unit(
+    alloc: Global,
+    unit: &Unit,
+    tokens: &Tokens<'_>,
+    names: &mut NamePool,
+) -> Result<Bytes, Stop>
+    ensures { IfOk result (λ b. (p : Program) × IsTextOf b p) }
+{
+    let mode = Mode {
+        common: false,
+        abi: Abi::Lp64,
+    };
+    let fronted = parsed_front(alloc, unit, tokens, names, mode.abi)?;
+    let mut units = Vec::new(alloc);
+    units.push(fronted)?;
+    let program = merge(alloc, units, names, mode)?;
+    text_of(&program, names)
+}
+
+/// The text of the program that units of these files become.
+fn text_of_units(
+    alloc: Global,
+    sources: &Sources,
+    files: &[String],
+    common: bool,
+    names: &mut NamePool,
+) -> Result<Bytes, Stop>
+    ensures { IfOk result (λ b. (p : Program) × IsTextOf b p) }
+{
+    let mode = Mode {
+        common,
+        abi: Abi::Lp64,
+    };
+    let units = fronted(alloc, sources, files, names, mode)?;
+    let program = merge(alloc, units, names, mode)?;
+    text_of(&program, names)
+}
+
+/// Each unit as a CIL program; it is refused at the first unit that has a fault.
+fn fronted(
+    alloc: Global,
+    sources: &Sources,
+    files: &[String],
+    names: &mut NamePool,
+    mode: Mode,
+) -> Result<Vec<Fronted>, Stop> {
+    let mut done = Vec::new(alloc);
+    for i in 0..sources.units.len() {
+        let (unit, file) = named(i, files, names)?;
+        let fronted = front(
+            alloc,
+            sources.units[i].as_slice(),
+            unit,
+            file,
+            names,
+            mode.abi,
+        )?;
+        done.push(fronted)?;
+    }
+    if let Some(limit) = sources.over {
+        let (unit, file) = named(sources.units.len(), files, names)?;
+        return Err(limit_of(limit, unit, file));
+    }
+    Ok(done)
+}
+
+/// The number of a unit, and the number of its file's name.
+fn named(i: usize, files: &[String], names: &mut NamePool) -> Result<(UnitNo, NameId), Stop> {
+    if i >= files.len() || i >= u32::MAX as usize {
+        return Err(impossible());
+    }
+    let file = names.intern(files[i].as_bytes())?;
+    Ok((UnitNo(i as u32), file))
+}
+
+/// The refusal of a unit that passes a limit.
+fn limit_of(limit: What, unit: UnitNo, file: NameId) -> Stop {
+    Stop::Refused(Refusal {
+        fault: Fault::Limit(limit),
+        at: Place {
+            unit,
+            token: 0,
+            file,
+            line: 1,
+        },
+        other: None,
+    })
+}
+
+/// The text of a program, which is looked at before it is printed.
+fn text_of(program: &CilUnit, names: &NamePool) -> Result<Bytes, Stop>
+    ensures { IfOk result (λ b. (p : Program) × IsTextOf b p) }
+{
+    if !check(program, names)? {
+        return Err(impossible());
+    }
+    match print(program, names) {
+        Ok(text) => Ok(text),
+        Err(PrintStop::TooLong) => Err(limit_of(What::PrintedBytes, UnitNo(0), NameId(0))),
+        Err(PrintStop::Memory) => Err(Stop::Memory),
+    }
+}
