@@ -35,7 +35,9 @@ fn with_int(alloc: Global) -> Result<FunctionOut, Memory> {
 
 /// Lowers `2 + 3`.
 fn lower_sum(alloc: Global, f: &mut FunctionOut) -> Result<Lowered, Memory> {
-    let int = f.unit.types[0];
+    let Some(int) = f.unit.types.first().copied() else {
+        return Err(Memory);
+    };
     let left = integer(alloc, int, 2)?;
     let right = integer(alloc, int, 3)?;
     let e = binary(alloc, int, BinOp::Add, left, right)?;
