@@ -3,7 +3,7 @@
 PREFIX = /usr/local
 PROGRAM = crates/cil/out/cil
 
-.PHONY: try first test install check-docs bench bench-lex bench-parse bench-run bench-types bench-memory bench-text program
+.PHONY: try first test install check-docs check-program bench bench-lex bench-parse bench-check bench-lower bench-merge bench-run bench-types bench-memory bench-text program
 
 # Proves the program and builds it, the libraries that it stands on first.
 program:
@@ -29,9 +29,16 @@ test:
 install: program
 	install -D -m 755 $(PROGRAM) $(DESTDIR)$(PREFIX)/bin/cil
 	install -D -m 644 docs/cil.1 $(DESTDIR)$(PREFIX)/share/man/man1/cil.1
+	install -d $(DESTDIR)$(PREFIX)/share/cil/include $(DESTDIR)$(PREFIX)/share/cil/lib
+	install -m 644 include/*.h $(DESTDIR)$(PREFIX)/share/cil/include
+	install -m 644 lib/*.c $(DESTDIR)$(PREFIX)/share/cil/lib
 
 check-docs:
 	scripts/check-docs
+
+# Merges, runs and merges again an example with the C library of lib/, and compares each step with gcc.
+check-program: program
+	scripts/check-program $(PROGRAM)
 
 bench: program
 	bench/thin.sh $(PROGRAM)
@@ -41,6 +48,15 @@ bench-lex: program
 
 bench-parse: program
 	bench/parse.sh $(PROGRAM)
+
+bench-merge: program
+	bench/merge.sh $(PROGRAM)
+
+bench-check: program
+	bench/check.sh $(PROGRAM)
+
+bench-lower: program
+	bench/lower.sh $(PROGRAM)
 
 bench-run: program
 	bench/run.sh $(PROGRAM)

@@ -1,5 +1,5 @@
 # What a merge of a preprocessed unit costs beside gcc -fsyntax-only, and how it grows: instruction counts by callgrind, and peak memory,
-# at 1, 2 and 4 MiB. Read by lex.sh and parse.sh. Needs python3, gcc, valgrind and GNU time.
+# at 1, 2 and 4 MiB. Read by lex.sh, parse.sh and check.sh. Needs python3, gcc, valgrind and GNU time.
 
 # The instructions of a command and of the processes that it starts.
 instructions() {
@@ -9,9 +9,9 @@ instructions() {
 
 # Compares the program with gcc. NAME: who complains; PROGRAM; FRONT and BEHIND: what is put in front of the unit that gcc reads, and
 # behind it; TOLD: how the line on standard error ends, by which it is seen that the program went so far and no further; the most
-# instructions for each of gcc's, and bytes of memory for each byte of the unit.
+# instructions for each of gcc's, and bytes of memory for each byte of the unit; and what the unit is made of, as unit.py has it.
 beside() {
-    name=$1 program=$2 front=$3 behind=$4 told=$5 most=$6 bytes=$7
+    name=$1 program=$2 front=$3 behind=$4 told=$5 most=$6 bytes=$7 kind=${8:-mixed}
     folder=$(mktemp -d) || return 1
     trap 'rm -rf "$folder"' EXIT
     status=0
@@ -19,9 +19,9 @@ beside() {
     before=0
     for mib in 1 2 4; do
         theirs=$folder/gcc-$mib.c unit=$folder/unit-$mib.c
-        "$(dirname "$0")/unit.py" $mib >"$theirs" || return 1
+        "$(dirname "$0")/unit.py" $mib "$kind" >"$theirs" || return 1
         gcc -std=c11 -fsyntax-only "$theirs" || return 1
-        { printf '%s' "$front" && cat "$theirs" && printf '%s' "$behind"; } >"$unit"
+        { printf '%s\n' "$front" && cat "$theirs" && printf '%s' "$behind"; } >"$unit"
         line=$("$program" merge "$unit" 2>&1 >/dev/null)
         case $line in
         *": $told") ;;

@@ -1,8 +1,8 @@
 struct text_buffer {
     char *bytes;
     size_t used, room;
-    unsigned failed : 1;
-    unsigned borrowed : 1;
+    unsigned failed;
+    unsigned borrowed;
 };
 
 static const char text_digits[] = "0123456789abcdef";

@@ -1,10 +1,14 @@
-use crate::conversions::{Pair, both_converted, both_values, promoted, value_of};
+ghost use Rattle.std.specs.Prelude.{◌≡◌, true, IfSome, IfErr};
+ghost use Rattle.cast_rules.specs.Refusals.{IsRefusal, of_operator};
+
+use crate::conversions::{Pair, both_converted, both_values, promoted, promoted_value, value_of};
 use crate::operands::{
     Operand, is_arithmetic, is_incomplete, is_object, is_scalar, is_unreadable, operand_sort,
 };
 use crate::pairings::{Meeting, Pairing, meeting_of, meeting_type, paired};
 use crate::stops::{allowed, impossible, made};
 use cil_base::{BinOp, Code, IntKind, RuleStop, TypeId, UnOp};
+use layout_lp64::LayoutStop;
 use std::alloc::Global;
 use type_graph::QualType;
 use typed_tree::{Logic, TypedExp};
@@ -48,7 +52,9 @@ fn is_no_operand(op: UnOp, e: &Operand, t: &Types) -> bool {
 }
 
 /// The first constraint that a unary operator violates, if there is one.
-fn fault_unary(op: UnOp, e: &Operand, t: &Types) -> Option<Code> {
+fn fault_unary(op: UnOp, e: &Operand, t: &Types) -> Option<Code>
+    ensures { IfSome result (λ code. of_operator code ≡ true) }
+{
     if is_unreadable(e, t) {
         Some(Code::Incomplete)
     } else if is_no_operand(op, e, t) {
@@ -59,16 +65,24 @@ fn fault_unary(op: UnOp, e: &Operand, t: &Types) -> Option<Code> {
 }
 
 /// `+ e` (C11 6.5.3.3p2): the promoted value, without a node of its own.
-pub fn plus(alloc: Global, e: Operand, t: &mut Types) -> Result<TypedExp, RuleStop> {
+pub fn plus(alloc: Global, e: Operand, t: &mut Types) -> Result<TypedExp, RuleStop>
+    ensures { IfErr result (IsRefusal of_operator) }
+{
     allowed(fault_unary(UnOp::Neg, &e, t))?;
-    let e = value_of(alloc, e.exp, t)?;
-    promoted(alloc, e, t)
+    made(promoted_value(alloc, e.exp, t))
 }
 
 /// `- e`, `~ e` and `! e` (C11 6.5.3.3).
-pub fn unary(alloc: Global, op: UnOp, e: Operand, t: &mut Types) -> Result<TypedExp, RuleStop> {
+pub fn unary(alloc: Global, op: UnOp, e: Operand, t: &mut Types) -> Result<TypedExp, RuleStop>
+    ensures { IfErr result (IsRefusal of_operator) }
+{
     allowed(fault_unary(op, &e, t))?;
-    let e = value_of(alloc, e.exp, t)?;
+    made(unary_node(alloc, op, e.exp, t))
+}
+
+/// The node of `- e`, `~ e` and `! e`.
+fn unary_node(alloc: Global, op: UnOp, e: TypedExp, t: &mut Types) -> Result<TypedExp, LayoutStop> {
+    let e = value_of(alloc, e, t)?;
     match op {
         UnOp::Neg | UnOp::Compl => computed(alloc, op, e, t),
         UnOp::Not => negated(alloc, e, t),
@@ -76,15 +90,15 @@ pub fn unary(alloc: Global, op: UnOp, e: Operand, t: &mut Types) -> Result<Typed
 }
 
 /// `- e` and `~ e` of a value: in the promoted type.
-fn computed(alloc: Global, op: UnOp, e: TypedExp, t: &mut Types) -> Result<TypedExp, RuleStop> {
+fn computed(alloc: Global, op: UnOp, e: TypedExp, t: &mut Types) -> Result<TypedExp, LayoutStop> {
     let e = promoted(alloc, e, t)?;
     let of = e.ty().of;
     Ok(typed_tree::unary(alloc, of, op, e)?)
 }
 
 /// `! e` of a value: an int (C11 6.5.3.3p5).
-fn negated(alloc: Global, e: TypedExp, t: &mut Types) -> Result<TypedExp, RuleStop> {
-    let int = made(t.int(IntKind::Int))?;
+fn negated(alloc: Global, e: TypedExp, t: &mut Types) -> Result<TypedExp, LayoutStop> {
+    let int = t.int(IntKind::Int)?;
     Ok(typed_tree::unary(alloc, int, UnOp::Not, e)?)
 }
 
@@ -164,7 +178,9 @@ fn meet(op: BinOp, a: &Operand, b: &Operand, t: &Types) -> bool {
 }
 
 /// The first constraint that a binary operator violates, if there is one.
-fn fault_binary(op: BinOp, a: &Operand, b: &Operand, t: &Types) -> Option<Code> {
+fn fault_binary(op: BinOp, a: &Operand, b: &Operand, t: &Types) -> Option<Code>
+    ensures { IfSome result (λ code. of_operator code ≡ true) }
+{
     if is_unreadable(a, t) || is_unreadable(b, t) || steps_over_incomplete(op, paired(a, b, t), t) {
         Some(Code::Incomplete)
     } else if !are_operands(op, a, b, t) {
@@ -181,11 +197,26 @@ pub fn binary(
     a: Operand,
     b: Operand,
     t: &mut Types,
-) -> Result<TypedExp, RuleStop> {
+) -> Result<TypedExp, RuleStop>
+    ensures { IfErr result (IsRefusal of_operator) }
+{
     allowed(fault_binary(op, &a, &b, t))?;
     let pairing = paired(&a, &b, t);
     let meeting = meeting_of(&a, &b, t);
-    let pair = both_values(alloc, a.exp, b.exp, t)?;
+    made(binary_node(alloc, op, pairing, meeting, a.exp, b.exp, t))
+}
+
+/// The node of a binary operator.
+fn binary_node(
+    alloc: Global,
+    op: BinOp,
+    pairing: Pairing,
+    meeting: Option<Meeting>,
+    a: TypedExp,
+    b: TypedExp,
+    t: &mut Types,
+) -> Result<TypedExp, LayoutStop> {
+    let pair = both_values(alloc, a, b, t)?;
     match pairing {
         Pairing::Numbers(x, y) => numbers_joined(alloc, op, x.common(y), pair, t),
         Pairing::PointerNumber(_)
@@ -202,7 +233,7 @@ fn numbers_joined(
     common: IntKind,
     pair: Pair,
     t: &mut Types,
-) -> Result<TypedExp, RuleStop> {
+) -> Result<TypedExp, LayoutStop> {
     match group_of(op) {
         Group::Shift => shifted(alloc, op, pair, t),
         Group::Order | Group::Equality => numbers_compared(alloc, op, common, pair, t),
@@ -218,7 +249,7 @@ fn pointers_joined(
     meeting: Option<Meeting>,
     pair: Pair,
     t: &mut Types,
-) -> Result<TypedExp, RuleStop> {
+) -> Result<TypedExp, LayoutStop> {
     match group_of(op) {
         Group::Add => moved(alloc, op, pairing, pair, t),
         Group::Sub => lessened(alloc, pairing, meeting, pair, t),
@@ -234,7 +265,7 @@ fn lessened(
     meeting: Option<Meeting>,
     pair: Pair,
     t: &mut Types,
-) -> Result<TypedExp, RuleStop> {
+) -> Result<TypedExp, LayoutStop> {
     match pairing {
         Pairing::Pointers(..) => subtracted(alloc, meeting, pair, t),
         Pairing::PointerNumber(_)
@@ -251,8 +282,8 @@ fn calculated(
     common: IntKind,
     pair: Pair,
     t: &mut Types,
-) -> Result<TypedExp, RuleStop> {
-    let of = made(t.int(common))?;
+) -> Result<TypedExp, LayoutStop> {
+    let of = t.int(common)?;
     let Pair { left, right } = both_converted(alloc, of, pair, t)?;
     Ok(typed_tree::binary(alloc, of, op, left, right)?)
 }
@@ -264,8 +295,8 @@ fn numbers_compared(
     common: IntKind,
     pair: Pair,
     t: &mut Types,
-) -> Result<TypedExp, RuleStop> {
-    let at = made(t.int(common))?;
+) -> Result<TypedExp, LayoutStop> {
+    let at = t.int(common)?;
     compared(alloc, op, at, pair, t)
 }
 
@@ -276,13 +307,13 @@ fn pointers_compared(
     meeting: Option<Meeting>,
     pair: Pair,
     t: &mut Types,
-) -> Result<TypedExp, RuleStop> {
+) -> Result<TypedExp, LayoutStop> {
     let at = met(meeting, t)?;
     compared(alloc, op, at, pair, t)
 }
 
 /// The type at which pointers meet.
-fn met(meeting: Option<Meeting>, t: &mut Types) -> Result<TypeId, RuleStop> {
+fn met(meeting: Option<Meeting>, t: &mut Types) -> Result<TypeId, LayoutStop> {
     match meeting {
         Some(m) => meeting_type(m, t),
         None => Err(impossible()),
@@ -296,14 +327,14 @@ fn compared(
     at: TypeId,
     pair: Pair,
     t: &mut Types,
-) -> Result<TypedExp, RuleStop> {
-    let int = made(t.int(IntKind::Int))?;
+) -> Result<TypedExp, LayoutStop> {
+    let int = t.int(IntKind::Int)?;
     let Pair { left, right } = both_converted(alloc, at, pair, t)?;
     Ok(typed_tree::binary(alloc, int, op, left, right)?)
 }
 
 /// A shift: each operand is promoted by itself, and the left one gives the type (C11 6.5.7p3).
-fn shifted(alloc: Global, op: BinOp, pair: Pair, t: &mut Types) -> Result<TypedExp, RuleStop> {
+fn shifted(alloc: Global, op: BinOp, pair: Pair, t: &mut Types) -> Result<TypedExp, LayoutStop> {
     let Pair { left, right } = pair;
     let left = promoted(alloc, left, t)?;
     let right = promoted(alloc, right, t)?;
@@ -317,9 +348,9 @@ fn subtracted(
     meeting: Option<Meeting>,
     pair: Pair,
     t: &mut Types,
-) -> Result<TypedExp, RuleStop> {
+) -> Result<TypedExp, LayoutStop> {
     let at = met(meeting, t)?;
-    let of = made(t.int(t.graph().abi().long()))?;
+    let of = t.int(t.graph().abi().long())?;
     let Pair { left, right } = both_converted(alloc, at, pair, t)?;
     Ok(typed_tree::binary(alloc, of, BinOp::Sub, left, right)?)
 }
@@ -331,7 +362,7 @@ fn moved(
     pairing: Pairing,
     pair: Pair,
     t: &mut Types,
-) -> Result<TypedExp, RuleStop> {
+) -> Result<TypedExp, LayoutStop> {
     let Pair { left, right } = indexed(alloc, pairing, pair, t)?;
     let of = match pairing {
         Pairing::NumberPointer(_) => right.ty().of,
@@ -349,7 +380,7 @@ pub(crate) fn indexed(
     pairing: Pairing,
     pair: Pair,
     t: &mut Types,
-) -> Result<Pair, RuleStop> {
+) -> Result<Pair, LayoutStop> {
     let Pair { left, right } = pair;
     match pairing {
         Pairing::PointerNumber(_) => {
@@ -365,7 +396,9 @@ pub(crate) fn indexed(
 }
 
 /// The first constraint that `&&` or `||` violates, if there is one (C11 6.5.13p2, 6.5.14p2).
-fn fault_logical(a: &Operand, b: &Operand, t: &Types) -> Option<Code> {
+fn fault_logical(a: &Operand, b: &Operand, t: &Types) -> Option<Code>
+    ensures { IfSome result (λ code. of_operator code ≡ true) }
+{
     if is_unreadable(a, t) || is_unreadable(b, t) {
         Some(Code::Incomplete)
     } else if !is_scalar(operand_sort(a, t)) || !is_scalar(operand_sort(b, t)) {
@@ -382,9 +415,22 @@ pub fn logical(
     a: Operand,
     b: Operand,
     t: &mut Types,
-) -> Result<TypedExp, RuleStop> {
+) -> Result<TypedExp, RuleStop>
+    ensures { IfErr result (IsRefusal of_operator) }
+{
     allowed(fault_logical(&a, &b, t))?;
-    let int = made(t.int(IntKind::Int))?;
-    let Pair { left, right } = both_values(alloc, a.exp, b.exp, t)?;
+    made(logical_node(alloc, op, a.exp, b.exp, t))
+}
+
+/// The node of `a && b` and `a || b`: an int (C11 6.5.13p3, 6.5.14p3).
+fn logical_node(
+    alloc: Global,
+    op: Logic,
+    a: TypedExp,
+    b: TypedExp,
+    t: &mut Types,
+) -> Result<TypedExp, LayoutStop> {
+    let int = t.int(IntKind::Int)?;
+    let Pair { left, right } = both_values(alloc, a, b, t)?;
     Ok(typed_tree::logical(alloc, int, op, left, right)?)
 }

@@ -1,5 +1,8 @@
+ghost use Rattle.std.specs.Prelude.{◌≡◌, true, IfSome, IfErr};
+ghost use Rattle.cast_rules.specs.Refusals.{IsRefusal, of_assignment, of_conversion, of_step};
+
 use crate::arithmetic::{Group, group_of, is_moved, steps_over_incomplete};
-use crate::conversions::{converted, promoted, value_of};
+use crate::conversions::{converted, converted_value, promoted, value_of};
 use crate::operands::{
     Operand, Sort, arithmetic_kind, is_arithmetic, is_incomplete, is_object, is_unreadable,
     operand_sort, sort_of,
@@ -7,6 +10,7 @@ use crate::operands::{
 use crate::pairings::{Pairing, meet_in_void, paired};
 use crate::stops::{allowed, impossible, made};
 use cil_base::{BinOp, Code, IntKind, RuleStop, TypeId};
+use layout_lp64::LayoutStop;
 use std::alloc::Global;
 use type_graph::{QualType, Quals};
 use typed_tree::{StepForm, TypedExp};
@@ -62,7 +66,9 @@ fn is_for_aggregate(to: TypeId, e: &Operand, t: &Types) -> bool {
 }
 
 /// The first constraint that a conversion as by assignment violates, if there is one.
-fn fault_convert(to: TypeId, e: &Operand, t: &Types) -> Option<Code> {
+fn fault_convert(to: TypeId, e: &Operand, t: &Types) -> Option<Code>
+    ensures { IfSome result (λ code. of_conversion code ≡ true) }
+{
     if is_unreadable(e, t) {
         Some(Code::Incomplete)
     } else if !assignable(to, e, t) {
@@ -74,10 +80,11 @@ fn fault_convert(to: TypeId, e: &Operand, t: &Types) -> Option<Code> {
 
 /// A value converted as by assignment to a type (C11 6.5.16.1p2): as a returned value (6.8.6.4p3) and an initialiser (6.7.9p11) are. It
 /// has that type, the qualifiers of what a pointer points to aside.
-pub fn convert(alloc: Global, to: TypeId, e: Operand, t: &mut Types) -> Result<TypedExp, RuleStop> {
+pub fn convert(alloc: Global, to: TypeId, e: Operand, t: &mut Types) -> Result<TypedExp, RuleStop>
+    ensures { IfErr result (IsRefusal of_conversion) }
+{
     allowed(fault_convert(to, &e, t))?;
-    let e = value_of(alloc, e.exp, t)?;
-    converted(alloc, to, e, t)
+    made(converted_value(alloc, to, e.exp, t))
 }
 
 /// Whether an expression is no lvalue (C11 6.3.2.1p1): functions and void expressions are none.
@@ -109,7 +116,9 @@ fn are_compound_operands(op: BinOp, pairing: Pairing, t: &Types) -> bool {
 }
 
 /// The first constraint that a simple assignment violates, if there is one (C11 6.5.16p2, 6.5.16.1p1).
-fn fault_simple(place: &Operand, value: &Operand, t: &Types) -> Option<Code> {
+fn fault_simple(place: &Operand, value: &Operand, t: &Types) -> Option<Code>
+    ensures { IfSome result (λ code. of_assignment code ≡ true) }
+{
     if is_unreadable(value, t) {
         Some(Code::Incomplete)
     } else if is_no_lvalue(&place.exp, t) {
@@ -124,7 +133,9 @@ fn fault_simple(place: &Operand, value: &Operand, t: &Types) -> Option<Code> {
 }
 
 /// The first constraint that a compound assignment violates, if there is one (C11 6.5.16p2, 6.5.16.2p1, p2).
-fn fault_compound(op: BinOp, place: &Operand, value: &Operand, t: &Types) -> Option<Code> {
+fn fault_compound(op: BinOp, place: &Operand, value: &Operand, t: &Types) -> Option<Code>
+    ensures { IfSome result (λ code. of_assignment code ≡ true) }
+{
     let pairing = paired(place, value, t);
     if is_unreadable(value, t) || steps_over_incomplete(op, pairing, t) {
         Some(Code::Incomplete)
@@ -139,6 +150,16 @@ fn fault_compound(op: BinOp, place: &Operand, value: &Operand, t: &Types) -> Opt
     }
 }
 
+/// The first constraint that an assignment violates, if there is one.
+fn fault_assign(op: Option<BinOp>, place: &Operand, value: &Operand, t: &Types) -> Option<Code>
+    ensures { IfSome result (λ code. of_assignment code ≡ true) }
+{
+    match op {
+        None => fault_simple(place, value, t),
+        Some(op) => fault_compound(op, place, value, t),
+    }
+}
+
 /// `place = value`, or `place op= value` (C11 6.5.16).
 pub fn assign(
     alloc: Global,
@@ -146,41 +167,42 @@ pub fn assign(
     place: Operand,
     value: Operand,
     t: &mut Types,
-) -> Result<TypedExp, RuleStop> {
+) -> Result<TypedExp, RuleStop>
+    ensures { IfErr result (IsRefusal of_assignment) }
+{
+    allowed(fault_assign(op, &place, &value, t))?;
+    let pairing = paired(&place, &value, t);
     match op {
-        None => simple(alloc, place, value, t),
-        Some(op) => compound(alloc, op, place, value, t),
+        None => made(simple(alloc, place.exp, value.exp, t)),
+        Some(op) => made(compound(alloc, op, pairing, place.exp, value.exp, t)),
     }
 }
 
-/// `place = value` (C11 6.5.16.1).
+/// The node of `place = value` (C11 6.5.16.1).
 fn simple(
     alloc: Global,
-    place: Operand,
-    value: Operand,
+    place: TypedExp,
+    value: TypedExp,
     t: &mut Types,
-) -> Result<TypedExp, RuleStop> {
-    allowed(fault_simple(&place, &value, t))?;
-    let of = place.exp.ty().of;
-    let value = value_of(alloc, value.exp, t)?;
-    let value = converted(alloc, of, value, t)?;
-    Ok(typed_tree::assign(alloc, place.exp, value)?)
+) -> Result<TypedExp, LayoutStop> {
+    let of = place.ty().of;
+    let value = converted_value(alloc, of, value, t)?;
+    Ok(typed_tree::assign(alloc, place, value)?)
 }
 
-/// `place op= value` (C11 6.5.16.2): computed as the operator computes, and converted to the place's type.
+/// The node of `place op= value` (C11 6.5.16.2): computed as the operator computes, and converted to the place's type.
 fn compound(
     alloc: Global,
     op: BinOp,
-    place: Operand,
-    value: Operand,
+    pairing: Pairing,
+    place: TypedExp,
+    value: TypedExp,
     t: &mut Types,
-) -> Result<TypedExp, RuleStop> {
-    allowed(fault_compound(op, &place, &value, t))?;
-    let pairing = paired(&place, &value, t);
-    let at = computing_type(op, pairing, place.exp.ty().of, t)?;
-    let value = value_of(alloc, value.exp, t)?;
+) -> Result<TypedExp, LayoutStop> {
+    let at = computing_type(op, pairing, place.ty().of, t)?;
+    let value = value_of(alloc, value, t)?;
     let value = prepared(alloc, op, pairing, at, value, t)?;
-    Ok(typed_tree::compute(alloc, op, at, place.exp, value)?)
+    Ok(typed_tree::compute(alloc, op, at, place, value)?)
 }
 
 /// Whether an operator shifts.
@@ -210,7 +232,7 @@ fn prepared(
     at: TypeId,
     value: TypedExp,
     t: &mut Types,
-) -> Result<TypedExp, RuleStop> {
+) -> Result<TypedExp, LayoutStop> {
     if is_promoted_alone(op, pairing) {
         promoted(alloc, value, t)
     } else {
@@ -234,10 +256,10 @@ fn computing_type(
     pairing: Pairing,
     place: TypeId,
     t: &mut Types,
-) -> Result<TypeId, RuleStop> {
+) -> Result<TypeId, LayoutStop> {
     match pairing {
         Pairing::PointerNumber(_) => Ok(place),
-        Pairing::Numbers(x, y) => made(t.int(computing_kind(op, x, y))),
+        Pairing::Numbers(x, y) => t.int(computing_kind(op, x, y)),
         Pairing::NumberPointer(_) | Pairing::Pointers(..) | Pairing::Others => Err(impossible()),
     }
 }
@@ -260,7 +282,9 @@ fn is_no_step(s: Sort, t: &Types) -> bool {
 }
 
 /// The first constraint that an increment or decrement violates, if there is one (C11 6.5.2.4p1, 6.5.3.1p1).
-fn fault_step(place: &Operand, t: &Types) -> Option<Code> {
+fn fault_step(place: &Operand, t: &Types) -> Option<Code>
+    ensures { IfSome result (λ code. of_step code ≡ true) }
+{
     let s = operand_sort(place, t);
     if is_step_over_incomplete(s, t) {
         Some(Code::Incomplete)
@@ -281,16 +305,28 @@ pub fn step(
     form: StepForm,
     place: Operand,
     t: &mut Types,
-) -> Result<TypedExp, RuleStop> {
+) -> Result<TypedExp, RuleStop>
+    ensures { IfErr result (IsRefusal of_step) }
+{
     allowed(fault_step(&place, t))?;
-    let at = stepping_type(place.exp.ty().of, t)?;
-    Ok(typed_tree::step(alloc, form, at, place.exp)?)
+    made(step_node(alloc, form, place.exp, t))
+}
+
+/// The node of a step.
+fn step_node(
+    alloc: Global,
+    form: StepForm,
+    place: TypedExp,
+    t: &mut Types,
+) -> Result<TypedExp, LayoutStop> {
+    let at = stepping_type(place.ty().of, t)?;
+    Ok(typed_tree::step(alloc, form, at, place)?)
 }
 
 /// The type in which a step computes: for a pointer its own type, else the common type with the int 1 (C11 6.5.2.4p2, 6.5.3.1p2).
-fn stepping_type(place: TypeId, t: &mut Types) -> Result<TypeId, RuleStop> {
+fn stepping_type(place: TypeId, t: &mut Types) -> Result<TypeId, LayoutStop> {
     match arithmetic_kind(sort_of(t, place)) {
-        Some(kind) => made(t.int(kind.common(IntKind::Int))),
+        Some(kind) => t.int(kind.common(IntKind::Int)),
         None => Ok(place),
     }
 }

@@ -1,9 +1,13 @@
+ghost use Rattle.std.specs.Prelude.{◌≡◌, true, IfSome, IfErr};
+ghost use Rattle.cast_rules.specs.Refusals.{IsRefusal, of_call};
+
 use crate::assignments::assignable;
 use crate::conversions::{converted, promoted_argument, value_of};
 use crate::operands::{Operand, Sort, is_unreadable, operand_sort};
 use crate::pairings::is_void;
-use crate::stops::{allowed, impossible};
-use cil_base::{Code, RuleStop, TypeId};
+use crate::stops::{allowed, impossible, made};
+use cil_base::{Code, Memory, RuleStop, TypeId};
+use layout_lp64::LayoutStop;
 use std::alloc::Global;
 use typed_tree::TypedExp;
 use unit_types::{Class, Types};
@@ -111,7 +115,9 @@ fn is_no_call(callee: Option<Callee>, count: usize) -> bool {
 }
 
 /// The first constraint that a call violates, if there is one.
-fn fault_call(f: &Operand, arguments: &[Operand], t: &Types) -> Option<Code> {
+fn fault_call(f: &Operand, arguments: &[Operand], t: &Types) -> Option<Code>
+    ensures { IfSome result (λ code. of_call code ≡ true) }
+{
     let callee = callee_of(f, t);
     if is_one_unreadable(f, arguments, t) || has_incomplete_result(callee, t) {
         Some(Code::Incomplete)
@@ -130,12 +136,17 @@ fn argument(
     parameter: Option<TypeId>,
     e: TypedExp,
     t: &mut Types,
-) -> Result<TypedExp, RuleStop> {
+) -> Result<TypedExp, LayoutStop> {
     let e = value_of(alloc, e, t)?;
     match parameter {
         Some(to) => converted(alloc, to, e, t),
         None => promoted_argument(alloc, e, t),
     }
+}
+
+/// Adds an argument.
+fn add(done: &mut Vec<TypedExp>, e: TypedExp) -> Result<(), Memory> {
+    Ok(done.push(e)?)
 }
 
 /// The arguments of a call of that function type, in order.
@@ -144,12 +155,12 @@ fn converted_arguments(
     of: TypeId,
     arguments: Vec<Operand>,
     t: &mut Types,
-) -> Result<Vec<TypedExp>, RuleStop> {
+) -> Result<Vec<TypedExp>, LayoutStop> {
     let mut done = Vec::new(alloc);
     for e in arguments {
         let parameter = t.param(of, done.len());
         let e = argument(alloc, parameter, e.exp, t)?;
-        done.push(e)?;
+        add(&mut done, e)?;
     }
     Ok(done)
 }
@@ -160,12 +171,26 @@ pub fn call(
     f: Operand,
     arguments: Vec<Operand>,
     t: &mut Types,
-) -> Result<TypedExp, RuleStop> {
+) -> Result<TypedExp, RuleStop>
+    ensures { IfErr result (IsRefusal of_call) }
+{
     allowed(fault_call(&f, &arguments, t))?;
-    let Some(callee) = callee_of(&f, t) else {
+    let callee = callee_of(&f, t);
+    made(call_node(alloc, callee, f.exp, arguments, t))
+}
+
+/// The node of a call.
+fn call_node(
+    alloc: Global,
+    callee: Option<Callee>,
+    f: TypedExp,
+    arguments: Vec<Operand>,
+    t: &mut Types,
+) -> Result<TypedExp, LayoutStop> {
+    let Some(callee) = callee else {
         return Err(impossible());
     };
     let arguments = converted_arguments(alloc, callee.of, arguments, t)?;
-    let f = value_of(alloc, f.exp, t)?;
+    let f = value_of(alloc, f, t)?;
     Ok(typed_tree::call(alloc, callee.ret, f, arguments)?)
 }

@@ -1,8 +1,12 @@
-use crate::conversions::{Pair, both_converted, both_values, promoted, value_of};
+ghost use Rattle.std.specs.Prelude.{◌≡◌, true, IfSome, IfErr};
+ghost use Rattle.cast_rules.specs.Refusals.{IsRefusal, of_operator, of_test, of_value};
+
+use crate::conversions::{Pair, both_converted, both_values, promoted_value, value_of};
 use crate::operands::{Operand, Sort, is_arithmetic, is_scalar, is_unreadable, operand_sort};
 use crate::pairings::{Meeting, Pairing, meeting_of, meeting_type, paired};
-use crate::stops::{allowed, made};
-use cil_base::{Code, IntKind, RuleStop, TypeId};
+use crate::stops::{allowed, impossible, made};
+use cil_base::{Code, IntKind, Memory, RuleStop, TypeId};
+use layout_lp64::LayoutStop;
 use std::alloc::Global;
 use typed_tree::{Branches, TypedExp};
 use unit_types::Types;
@@ -49,7 +53,9 @@ fn joining_of(a: &Operand, b: &Operand, t: &Types) -> Option<Joining> {
 }
 
 /// The first constraint that a conditional violates, if there is one (C11 6.5.15p2, p3).
-fn fault_conditional(c: &Operand, a: &Operand, b: &Operand, t: &Types) -> Option<Code> {
+fn fault_conditional(c: &Operand, a: &Operand, b: &Operand, t: &Types) -> Option<Code>
+    ensures { IfSome result (λ code. of_operator code ≡ true) }
+{
     if is_unreadable(c, t) || is_unreadable(a, t) || is_unreadable(b, t) {
         Some(Code::Incomplete)
     } else if !is_scalar(operand_sort(c, t)) || joining_of(a, b, t).is_none() {
@@ -60,11 +66,12 @@ fn fault_conditional(c: &Operand, a: &Operand, b: &Operand, t: &Types) -> Option
 }
 
 /// The type of a conditional.
-fn joined_type(j: Joining, t: &mut Types) -> Result<TypeId, RuleStop> {
+fn joined_type(j: Option<Joining>, t: &mut Types) -> Result<TypeId, LayoutStop> {
     match j {
-        Joining::Numbers(kind) => made(t.int(kind)),
-        Joining::Same(of) => Ok(of),
-        Joining::Pointers(m) => meeting_type(m, t),
+        Some(Joining::Numbers(kind)) => t.int(kind),
+        Some(Joining::Same(of)) => Ok(of),
+        Some(Joining::Pointers(m)) => meeting_type(m, t),
+        None => Err(impossible()),
     }
 }
 
@@ -75,13 +82,18 @@ fn branches(
     a: TypedExp,
     b: TypedExp,
     t: &mut Types,
-) -> Result<Box<Branches>, RuleStop> {
+) -> Result<Box<Branches>, LayoutStop> {
     let pair = both_values(alloc, a, b, t)?;
     let Pair { left, right } = both_converted(alloc, of, pair, t)?;
     let branches = Branches {
         holds: left,
         fails: right,
     };
+    Ok(boxed(alloc, branches)?)
+}
+
+/// Branches in a box.
+fn boxed(alloc: Global, branches: Branches) -> Result<Box<Branches>, Memory> {
     Ok(Box::new(alloc, branches)?)
 }
 
@@ -92,19 +104,32 @@ pub fn conditional(
     a: Operand,
     b: Operand,
     t: &mut Types,
-) -> Result<TypedExp, RuleStop> {
+) -> Result<TypedExp, RuleStop>
+    ensures { IfErr result (IsRefusal of_operator) }
+{
     allowed(fault_conditional(&c, &a, &b, t))?;
-    let Some(joining) = joining_of(&a, &b, t) else {
-        return Err(crate::stops::impossible());
-    };
-    let of = joined_type(joining, t)?;
-    let branches = branches(alloc, of, a.exp, b.exp, t)?;
-    let test = value_of(alloc, c.exp, t)?;
+    let joining = joining_of(&a, &b, t);
+    let of = made(joined_type(joining, t))?;
+    let branches = made(branches(alloc, of, a.exp, b.exp, t))?;
+    made(conditional_node(alloc, of, c.exp, branches, t))
+}
+
+/// The node of a conditional of a type.
+fn conditional_node(
+    alloc: Global,
+    of: TypeId,
+    test: TypedExp,
+    branches: Box<Branches>,
+    t: &mut Types,
+) -> Result<TypedExp, LayoutStop> {
+    let test = value_of(alloc, test, t)?;
     Ok(typed_tree::conditional(alloc, of, test, branches)?)
 }
 
 /// The first constraint that a comma violates, if there is one.
-fn fault_comma(a: &Operand, b: &Operand, t: &Types) -> Option<Code> {
+fn fault_comma(a: &Operand, b: &Operand, t: &Types) -> Option<Code>
+    ensures { IfSome result (λ code. of_value code ≡ true) }
+{
     if is_unreadable(a, t) || is_unreadable(b, t) {
         Some(Code::Incomplete)
     } else {
@@ -113,14 +138,28 @@ fn fault_comma(a: &Operand, b: &Operand, t: &Types) -> Option<Code> {
 }
 
 /// `a , b` (C11 6.5.17).
-pub fn comma(alloc: Global, a: Operand, b: Operand, t: &mut Types) -> Result<TypedExp, RuleStop> {
+pub fn comma(alloc: Global, a: Operand, b: Operand, t: &mut Types) -> Result<TypedExp, RuleStop>
+    ensures { IfErr result (IsRefusal of_value) }
+{
     allowed(fault_comma(&a, &b, t))?;
-    let Pair { left, right } = both_values(alloc, a.exp, b.exp, t)?;
+    made(comma_node(alloc, a.exp, b.exp, t))
+}
+
+/// The node of a comma.
+fn comma_node(
+    alloc: Global,
+    a: TypedExp,
+    b: TypedExp,
+    t: &mut Types,
+) -> Result<TypedExp, LayoutStop> {
+    let Pair { left, right } = both_values(alloc, a, b, t)?;
     Ok(typed_tree::comma(alloc, left, right)?)
 }
 
 /// The first constraint that the controlling expression of an `if` or a loop violates, if there is one.
-fn fault_test(e: &Operand, t: &Types) -> Option<Code> {
+fn fault_test(e: &Operand, t: &Types) -> Option<Code>
+    ensures { IfSome result (λ code. of_test code ≡ true) }
+{
     if is_unreadable(e, t) {
         Some(Code::Incomplete)
     } else if !is_scalar(operand_sort(e, t)) {
@@ -131,13 +170,17 @@ fn fault_test(e: &Operand, t: &Types) -> Option<Code> {
 }
 
 /// The value of the controlling expression of an `if` or a loop (C11 6.8.4.1p1, 6.8.5p2).
-pub fn scalar_test(alloc: Global, e: Operand, t: &mut Types) -> Result<TypedExp, RuleStop> {
+pub fn scalar_test(alloc: Global, e: Operand, t: &mut Types) -> Result<TypedExp, RuleStop>
+    ensures { IfErr result (IsRefusal of_test) }
+{
     allowed(fault_test(&e, t))?;
-    value_of(alloc, e.exp, t)
+    made(value_of(alloc, e.exp, t))
 }
 
 /// The first constraint that the controlling expression of a `switch` violates, if there is one.
-fn fault_switch(e: &Operand, t: &Types) -> Option<Code> {
+fn fault_switch(e: &Operand, t: &Types) -> Option<Code>
+    ensures { IfSome result (λ code. of_test code ≡ true) }
+{
     if is_unreadable(e, t) {
         Some(Code::Incomplete)
     } else if !is_arithmetic(operand_sort(e, t)) {
@@ -148,8 +191,9 @@ fn fault_switch(e: &Operand, t: &Types) -> Option<Code> {
 }
 
 /// The promoted value of the controlling expression of a `switch` (C11 6.8.4.2p1, p5).
-pub fn switch_value(alloc: Global, e: Operand, t: &mut Types) -> Result<TypedExp, RuleStop> {
+pub fn switch_value(alloc: Global, e: Operand, t: &mut Types) -> Result<TypedExp, RuleStop>
+    ensures { IfErr result (IsRefusal of_test) }
+{
     allowed(fault_switch(&e, t))?;
-    let e = value_of(alloc, e.exp, t)?;
-    promoted(alloc, e, t)
+    made(promoted_value(alloc, e.exp, t))
 }

@@ -1,9 +1,13 @@
+ghost use Rattle.std.specs.Prelude.{◌≡◌, true, IfSome, IfErr};
+ghost use Rattle.cast_rules.specs.Refusals.{IsRefusal, of_cast, of_value};
+
 use crate::operands::{
     Operand, Sort, arithmetic_kind, is_scalar, is_unreadable, operand_sort, sort_of, unqualified,
 };
 use crate::pairings::is_void;
 use crate::stops::{allowed, impossible, made};
 use cil_base::{Code, RuleStop, TypeId};
+use layout_lp64::LayoutStop;
 use std::alloc::Global;
 use type_graph::QualType;
 use typed_tree::TypedExp;
@@ -34,7 +38,7 @@ pub(crate) fn converted(
     to: TypeId,
     e: TypedExp,
     t: &Types,
-) -> Result<TypedExp, RuleStop> {
+) -> Result<TypedExp, LayoutStop> {
     if is_alike(t, e.ty().of, to) {
         return Ok(e);
     }
@@ -47,7 +51,7 @@ pub(crate) fn both_converted(
     to: TypeId,
     pair: Pair,
     t: &Types,
-) -> Result<Pair, RuleStop> {
+) -> Result<Pair, LayoutStop> {
     let Pair { left, right } = pair;
     let left = converted(alloc, to, left, t)?;
     let right = converted(alloc, to, right, t)?;
@@ -55,11 +59,32 @@ pub(crate) fn both_converted(
 }
 
 /// An integer promoted (C11 6.3.1.1p2); an enumerated type computes in int (own).
-pub(crate) fn promoted(alloc: Global, e: TypedExp, t: &mut Types) -> Result<TypedExp, RuleStop> {
+pub(crate) fn promoted(alloc: Global, e: TypedExp, t: &mut Types) -> Result<TypedExp, LayoutStop> {
     let Some(kind) = arithmetic_kind(sort_of(t, e.ty().of)) else {
         return Err(impossible());
     };
-    let to = made(t.int(kind.promoted()))?;
+    let to = t.int(kind.promoted())?;
+    converted(alloc, to, e, t)
+}
+
+/// The value of an operand, promoted.
+pub(crate) fn promoted_value(
+    alloc: Global,
+    e: TypedExp,
+    t: &mut Types,
+) -> Result<TypedExp, LayoutStop> {
+    let e = value_of(alloc, e, t)?;
+    promoted(alloc, e, t)
+}
+
+/// The value of an operand, converted to a type.
+pub(crate) fn converted_value(
+    alloc: Global,
+    to: TypeId,
+    e: TypedExp,
+    t: &mut Types,
+) -> Result<TypedExp, LayoutStop> {
+    let e = value_of(alloc, e, t)?;
     converted(alloc, to, e, t)
 }
 
@@ -68,7 +93,7 @@ pub(crate) fn promoted_argument(
     alloc: Global,
     e: TypedExp,
     t: &mut Types,
-) -> Result<TypedExp, RuleStop> {
+) -> Result<TypedExp, LayoutStop> {
     match sort_of(t, e.ty().of) {
         Sort::Integer(_) | Sort::Enumerated => promoted(alloc, e, t),
         Sort::Void | Sort::Pointer(_) | Sort::Record(_) => Ok(e),
@@ -76,13 +101,18 @@ pub(crate) fn promoted_argument(
 }
 
 /// An array or a function as a pointer (C11 6.3.2.1p3, p4).
-fn decayed(alloc: Global, to: QualType, e: TypedExp, t: &mut Types) -> Result<TypedExp, RuleStop> {
-    let pointer = made(t.pointer(to))?;
+fn decayed(
+    alloc: Global,
+    to: QualType,
+    e: TypedExp,
+    t: &mut Types,
+) -> Result<TypedExp, LayoutStop> {
+    let pointer = t.pointer(to)?;
     Ok(typed_tree::decay(alloc, pointer, e)?)
 }
 
 /// The value of a place, or a value itself.
-fn loaded(alloc: Global, e: TypedExp) -> Result<TypedExp, RuleStop> {
+fn loaded(alloc: Global, e: TypedExp) -> Result<TypedExp, LayoutStop> {
     if e.is_place() {
         Ok(typed_tree::load(alloc, e)?)
     } else {
@@ -91,7 +121,7 @@ fn loaded(alloc: Global, e: TypedExp) -> Result<TypedExp, RuleStop> {
 }
 
 /// The value of an operand (C11 6.3.2.1p2 to p4). A void expression stays as it is.
-pub(crate) fn value_of(alloc: Global, e: TypedExp, t: &mut Types) -> Result<TypedExp, RuleStop> {
+pub(crate) fn value_of(alloc: Global, e: TypedExp, t: &mut Types) -> Result<TypedExp, LayoutStop> {
     let of = e.ty().of;
     match t.class(of) {
         Class::Void => Ok(e),
@@ -107,14 +137,16 @@ pub(crate) fn both_values(
     a: TypedExp,
     b: TypedExp,
     t: &mut Types,
-) -> Result<Pair, RuleStop> {
+) -> Result<Pair, LayoutStop> {
     let left = value_of(alloc, a, t)?;
     let right = value_of(alloc, b, t)?;
     Ok(Pair { left, right })
 }
 
 /// The constraint that the reading of an operand violates, if there is one.
-fn fault_value(e: &Operand, t: &Types) -> Option<Code> {
+fn fault_value(e: &Operand, t: &Types) -> Option<Code>
+    ensures { IfSome result (λ code. of_value code ≡ true) }
+{
     if is_unreadable(e, t) {
         Some(Code::Incomplete)
     } else {
@@ -124,9 +156,11 @@ fn fault_value(e: &Operand, t: &Types) -> Option<Code> {
 
 /// The value of an operand: what an lvalue holds, or the pointer to which an array or a function decays (C11 6.3.2.1p2 to p4).
 /// `Incomplete` comes where it has an incomplete struct, union or enum type.
-pub fn value(alloc: Global, e: Operand, t: &mut Types) -> Result<TypedExp, RuleStop> {
+pub fn value(alloc: Global, e: Operand, t: &mut Types) -> Result<TypedExp, RuleStop>
+    ensures { IfErr result (IsRefusal of_value) }
+{
     allowed(fault_value(&e, t))?;
-    value_of(alloc, e.exp, t)
+    made(value_of(alloc, e.exp, t))
 }
 
 /// Whether a cast is outside C11 6.5.4p2.
@@ -144,7 +178,9 @@ fn is_scalar_type(t: &Types, of: TypeId) -> bool {
 }
 
 /// The first constraint that a cast violates, if there is one.
-fn fault_cast(to: TypeId, e: &Operand, t: &Types) -> Option<Code> {
+fn fault_cast(to: TypeId, e: &Operand, t: &Types) -> Option<Code>
+    ensures { IfSome result (λ code. of_cast code ≡ true) }
+{
     if is_unreadable(e, t) {
         Some(Code::Incomplete)
     } else if is_no_cast(to, e, t) {
@@ -156,9 +192,21 @@ fn fault_cast(to: TypeId, e: &Operand, t: &Types) -> Option<Code> {
 
 /// `( to ) e` (C11 6.5.4). A cast to void is a node whatever its operand is, since no cast is an lvalue; any other is a node where it
 /// changes the type.
-pub fn cast(alloc: Global, to: TypeId, e: Operand, t: &mut Types) -> Result<TypedExp, RuleStop> {
+pub fn cast(alloc: Global, to: TypeId, e: Operand, t: &mut Types) -> Result<TypedExp, RuleStop>
+    ensures { IfErr result (IsRefusal of_cast) }
+{
     allowed(fault_cast(to, &e, t))?;
-    let e = value_of(alloc, e.exp, t)?;
+    made(cast_node(alloc, to, e.exp, t))
+}
+
+/// The node of a cast.
+fn cast_node(
+    alloc: Global,
+    to: TypeId,
+    e: TypedExp,
+    t: &mut Types,
+) -> Result<TypedExp, LayoutStop> {
+    let e = value_of(alloc, e, t)?;
     if e.ty().of == to && !is_void(t, to) {
         return Ok(e);
     }

@@ -1,6 +1,6 @@
 use crate::operands::{Operand, Sort, arithmetic_kind, is_object, joined, operand_sort};
-use crate::stops::made;
-use cil_base::{IntKind, RuleStop, TypeId};
+use cil_base::{IntKind, TypeId};
+use layout_lp64::LayoutStop;
 use type_graph::{QualType, Quals};
 use unit_types::{Class, Types};
 
@@ -105,23 +105,23 @@ pub(crate) fn meeting_of(a: &Operand, b: &Operand, t: &Types) -> Option<Meeting>
 }
 
 /// The pointer type of a meeting.
-pub(crate) fn meeting_type(m: Meeting, t: &mut Types) -> Result<TypeId, RuleStop> {
+pub(crate) fn meeting_type(m: Meeting, t: &mut Types) -> Result<TypeId, LayoutStop> {
     let to = match m {
         Meeting::Composite(p, q) => composite_pointee(p, q, t)?,
         Meeting::Pointer(to) => to,
         Meeting::Void(quals) => void_pointee(quals, t)?,
     };
-    made(t.pointer(to))
+    t.pointer(to)
 }
 
 /// The composite of two types, with the qualifiers of both (C11 6.2.7p3, 6.5.15p6).
-fn composite_pointee(p: QualType, q: QualType, t: &mut Types) -> Result<QualType, RuleStop> {
-    let of = made(t.composite(p.of, q.of))?;
-    made(t.qualified(joined(p.quals, q.quals), of))
+fn composite_pointee(p: QualType, q: QualType, t: &mut Types) -> Result<QualType, LayoutStop> {
+    let of = t.composite(p.of, q.of)?;
+    t.qualified(joined(p.quals, q.quals), of)
 }
 
 /// `void` with qualifiers.
-fn void_pointee(quals: Quals, t: &mut Types) -> Result<QualType, RuleStop> {
-    let of = made(t.void())?;
+fn void_pointee(quals: Quals, t: &mut Types) -> Result<QualType, LayoutStop> {
+    let of = t.void()?;
     Ok(QualType { quals, of })
 }

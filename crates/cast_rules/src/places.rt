@@ -1,3 +1,6 @@
+ghost use Rattle.std.specs.Prelude.{◌≡◌, true, IfSome, IfErr};
+ghost use Rattle.cast_rules.specs.Refusals.{IsRefusal, none, of_address, of_operator};
+
 use crate::arithmetic::indexed;
 use crate::conversions::{Pair, both_values, value_of};
 use crate::operands::{
@@ -6,13 +9,16 @@ use crate::operands::{
 use crate::pairings::{Pairing, paired};
 use crate::stops::{allowed, impossible, made};
 use cil_base::{AggId, Code, RuleStop};
+use layout_lp64::LayoutStop;
 use std::alloc::Global;
 use type_graph::{Member, QualType};
 use typed_tree::TypedExp;
 use unit_types::{Class, Types};
 
 /// The first constraint that the address of an operand violates, if there is one (C11 6.5.3.2p1).
-fn fault_address(e: &Operand) -> Option<Code> {
+fn fault_address(e: &Operand) -> Option<Code>
+    ensures { IfSome result (λ code. of_address code ≡ true) }
+{
     if !e.exp.is_place() {
         Some(Code::NotLvalue)
     } else if e.register {
@@ -23,10 +29,17 @@ fn fault_address(e: &Operand) -> Option<Code> {
 }
 
 /// `& e` (C11 6.5.3.2), of an lvalue, a function, or what `*` gives.
-pub fn address(alloc: Global, e: Operand, t: &mut Types) -> Result<TypedExp, RuleStop> {
+pub fn address(alloc: Global, e: Operand, t: &mut Types) -> Result<TypedExp, RuleStop>
+    ensures { IfErr result (IsRefusal of_address) }
+{
     allowed(fault_address(&e))?;
-    let pointer = made(t.pointer(e.exp.ty()))?;
-    Ok(typed_tree::address(alloc, pointer, e.exp)?)
+    made(address_node(alloc, e.exp, t))
+}
+
+/// The node of an address.
+fn address_node(alloc: Global, e: TypedExp, t: &mut Types) -> Result<TypedExp, LayoutStop> {
+    let pointer = t.pointer(e.ty())?;
+    Ok(typed_tree::address(alloc, pointer, e)?)
 }
 
 /// Whether an operand is no pointer.
@@ -38,7 +51,9 @@ fn is_no_pointer(e: &Operand, t: &Types) -> bool {
 }
 
 /// The first constraint that an indirection violates, if there is one (C11 6.5.3.2p2).
-fn fault_indirect(e: &Operand, t: &Types) -> Option<Code> {
+fn fault_indirect(e: &Operand, t: &Types) -> Option<Code>
+    ensures { IfSome result (λ code. of_operator code ≡ true) }
+{
     if is_unreadable(e, t) {
         Some(Code::Incomplete)
     } else if is_no_pointer(e, t) {
@@ -49,9 +64,16 @@ fn fault_indirect(e: &Operand, t: &Types) -> Option<Code> {
 }
 
 /// `* e` (C11 6.5.3.2): an lvalue, a function, or a void expression.
-pub fn indirect(alloc: Global, e: Operand, t: &mut Types) -> Result<TypedExp, RuleStop> {
+pub fn indirect(alloc: Global, e: Operand, t: &mut Types) -> Result<TypedExp, RuleStop>
+    ensures { IfErr result (IsRefusal of_operator) }
+{
     allowed(fault_indirect(&e, t))?;
-    let e = value_of(alloc, e.exp, t)?;
+    made(indirect_node(alloc, e.exp, t))
+}
+
+/// The node of an indirection.
+fn indirect_node(alloc: Global, e: TypedExp, t: &mut Types) -> Result<TypedExp, LayoutStop> {
+    let e = value_of(alloc, e, t)?;
     match t.class(e.ty().of) {
         Class::Ptr(to) => Ok(typed_tree::indirect(alloc, to, e)?),
         Class::Void | Class::Int(_) | Class::Array(..) | Class::Func { .. } | Class::Agg(..) => Err(
@@ -86,7 +108,9 @@ fn is_no_subscript(pairing: Pairing, t: &Types) -> bool {
 }
 
 /// The first constraint that a subscript violates, if there is one.
-fn fault_subscript(a: &Operand, b: &Operand, t: &Types) -> Option<Code> {
+fn fault_subscript(a: &Operand, b: &Operand, t: &Types) -> Option<Code>
+    ensures { IfSome result (λ code. of_operator code ≡ true) }
+{
     let pairing = paired(a, b, t);
     if is_unreadable(a, t) || is_unreadable(b, t) || has_incomplete_element(pairing, t) {
         Some(Code::Incomplete)
@@ -103,21 +127,34 @@ pub fn subscript(
     left: Operand,
     right: Operand,
     t: &mut Types,
-) -> Result<TypedExp, RuleStop> {
+) -> Result<TypedExp, RuleStop>
+    ensures { IfErr result (IsRefusal of_operator) }
+{
     allowed(fault_subscript(&left, &right, t))?;
     let pairing = paired(&left, &right, t);
+    made(subscript_node(alloc, pairing, left.exp, right.exp, t))
+}
+
+/// The node of a subscript.
+fn subscript_node(
+    alloc: Global,
+    pairing: Pairing,
+    left: TypedExp,
+    right: TypedExp,
+    t: &mut Types,
+) -> Result<TypedExp, LayoutStop> {
     let Some(ty) = element(pairing) else {
         return Err(impossible());
     };
-    let pair = both_values(alloc, left.exp, right.exp, t)?;
+    let pair = both_values(alloc, left, right, t)?;
     let Pair { left, right } = indexed(alloc, pairing, pair, t)?;
     Ok(typed_tree::subscript(alloc, ty, left, right)?)
 }
 
 /// The type of a member: that of an lvalue has the qualifiers of its struct or union too (C11 6.5.2.3p3), that of a value none.
-fn member_type(e: &TypedExp, m: Member, t: &mut Types) -> Result<QualType, RuleStop> {
+fn member_type(e: &TypedExp, m: Member, t: &mut Types) -> Result<QualType, LayoutStop> {
     if e.is_place() {
-        made(t.qualified(joined(e.ty().quals, m.ty.quals), m.ty.of))
+        t.qualified(joined(e.ty().quals, m.ty.quals), m.ty.of)
     } else {
         Ok(unqualified(m.ty.of))
     }
@@ -131,10 +168,23 @@ pub fn member(
     a: AggId,
     index: u32,
     t: &mut Types,
-) -> Result<TypedExp, RuleStop> {
+) -> Result<TypedExp, RuleStop>
+    ensures { IfErr result (IsRefusal none) }
+{
+    made(member_node(alloc, e.exp, a, index, t))
+}
+
+/// The node of a member.
+fn member_node(
+    alloc: Global,
+    e: TypedExp,
+    a: AggId,
+    index: u32,
+    t: &mut Types,
+) -> Result<TypedExp, LayoutStop> {
     let Some(m) = t.member(a, index as usize) else {
         return Err(impossible());
     };
-    let ty = member_type(&e.exp, m, t)?;
-    Ok(typed_tree::member(alloc, ty, e.exp, a, index)?)
+    let ty = member_type(&e, m, t)?;
+    Ok(typed_tree::member(alloc, ty, e, a, index)?)
 }

@@ -1,6 +1,9 @@
-ghost use Rattle.std.specs.Prelude.{◌≡◌, MatchOption, MatchResult, Ok, Err};
+ghost use Rattle.std.specs.Prelude.{◌≡◌, Bool, true, MatchOption, IfSome, MatchResult, IfErr, Ok, Err};
+ghost use Rattle.cil_base.specs.declared.faults.Code.{Code};
 ghost use Rattle.cil_base.specs.declared.faults.Fault.TheVariants.{Constraint};
 ghost use Rattle.cil_base.specs.declared.faults.RuleStop.TheVariants as stop;
+ghost use Rattle.layout_lp64.specs.declared.layouts.LayoutStop.TheVariants.{Memory as WantOfMemory};
+ghost use Rattle.cast_rules.specs.Refusals.{IsRefusal};
 ghost use Rattle.cast_rules.specs.Stops.{refusal};
 
 use cil_base::{Code, Fault, RuleStop, What};
@@ -14,15 +17,16 @@ pub(crate) fn bad(code: Code) -> RuleStop
 }
 
 /// What a branch answers that never comes.
-pub(crate) fn impossible() -> RuleStop
-    ensures { result ≡ stop.Memory }
+pub(crate) fn impossible() -> LayoutStop
+    ensures { result ≡ WantOfMemory }
 {
-    RuleStop::Memory
+    LayoutStop::Memory
 }
 
 /// Why types stop, as a rule's refusal: a type that is too big passes a limit.
 fn refusal(stop: LayoutStop) -> RuleStop
-    ensures { result ≡ refusal stop }
+    ensures is { result ≡ refusal stop }
+    ensures refused { (codes : Code → Bool) → IsRefusal codes result }
 {
     match stop {
         LayoutStop::TooBig(_) => RuleStop::Bad(Fault::Limit(What::ObjectSize)),
@@ -30,9 +34,10 @@ fn refusal(stop: LayoutStop) -> RuleStop
     }
 }
 
-/// What the making of a type gives, or its refusal.
+/// What the making of a node or of a type gives, or its refusal.
 pub(crate) fn made<T>(r: Result<T, LayoutStop>) -> Result<T, RuleStop>
-    ensures { MatchResult r (λ x. result ≡ Ok x) (λ e. result ≡ Err (refusal e)) }
+    ensures made { MatchResult r (λ x. result ≡ Ok x) (λ e. result ≡ Err (refusal e)) }
+    ensures refused { (codes : Code → Bool) → IfErr result (IsRefusal codes) }
 {
     match r {
         Ok(x) => Ok(x),
@@ -42,7 +47,8 @@ pub(crate) fn made<T>(r: Result<T, LayoutStop>) -> Result<T, RuleStop>
 
 /// Nothing, or the refusal for a constraint.
 pub(crate) fn allowed(first: Option<Code>) -> Result<(), RuleStop>
-    ensures { MatchOption first (result ≡ Ok tt) (λ code. result ≡ Err (stop.Bad (Constraint code))) }
+    ensures allowed { MatchOption first (result ≡ Ok tt) (λ code. result ≡ Err (stop.Bad (Constraint code))) }
+    ensures refused { (codes : Code → Bool) → IfSome first (λ code. codes code ≡ true) → IfErr result (IsRefusal codes) }
 {
     match first {
         Some(code) => Err(bad(code)),

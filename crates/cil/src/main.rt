@@ -1,31 +1,16 @@
-//! The program `cil`: it merges a C translation unit into a CIL program, and runs CIL programs, each answer under its theorem.
+//! The program `cil`: it merges C translation units into a CIL program, runs CIL programs, and makes samples.
 //!
-//! The contract of the function `cil` says what each command answers, what it writes and when each refusal comes;
-//! `main` only hands it the real files and streams.
+//! The contract of the function `cil` of `cil_commands` says what each command answers; `main` only hands it the real files and streams.
 //!
 //! The commands and their messages are the product's own.
 #![tactic(auto)]
 
-mod execute;
-mod file;
-mod lower;
-mod merge;
-mod printer;
-mod reader;
-#[cfg(test)]
-mod tests;
-#[cfg(test)]
-mod tests_reader;
-mod top;
-
 use cil_base::NamePool;
-pub use cil_lines::Status;
+use cil_commands::{Status, cil};
 use cil_lines::report;
-pub use cil_words::{Command, read_words};
 use outside::{HostFiles, StdSink, StdSource};
 use std::process::ExitCode;
 use std::{env, io};
-pub use top::cil;
 
 fn main(rt: HostRuntime) -> ExitCode {
     ExitCode::from(run(&rt).code())

@@ -1,7 +1,7 @@
 -- Definition: the numbers and texts of faults, of what is excluded, of violated constraints and of limits (own).
 use Rattle.std.specs.Prelude.{◌≡◌, ℕ, Bool, true, false, List, is_some, codes}
 use Rattle.cil_base.specs.declared.faults.Fault.{Fault}
-use Rattle.cil_base.specs.declared.faults.Fault.TheVariants.{Lexical, Excluded, Syntax, Constraint, Limit, Duplicate, Incompatible, NotBuilt}
+use Rattle.cil_base.specs.declared.faults.Fault.TheVariants.{Lexical, Excluded, Syntax, Constraint, Limit, Duplicate, Incompatible}
 use Rattle.cil_base.specs.declared.faults.Refusal.{Refusal}
 use Rattle.cil_base.specs.declared.faults.Feature.{Feature}
 use Rattle.cil_base.specs.declared.faults.Feature.TheVariants.{Floating, Volatile, Complex, Atomic, ThreadLocal, Alignas, Generic, Jump, Assembly, Varargs, Prefixed, MultiChar, Universal, Pack, Int128, FuncName, Typeof, Attribute, BitField, VariableArray, IdentifierList, ExternalInline, VariadicDefinition, FlexibleInit}
@@ -19,7 +19,6 @@ fault_number (Constraint code) = 4
 fault_number (Limit what) = 5
 fault_number Duplicate = 6
 fault_number Incompatible = 7
-fault_number NotBuilt = 8
 
 -- a syntax fault has the token at which it begins and the one at which it is found; a duplicate or an incompatible
 -- declaration has the later and the earlier one

@@ -279,12 +279,10 @@ pub enum Fault {
     Duplicate,
     /// Two units declare one external name with types that are not compatible (C11 6.2.7p2).
     Incompatible,
-    /// A form of the language is not built yet.
-    NotBuilt,
 }
 
 impl Fault {
-    /// The number of the fault's kind, from 1 to 8.
+    /// The number of the fault's kind, from 1 to 7.
     pub fn number(&self) -> u8
         ensures { result ≡ fault_number self.now }
     {
@@ -296,7 +294,6 @@ impl Fault {
             Fault::Limit(_) => 5,
             Fault::Duplicate => 6,
             Fault::Incompatible => 7,
-            Fault::NotBuilt => 8,
         }
     }
 }

@@ -227,7 +227,7 @@ fn adjacent_agree(g: &TypeGraph, t: TypeId, items: &[ImageItem]) -> bool
 /// Whether of each union one member is initialised. Paths that agree at unions and lead to scalars whose offsets rise
 /// stand in order, so comparing each path with the next tells it of all.
 #[tactic(auto, using(crate::proofs::OrderLaws::adjacent_is))]
-fn unions_agree(g: &TypeGraph, t: TypeId, items: &[ImageItem]) -> bool
+pub fn unions_agree(g: &TypeGraph, t: TypeId, items: &[ImageItem]) -> bool
     requires there { t.0 < length g.now.nodes }
     requires rise { ScalarsRise g.now (shape g.now.nodes t.0) (map item_of items.now) }
     ensures { result ≡ unions_agree g.now (shape g.now.nodes t.0) (map item_of items.now) }

@@ -28,6 +28,7 @@ mod words;
 
 pub use expressions::{global_type, local_type};
 pub use globals::check;
+pub use images::unions_agree;
 pub use operators::{
     address, binary, cast, constant, element, element_of, is_scalar, is_void, member, names_enum,
     pointed, read, start, unary,

@@ -3,7 +3,7 @@ use Rattle.std.specs.Prelude.{ℕ, ◌<◌, List, [], ◌∷◌, ◌++◌, codes
 use Rattle.std.specs.List.{concat}
 use Rattle.std.specs.Option.{ForSome}
 use Rattle.cil_base.specs.declared.faults.Fault.{Fault}
-use Rattle.cil_base.specs.declared.faults.Fault.TheVariants.{Lexical, Excluded, Syntax, Constraint, Limit, Duplicate, Incompatible, NotBuilt}
+use Rattle.cil_base.specs.declared.faults.Fault.TheVariants.{Lexical, Excluded, Syntax, Constraint, Limit, Duplicate, Incompatible}
 use Rattle.cil_base.specs.declared.faults.Place.{Place}
 use Rattle.cil_base.specs.declared.faults.Refusal.{Refusal}
 use Rattle.cil_base.specs.Fault.{feature_text, code_text, what_text}
@@ -35,13 +35,12 @@ fault_pieces (Constraint code) = codes "constraint: " ∷ code_text code ∷ []
 fault_pieces (Limit what) = codes "limit: " ∷ what_text what ∷ []
 fault_pieces Duplicate = codes "duplicate definition, other at " ∷ codes "" ∷ []
 fault_pieces Incompatible = codes "incompatible declaration, other at " ∷ codes "" ∷ []
-fault_pieces NotBuilt = codes "not built" ∷ codes "" ∷ []
 
 abbrev pub other_pieces : List (List ℕ) → Option Place → List (List ℕ)
 other_pieces names None = []
 other_pieces names (Some place) = place_pieces names place
 
--- the line of a refusal, such as `cil: a.c:1: not built`
+-- the line of a refusal, such as `cil: a.c:1: lexical fault`
 abbrev pub refusal_line : List (List ℕ) → Refusal → List ℕ
 refusal_line names refusal =
     concat (codes "cil: " ∷ place_pieces names refusal.at) ++ (concat (codes ": " ∷ fault_pieces refusal.fault) ++ concat (other_pieces names refusal.other ++ codes "\n" ∷ []))
@@ -52,7 +51,7 @@ line_of names steps Done = []
 line_of names steps (Exited status) = []
 line_of names steps StillRunning = concat (codes "cil: still running after " ∷ decimal steps ∷ codes " steps\n" ∷ [])
 line_of names steps WentUndefined = codes "cil: undefined behaviour\n"
-line_of names steps Usage = codes "cil: usage: cil merge FILE... | cil run [--steps N] FILE [ARG...] | cil sample SEED UNITS\n"
+line_of names steps Usage = codes "cil: usage: cil merge [--common] FILE... | cil run [--steps N] FILE [ARG...] | cil sample SEED UNITS\n"
 line_of names steps (Refused refusal) = refusal_line names refusal
 line_of names steps (NotCil byte) = concat (codes "cil: not CIL at byte " ∷ decimal byte ∷ codes "\n" ∷ [])
 line_of names steps ReadFault = codes "cil: read fault\n"

@@ -13,7 +13,7 @@ use outside::{Failed, Sink, write_all};
 
 // The forms of the commands.
 const USAGE: &str =
-    "cil: usage: cil merge FILE... | cil run [--steps N] FILE [ARG...] | cil sample SEED UNITS\n";
+    "cil: usage: cil merge [--common] FILE... | cil run [--steps N] FILE [ARG...] | cil sample SEED UNITS\n";
 
 // Writes the pieces, one behind the other.
 fn write_pieces<E: Sink>(err: &mut E, pieces: &[&[u8]]) -> Result<(), Failed>
@@ -79,7 +79,6 @@ fn fault_words(fault: Fault) -> (&'static str, &'static str)
         Fault::Limit(what) => ("limit: ", what.text()),
         Fault::Duplicate => ("duplicate definition, other at ", ""),
         Fault::Incompatible => ("incompatible declaration, other at ", ""),
-        Fault::NotBuilt => ("not built", ""),
     }
 }
 

@@ -44,8 +44,8 @@ fn limit_passed(total: usize, size: usize) -> Option<What>
 }
 
 impl Sources {
-    /// Keeps a unit, unless it or one before it passes a limit.
-    fn add(&mut self, unit: Vec<u8>) -> Result<(), ReadStop>
+    /// Keeps a unit without the room that its reading left, unless it or one before it passes a limit.
+    fn add(&mut self, mut unit: Vec<u8>) -> Result<(), ReadStop>
         requires within { is_within self.old }
         ensures ok { OnOk result (state_of self.new ≡ with_unit (state_of self.old) unit.items) }
         ensures within { is_within self.new }
@@ -58,6 +58,7 @@ impl Sources {
             self.over = Some(limit);
             return Ok(());
         }
+        unit.shrink_to_fit();
         self.total += unit.len();
         match self.units.push(Bytes::new(unit)) {
             Ok(()) => Ok(()),

@@ -5,7 +5,7 @@ use Rattle.std.specs.Option.{option_map, option_and_then, option_to_list}
 use Rattle.std.specs.Str.{bytes_eq}
 use Rattle.std.specs.Str.Parse.{digits_value}
 use Rattle.cil_words.specs.declared.command.Command.{Command}
-use Rattle.cil_words.specs.declared.command.Command.TheVariants.{Merge, Run}
+use Rattle.cil_words.specs.declared.command.Command.TheVariants.{Merge, Run, Sample}
 
 -- a word that an operating system can hand on: it has fewer than 2^31 - 1 bytes, and none of them is zero
 abbrev pub is_word : List ℕ → Bool
@@ -20,15 +20,22 @@ abbrev pub names_file : List ℕ → Bool
 names_file [] = false
 names_file (b ∷ bs) = not (b == 45)
 
--- the number from 1 to the greatest that a word spells, in decimal digits of which the first is not 0
-abbrev pub bound_up_to : ℕ → List ℕ → Option ℕ
-bound_up_to most word =
-    if (nat_le 1 (digits_value 10 word) && nat_le (digits_value 10 word) most) && bytes_eq word (decimal (digits_value 10 word))
+-- the number from the least to the greatest that a word spells, in decimal digits of which the first is 0 only in zero itself
+abbrev pub number_between : ℕ → ℕ → List ℕ → Option ℕ
+number_between least most word =
+    if (nat_le least (digits_value 10 word) && nat_le (digits_value 10 word) most) && bytes_eq word (decimal (digits_value 10 word))
     then Some (digits_value 10 word) else None
 
 -- the bound on steps that a word spells
 abbrev pub steps_of : List ℕ → Option ℕ
-steps_of word = bound_up_to 1000000000000 word
+steps_of word = number_between 1 1000000000000 word
+
+-- the seed of a sample, and the number of its units, that a word spells
+abbrev pub seed_of : List ℕ → Option ℕ
+seed_of word = number_between 0 2147483647 word
+
+abbrev pub units_of : List ℕ → Option ℕ
+units_of word = number_between 1 1000 word
 
 -- 1 to 1,024 words that name files
 abbrev pub are_files : List (List ℕ) → Bool
@@ -48,8 +55,18 @@ run_bounded_of _ = None
 abbrev pub run_of : List ℕ → List (List ℕ) → Option Command
 run_of word words = if bytes_eq word (codes "--steps") then run_bounded_of words else (if names_file word then Some (Run 10000000 1) else None)
 
+-- behind `sample`: SEED UNITS
+abbrev pub sample_by : Option ℕ → Option ℕ → Option Command
+sample_by (Some seed) (Some units) = Some (Sample seed units)
+sample_by _ _ = None
+
+abbrev pub sample_of : List ℕ → List (List ℕ) → Option Command
+sample_of seed (units ∷ []) = sample_by (seed_of seed) (units_of units)
+sample_of _ _ = None
+
 abbrev pub command_by_name : List ℕ → List ℕ → List (List ℕ) → Option Command
-command_by_name name word words = if bytes_eq name (codes "merge") then merge_of word words else (if bytes_eq name (codes "run") then run_of word words else None)
+command_by_name name word words =
+    if bytes_eq name (codes "merge") then merge_of word words else (if bytes_eq name (codes "run") then run_of word words else (if bytes_eq name (codes "sample") then sample_of word words else None))
 
 abbrev pub command_in : List (List ℕ) → Option Command
 command_in (name ∷ word ∷ words) = command_by_name name word words
@@ -59,26 +76,43 @@ command_in _ = None
 abbrev pub command_of : List (List ℕ) → Option Command
 command_of words = if are_words words then command_in words else None
 
--- the position of the first file of a command
-abbrev pub file_position : Command → ℕ
-file_position (Merge common first) = first
-file_position (Run steps file) = file
+-- the position of the first file of a command that reads files
+abbrev pub file_position : Command → Option ℕ
+file_position (Merge common first) = Some first
+file_position (Run steps file) = Some file
+file_position (Sample seed units) = None
 
 -- the position of the first file that is to be merged, and of the file that is to be run
 abbrev pub merged_position : Command → Option ℕ
 merged_position (Merge common first) = Some first
 merged_position (Run steps file) = None
+merged_position (Sample seed units) = None
 
 abbrev pub run_position : Command → Option ℕ
 run_position (Merge common first) = None
 run_position (Run steps file) = Some file
+run_position (Sample seed units) = None
 
 -- the word that names the first file of the command, and the file to be run
 abbrev pub file_of : List (List ℕ) → Option (List ℕ)
-file_of words = option_and_then (λ command. slice_get words (file_position command)) (command_of words)
+file_of words = option_and_then (slice_get words) (option_and_then file_position (command_of words))
 
 abbrev pub run_file : List (List ℕ) → Option (List ℕ)
 run_file words = option_and_then (slice_get words) (option_and_then run_position (command_of words))
+
+-- the seed of a sample, and the number of its units
+pub record SampleWords : Type 0 where
+  pub seed : ℕ
+  pub units : ℕ
+
+-- the sample that the words ask for
+abbrev pub sample_in : Command → Option SampleWords
+sample_in (Merge common first) = None
+sample_in (Run steps file) = None
+sample_in (Sample seed units) = Some (record { seed = seed; units = units })
+
+abbrev pub sample_asked : List (List ℕ) → Option SampleWords
+sample_asked words = option_and_then sample_in (command_of words)
 
 -- the words that name the files to be merged
 abbrev pub merged_files : List (List ℕ) → List (List ℕ)
@@ -98,6 +132,7 @@ abbrev pub files_by : List (List ℕ) → Option Command → List (List ℕ)
 files_by words None = []
 files_by words (Some (Merge common first)) = drop first words
 files_by words (Some (Run steps file)) = option_to_list (slice_get words file)
+files_by words (Some (Sample seed units)) = []
 
 abbrev pub files_of : List (List ℕ) → List (List ℕ)
 files_of words = files_by words (command_of words)
@@ -106,11 +141,13 @@ files_of words = files_by words (command_of words)
 abbrev pub is_common : Command → Bool
 is_common (Merge common first) = common
 is_common (Run steps file) = false
+is_common (Sample seed units) = false
 
--- the bound on the steps of the run that the words ask for
+-- the bound on the steps of the run that the words ask for; that of a sample's program is 10,000,000
 abbrev pub bound_of : Command → ℕ
 bound_of (Merge common first) = 0
 bound_of (Run steps file) = steps
+bound_of (Sample seed units) = 10000000
 
 abbrev pub steps_asked : List (List ℕ) → ℕ
 steps_asked words = unwrap_or (option_map bound_of (command_of words)) 0

@@ -1,7 +1,7 @@
-ghost use Rattle.std.specs.Prelude.{◌≡◌, ◌≤◌, ◌↔◌, map, decimal, IsTrue};
+ghost use Rattle.std.specs.Prelude.{◌≡◌, ◌≤◌, ◌↔◌, map, decimal, IsTrue, IfSome};
 ghost use Rattle.std.specs.List.{list_all};
 ghost use Rattle.std.specs.String.{string_bytes};
-ghost use Rattle.cil_words.specs.Command.{command_of, command_by_name, merge_of, run_of, run_bounded_of, steps_of, names_file, is_word as is_word_of, are_words as are_words_of};
+ghost use Rattle.cil_words.specs.Command.{command_of, command_by_name, merge_of, run_of, run_bounded_of, sample_of, sample_by, number_between, steps_of, seed_of, units_of, names_file, is_word as is_word_of, are_words as are_words_of};
 
 use itoa::Buffer;
 
@@ -13,6 +13,8 @@ pub enum Command {
     Merge { common: bool, first: u32 },
     /// `run [--steps N] FILE [ARG...]`: the bound on steps, and the position of the file among the words.
     Run { steps: u64, file: u32 },
+    /// `sample SEED UNITS`: the seed, which is below 2^31, and the number of units, from 1 to 1,000.
+    Sample { seed: u32, units: u32 },
 }
 
 /// The greatest number of files of a merge.
@@ -23,6 +25,12 @@ const STEPS: u64 = 10_000_000;
 
 /// The greatest bound on the steps of a run.
 const MOST_STEPS: u64 = 1_000_000_000_000;
+
+/// The greatest seed of a sample.
+const MOST_SEED: u32 = 2_147_483_647;
+
+/// The greatest number of units of a sample.
+const MOST_UNITS: u32 = 1_000;
 
 /// The command that the words behind the program's name are, or none. Own.
 pub fn read_words(words: &[String]) -> Option<Command>
@@ -45,6 +53,8 @@ fn named_command(name: &str, word: &String, rest: &[String]) -> Option<Command>
         merge_command(word, rest)
     } else if name == "run" {
         run_command(word, rest)
+    } else if name == "sample" {
+        sample_command(word, rest)
     } else {
         None
     }
@@ -105,7 +115,7 @@ fn bounded_run(words: &[String]) -> Option<Command>
     match words {
         [steps, file, ..] => {
             if is_file_name(file.as_bytes()) {
-                bound(steps.as_str()).map(|steps| Command::Run { steps, file: 3 })
+                number(steps.as_str(), 1, MOST_STEPS).map(|steps| Command::Run { steps, file: 3 })
             } else {
                 None
             }
@@ -114,14 +124,47 @@ fn bounded_run(words: &[String]) -> Option<Command>
     }
 }
 
-// The bound on steps that a word spells.
-fn bound(word: &str) -> Option<u64>
-    ensures { result ≡ steps_of word.now }
+fn sample_command(seed: &String, rest: &[String]) -> Option<Command>
+    ensures { result ≡ sample_of (string_bytes seed.now) (map string_bytes rest.now) }
+{
+    match rest {
+        [units] => sample(seed.as_str(), units.as_str()),
+        _ => None,
+    }
+}
+
+// The sample of that seed and that number of units.
+fn sample(seed: &str, units: &str) -> Option<Command>
+    ensures { result ≡ sample_by (seed_of seed.now) (units_of units.now) }
+{
+    match (
+        small_number(seed, 0, MOST_SEED),
+        small_number(units, 1, MOST_UNITS),
+    ) {
+        (Some(seed), Some(units)) => Some(Command::Sample { seed, units }),
+        _ => None,
+    }
+}
+
+// The number from the least to the greatest that a word spells.
+fn small_number(word: &str, least: u32, most: u32) -> Option<u32>
+    ensures { result ≡ number_between least most word.now }
+{
+    match number(word, u64::from(least), u64::from(most)) {
+        Some(n) => Some(n as u32),
+        None => None,
+    }
+}
+
+// The number from the least to the greatest that a word spells.
+fn number(word: &str, least: u64, most: u64) -> Option<u64>
+    ensures is { result ≡ number_between least most word.now }
+    ensures within { IfSome result (λ n. n ≤ most) }
 {
     match word.parse::<u64>() {
-        Ok(steps) => {
-            if spells(word, steps) {
-                Some(steps)
+        Ok(n) => {
+            if spells(word, n, least, most) {
+                Some(n)
             } else {
                 None
             }
@@ -130,12 +173,12 @@ fn bound(word: &str) -> Option<u64>
     }
 }
 
-// Whether a word is the decimal spelling of a number of steps that may be asked for.
-fn spells(word: &str, steps: u64) -> bool
-    ensures { IsTrue result ↔ ((1 ≤ steps) × ((steps ≤ 1000000000000) × (word.now ≡ decimal steps))) }
+// Whether a word is the decimal spelling of a number, which is from the least to the greatest.
+fn spells(word: &str, n: u64, least: u64, most: u64) -> bool
+    ensures { IsTrue result ↔ ((least ≤ n) × ((n ≤ most) × (word.now ≡ decimal n))) }
 {
     let mut buffer = Buffer::new();
-    steps >= 1 && steps <= MOST_STEPS && buffer.format(steps) == word
+    n >= least && n <= most && buffer.format(n) == word
 }
 
 // Whether a word can name a file.

@@ -1,8 +1,21 @@
--- Definition: the form of an integer constant expression (C11 6.6p6): built of integer constants by conversions between integer types and by operators on integers; comma, assignments, steps and calls are none of them (6.6p3).
-use Rattle.std.specs.Prelude.{Bool, true, false, ◌&&◌, is_some}
+-- Definition: the form of an integer constant expression (C11 6.6p6): built of integer constants by conversions between integer types and by operators on integers; comma, assignments, steps and calls are none of them (6.6p3). What is not evaluated of `&&`, `||` and `?:` is not looked at (own).
+use Rattle.std.specs.Prelude.{Bool, true, false, ◌&&◌, ◌||◌, Option, Some, None, is_some}
 use Rattle.type_graph.specs.Arena.{Graph}
 use Rattle.typed_tree.specs.Tree.{Typed, Form, Has, Integer, Local, Literal, Entity, Load, Decay, Address, Indirect, Subscript, Member, Convert, Unary, Binary, Logical, Conditional, Comma, Assign, Compute, Step, Call}
-use Rattle.const_eval.specs.Values.{kind_in}
+use Rattle.typed_tree.specs.declared.expressions.Logic.{Logic}
+use Rattle.const_eval.specs.Values.{kind_in, decided_by}
+use Rattle.const_eval.specs.Constants.{value, truth_in}
+
+-- whether the first operand of `&&` or `||` decides alone
+abbrev pub decides : Logic → Option Bool → Bool
+decides op (Some holds) = is_some (decided_by op holds)
+decides op None = false
+
+-- `?:`: of the one that the test chooses, of both where it has no value
+abbrev pub of_chosen : Option Bool → Bool → Bool → Bool
+of_chosen (Some true) holds fails = holds
+of_chosen (Some false) holds fails = fails
+of_chosen None holds fails = holds && fails
 
 abbrev mutual
   pub has_constant_form : Graph → Typed → Bool
@@ -22,8 +35,8 @@ abbrev mutual
   is_of_constants g (Convert e) = has_constant_form g e
   is_of_constants g (Unary op e) = has_constant_form g e
   is_of_constants g (Binary op l r) = has_constant_form g l && has_constant_form g r
-  is_of_constants g (Logical op l r) = has_constant_form g l && has_constant_form g r
-  is_of_constants g (Conditional test holds fails) = has_constant_form g test && (has_constant_form g holds && has_constant_form g fails)
+  is_of_constants g (Logical op l r) = has_constant_form g l && (decides op (truth_in (value g l)) || has_constant_form g r)
+  is_of_constants g (Conditional test holds fails) = has_constant_form g test && of_chosen (truth_in (value g test)) (has_constant_form g holds) (has_constant_form g fails)
   is_of_constants g (Comma l r) = false
   is_of_constants g (Assign l r) = false
   is_of_constants g (Compute op at l r) = false

@@ -26,7 +26,7 @@ pub fn eval(e: &TypedExp, t: &Types) -> Option<Constant>
 
 /// The value of an expression that is no lvalue.
 #[cycle(constants)]
-fn value(e: &TypedExp, t: &Types) -> Option<Known>
+pub(crate) fn value(e: &TypedExp, t: &Types) -> Option<Known>
     ensures told { result ≡ value t.now (typed_of t.now.nodes e.now) }
     ensures known { IfSome result IsKnown }
 {

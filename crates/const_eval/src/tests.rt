@@ -640,12 +640,37 @@ fn expressions_have_their_constants(rt: HostRuntime) -> Result<(), Fail> {
 
 fn forms_are_told(rt: &impl Abort, alloc: Global, types: &mut Types) -> Result<(), LayoutStop> {
     let pointer = Word::ToPointer(INT);
-    let rows: [(&[Word], bool); 7] = [
+    let rows: [(&[Word], bool); 10] = [
         (&[n(2147483647), n(1), PLUS], true),
         (&[n(1), NEG, Word::To(IntKind::Char), n(2), AND], true),
         (&[n(1), n(1), n(0), OVER, n(3), Word::If], true),
         (&[Word::Automatic, Word::Load, n(1), PLUS], false),
-        (&[n(1), n(2), Word::Automatic, Word::Load, Word::If], false),
+        (&[n(1), n(2), Word::Automatic, Word::Load, Word::If], true),
+        (&[n(0), n(2), Word::Automatic, Word::Load, Word::If], false),
+        (
+            &[
+                n(1),
+                n(1),
+                n(0),
+                OVER,
+                Word::Automatic,
+                Word::Load,
+                Word::If,
+            ],
+            true,
+        ),
+        (
+            &[
+                n(1),
+                n(0),
+                OVER,
+                n(2),
+                Word::Automatic,
+                Word::Load,
+                Word::If,
+            ],
+            false,
+        ),
         (&[n(4), pointer, Word::To(INT)], false),
         (&[n(1), n(2), Word::Comma], false),
     ];

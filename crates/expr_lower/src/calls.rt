@@ -1,6 +1,8 @@
+ghost use Rattle.std.specs.Prelude.{IfOk};
+ghost use Rattle.expr_lower.specs.Code.{IsLeft};
+
 use crate::output::FunctionOut;
-use crate::places::{saved, variable};
-use crate::results::value_of;
+use crate::places::{saved, value_of, variable};
 use cil_base::{EntityId, LocalId, Memory, TypeId};
 use cil_nodes::{direct, through};
 use cil_tree::{Callee, Exp, Instr, Stmt};
@@ -100,13 +102,16 @@ pub(crate) fn call_for_effect(
 }
 
 /// The value of an argument, saved where one behind it has an effect.
+#[tactic(auto, using(crate::proofs::CodeLaws::left_stays, crate::proofs::CodeLaws::left_saved))]
 pub(crate) fn argument(
     f: &mut FunctionOut,
     e: &TypedExp,
     x: Box<Exp>,
     later: bool,
     out: &mut Vec<Stmt>,
-) -> Result<Box<Exp>, Memory> {
+) -> Result<Box<Exp>, Memory>
+    ensures left { IfOk result (λ y. IsLeft later x.value out.old.items out.new.items y.value) }
+{
     if !later {
         return Ok(x);
     }

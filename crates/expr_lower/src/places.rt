@@ -1,8 +1,15 @@
-use crate::constants::natural;
+ghost use Rattle.std.specs.Prelude.{◌≡◌, ◌++◌, ◌∷◌, [], IfOk, OnOk};
+ghost use Rattle.cil_tree.specs.declared.statements.Instr.TheVariants as instr;
+ghost use Rattle.cil_tree.specs.declared.statements.Stmt.TheVariants as stmt;
+ghost use Rattle.cil_nodes.specs.Built.{IsValue};
+ghost use Rattle.expr_lower.specs.Code.{IsVariable, Saves, Reads, IsLeft, IsStep, IsPart, Clears};
+
 use crate::output::FunctionOut;
 use crate::shapes::{element_of, impossible, is_function, member_of, pointer_to};
 use cil_base::{BinOp, EntityId, IntKind, LocalId, Memory, TypeId};
-use cil_nodes::{add_element, add_field, address, at, binary, boxed, set, start, value, whole};
+use cil_nodes::{
+    add_element, add_field, address, at, binary, boxed, constant, set, start, value, whole, zero,
+};
 use cil_tree::{Exp, Host, Lval, Stmt};
 use std::alloc::Global;
 use typed_tree::{Path, Step, TypedExp, TypedNode};
@@ -19,12 +26,16 @@ pub(crate) enum Kept {
 }
 
 /// The place of a local.
-pub(crate) fn variable(alloc: Global, n: LocalId) -> Lval {
+pub(crate) fn variable(alloc: Global, n: LocalId) -> Lval
+    ensures { IsVariable n result }
+{
     whole(alloc, Host::Var(n))
 }
 
 /// The value of a place.
-pub(crate) fn read(alloc: Global, place: Lval) -> Result<Box<Exp>, Memory> {
+pub(crate) fn read(alloc: Global, place: Lval) -> Result<Box<Exp>, Memory>
+    ensures { IfOk result (λ b. IsValue place b.value) }
+{
     boxed(alloc, value(place))
 }
 
@@ -40,19 +51,32 @@ pub(crate) fn named(alloc: Global, kept: Kept) -> Result<Lval, Memory> {
     }
 }
 
+/// The value of a local.
+#[tactic(auto, using(crate::proofs::CodeLaws::reads_from))]
+pub(crate) fn value_of(f: &FunctionOut, n: LocalId) -> Result<Box<Exp>, Memory>
+    ensures { IfOk result (λ b. Reads n b.value) }
+{
+    read(f.alloc, variable(f.alloc, n))
+}
+
 /// Stores a value in a place.
-pub(crate) fn store(place: Lval, x: Box<Exp>, out: &mut Vec<Stmt>) -> Result<(), Memory> {
+pub(crate) fn store(place: Lval, x: Box<Exp>, out: &mut Vec<Stmt>) -> Result<(), Memory>
+    ensures { OnOk result (out.new.items ≡ out.old.items ++ stmt.Instr (instr.Set place x.value) ∷ []) }
+{
     out.push(Stmt::Instr(set(place, x)))?;
     Ok(())
 }
 
 /// Stores a value in a new temporary of a type.
+#[tactic(auto, using(crate::proofs::CodeLaws::saves_in))]
 pub(crate) fn saved(
     f: &mut FunctionOut,
     x: Box<Exp>,
     t: TypeId,
     out: &mut Vec<Stmt>,
-) -> Result<LocalId, Memory> {
+) -> Result<LocalId, Memory>
+    ensures { IfOk result (λ n. Saves n x.value out.old.items out.new.items) }
+{
     let n = f.add_unnamed(t)?;
     store(variable(f.alloc, n), x, out)?;
     Ok(n)
@@ -123,19 +147,22 @@ pub(crate) fn left_place(
 }
 
 /// The value of a left operand, saved where an operand behind it in the same node has an effect.
+#[tactic(auto, using(crate::proofs::CodeLaws::left_stays, crate::proofs::CodeLaws::left_saved))]
 pub(crate) fn left_value(
     f: &mut FunctionOut,
     e: &TypedExp,
     x: Box<Exp>,
     later: &TypedExp,
     out: &mut Vec<Stmt>,
-) -> Result<Box<Exp>, Memory> {
+) -> Result<Box<Exp>, Memory>
+    ensures left { IfOk result (λ y. IsLeft later.now.effect x.value out.old.items out.new.items y.value) }
+{
     if !later.has_effect() {
         return Ok(x);
     }
     let t = f.type_of(e)?;
     let n = saved(f, x, t, out)?;
-    read(f.alloc, variable(f.alloc, n))
+    value_of(f, n)
 }
 
 /// What a pointer of either sort, array or function, decays to (C11 6.3.2.1p3, p4), from the place of what decays.
@@ -192,19 +219,52 @@ pub(crate) fn is_part(e: &TypedExp) -> bool {
     }
 }
 
-/// The part of a local to which a path leads.
-pub(crate) fn part(alloc: Global, n: LocalId, path: &Path) -> Result<Lval, Memory> {
-    let mut place = variable(alloc, n);
-    for step in path.as_slice() {
-        match step {
-            Step::Field(i) => add_field(&mut place, *i)?,
-            Step::Index(i) => {
-                let index = natural(alloc, IntKind::Int, *i as i128)?;
-                add_element(&mut place, index)?;
-            }
+/// Steps from a place into a part of it.
+#[tactic(auto, using(crate::proofs::CodeLaws::field_step, crate::proofs::CodeLaws::element_step))]
+fn step_into(alloc: Global, place: &mut Lval, step: Step) -> Result<(), Memory>
+    ensures { OnOk result (IsStep place.old step place.new) }
+{
+    match step {
+        Step::Field(i) => add_field(place, i),
+        Step::Index(i) => {
+            let index = boxed(alloc, constant(IntKind::Int, i))?;
+            add_element(place, index)
         }
     }
+}
+
+/// The part of a local to which a path leads.
+#[tactic(auto, using(crate::proofs::CodeLaws::begins, crate::proofs::CodeLaws::steps, crate::proofs::CodeLaws::arrives))]
+pub(crate) fn part(alloc: Global, n: LocalId, path: &[Step]) -> Result<Lval, Memory>
+    ensures { IfOk result (IsPart n path.now) }
+{
+    let mut place = variable(alloc, n);
+    for step in path {
+        step_into(alloc, &mut place, *step)?;
+    }
     Ok(place)
+}
+
+/// Makes each byte of a place zero.
+fn fill(place: Lval, out: &mut Vec<Stmt>) -> Result<(), Memory>
+    ensures { OnOk result (out.new.items ≡ out.old.items ++ stmt.Instr (instr.Zero place) ∷ []) }
+{
+    out.push(Stmt::Instr(zero(place)))?;
+    Ok(())
+}
+
+/// Makes the part of a local zero to which a path leads (C11 6.7.9p19).
+#[tactic(auto, using(crate::proofs::CodeLaws::clears_part))]
+pub(crate) fn clear(
+    alloc: Global,
+    n: LocalId,
+    path: &[Step],
+    out: &mut Vec<Stmt>,
+) -> Result<(), Memory>
+    ensures { OnOk result (Clears n path.now out.old.items out.new.items) }
+{
+    let place = part(alloc, n, path)?;
+    fill(place, out)
 }
 
 /// The type of the part of a local to which a path leads.

@@ -1,9 +1,12 @@
+ghost use Rattle.std.specs.Prelude.{IfOk, OnOk};
+ghost use Rattle.expr_lower.specs.Code.{Chooses, IsTruth, IsShort, IsShortEffect};
+
 use crate::constants::{integer, natural};
 use crate::output::FunctionOut;
-use crate::places::{Kept, named, read, saved, store, variable};
+use crate::places::{Kept, named, read, saved, store, value_of, variable};
 use crate::shapes::{impossible, kind_of};
 use cil_base::{BinOp, IntKind, LocalId, Memory, TypeId};
-use cil_nodes::{binary, boxed, cast, if_else};
+use cil_nodes::{binary, boxed, cast, constant, if_else};
 use cil_tree::{Exp, Stmt};
 use std::alloc::Global;
 use typed_tree::{Logic, StepForm, TypedExp};
@@ -29,11 +32,6 @@ pub fn converted(alloc: Global, x: Box<Exp>, from: TypeId, to: TypeId) -> Result
 pub(crate) fn value_at(f: &FunctionOut, kept: Kept) -> Result<Box<Exp>, Memory> {
     let place = named(f.alloc, kept)?;
     read(f.alloc, place)
-}
-
-/// The value of a temporary.
-pub(crate) fn value_of(f: &FunctionOut, n: LocalId) -> Result<Box<Exp>, Memory> {
-    read(f.alloc, variable(f.alloc, n))
 }
 
 /// The value that the place of a compound assignment has before it, saved where the right operand has an effect.
@@ -151,20 +149,26 @@ pub(crate) fn stepped(
 }
 
 /// An `if`.
+#[tactic(auto, using(crate::proofs::CodeLaws::chooses_if))]
 pub(crate) fn choose(
     test: Box<Exp>,
     holds: Vec<Stmt>,
     fails: Vec<Stmt>,
     out: &mut Vec<Stmt>,
-) -> Result<(), Memory> {
+) -> Result<(), Memory>
+    ensures { OnOk result (Chooses test.value holds.items fails.items out.old.items out.new.items) }
+{
     out.push(if_else(test, holds, fails))?;
     Ok(())
 }
 
 /// Stores an int in a local.
-fn store_truth(alloc: Global, n: LocalId, truth: i128) -> Result<Vec<Stmt>, Memory> {
+#[tactic(auto, using(crate::proofs::CodeLaws::truth_in, crate::proofs::CodeLaws::saves_in))]
+fn store_truth(alloc: Global, n: LocalId, truth: u64) -> Result<Vec<Stmt>, Memory>
+    ensures { IfOk result (λ code. IsTruth n truth code.items) }
+{
     let mut out = Vec::new(alloc);
-    let x = natural(alloc, IntKind::Int, truth)?;
+    let x = boxed(alloc, constant(IntKind::Int, truth))?;
     store(variable(alloc, n), x, &mut out)?;
     Ok(out)
 }
@@ -190,7 +194,9 @@ pub(crate) fn short_circuit(
     first: Box<Exp>,
     second: Vec<Stmt>,
     out: &mut Vec<Stmt>,
-) -> Result<(), Memory> {
+) -> Result<(), Memory>
+    ensures short { OnOk result (IsShort op n first.value second.items out.old.items out.new.items) }
+{
     match op {
         Logic::And => {
             let fails = store_truth(alloc, n, 0)?;
@@ -210,7 +216,9 @@ pub(crate) fn short_circuit_effects(
     first: Box<Exp>,
     second: Vec<Stmt>,
     out: &mut Vec<Stmt>,
-) -> Result<(), Memory> {
+) -> Result<(), Memory>
+    ensures short { OnOk result (IsShortEffect op first.value second.items out.old.items out.new.items) }
+{
     let none = Vec::new(alloc);
     match op {
         Logic::And => choose(first, second, none, out),

@@ -3,16 +3,16 @@ use crate::calls::{
 };
 use crate::output::FunctionOut;
 use crate::places::{
-    Kept, address_of, decayed, element, element_at, is_part, keep, left_place, left_value, member,
-    member_of_value, named, part, part_type, read, saved, store, variable,
+    Kept, address_of, clear, decayed, element, element_at, is_part, keep, left_place, left_value,
+    member, member_of_value, named, part, part_type, read, saved, store, value_of, variable,
 };
 use crate::results::{
-    Computing, choose, compute, computes, constant_of, decide, old_value, short_circuit,
-    short_circuit_effects, step, step_op, stepped, value_at, value_of,
+    Computing, choose, compute, computes, constant_of, converted, decide, old_value, short_circuit,
+    short_circuit_effects, step, step_op, stepped, value_at,
 };
 use crate::shapes::{element_of, impossible, is_void};
 use cil_base::{BinOp, Bytes, IntKind, LocalId, Memory, TypeId};
-use cil_nodes::{at, binary, boxed, cast, constant, push_argument, unary, whole, zero};
+use cil_nodes::{at, binary, boxed, cast, constant, push_argument, unary, whole};
 use cil_tree::{Callee, Exp, Lval, Stmt};
 use typed_tree::{InitStep, Path, StepForm, TypedExp, TypedInit, TypedNode};
 
@@ -65,7 +65,8 @@ pub fn value(f: &mut FunctionOut, e: &TypedExp, out: &mut Vec<Stmt>) -> Result<B
         }
         TypedNode::Convert(a) => {
             let x = value(f, a, out)?;
-            boxed(f.alloc, cast(t, x))
+            let from = f.type_of(a)?;
+            converted(f.alloc, x, from, t)
         }
         TypedNode::Unary(op, a) => {
             let x = value(f, a, out)?;
@@ -411,7 +412,7 @@ fn store_bytes(
     let bytes = bytes.as_slice();
     for i in 0..bytes.len() {
         let index = boxed(f.alloc, constant(IntKind::Int, i as u64))?;
-        let place = part(f.alloc, n, path)?;
+        let place = part(f.alloc, n, path.as_slice())?;
         let place = element(place, index)?;
         let x = boxed(f.alloc, constant(IntKind::Int, bytes[i] as u64))?;
         let x = boxed(f.alloc, cast(t, x))?;
@@ -430,13 +431,10 @@ pub fn initialise(
 ) -> Result<(), Memory> {
     for step in &init.steps {
         match step {
-            InitStep::Zero(path) => {
-                let place = part(f.alloc, n, path)?;
-                out.push(Stmt::Instr(zero(place)))?;
-            }
+            InitStep::Zero(path) => clear(f.alloc, n, path.as_slice(), out)?,
             InitStep::Scalar(path, e) | InitStep::Aggregate(path, e) => {
                 let x = value(f, e, out)?;
-                let place = part(f.alloc, n, path)?;
+                let place = part(f.alloc, n, path.as_slice())?;
                 store(place, x, out)?;
             }
             InitStep::Bytes(path, bytes) => store_bytes(f, n, path, bytes, out)?,

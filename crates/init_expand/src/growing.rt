@@ -1,6 +1,6 @@
 ghost use Rattle.std.specs.Prelude.{◌≡◌, false, [], OnOk};
 ghost use Rattle.type_graph.specs.Shapes.{shape};
-ghost use Rattle.init_expand.specs.Images.{is_zero, HasNoZero};
+ghost use Rattle.init_expand.specs.Images.{is_zero, HasNoZero, AreScalars};
 ghost use Rattle.init_expand.specs.Spots.{RisesTo};
 
 use crate::spots::scalar_at;
@@ -43,12 +43,13 @@ impl Growing {
         }
     }
 
-    /// Adds a scalar of an object that is not zero.
-    #[tactic(auto, using(crate::proofs::ImageLaws::none_pushed, crate::proofs::ImageLaws::rises_with))]
+    /// Adds a scalar of an object of a type that is not zero.
+    #[tactic(auto, using(crate::proofs::ImageLaws::none_pushed))]
     pub(crate) fn add(&mut self, types: &Types, ty: TypeId, item: ImageItem) -> Result<(), Memory>
         requires { is_zero item.value ≡ false }
         ensures none { OnOk result (HasNoZero self.old.items.items → HasNoZero self.new.items.items) }
         ensures rises { OnOk result (RisesTo types.now (shape types.now.nodes ty.0) 0 self.old.items.items self.old.least → RisesTo types.now (shape types.now.nodes ty.0) 0 self.new.items.items self.new.least) }
+        ensures scalars { OnOk result (AreScalars types.now (shape types.now.nodes ty.0) self.old.items.items → AreScalars types.now (shape types.now.nodes ty.0) self.new.items.items) }
     {
         let Some(at) = scalar_at(types, ty, &item.path) else {
             return Err(impossible());

@@ -1,12 +1,13 @@
 ghost use Rattle.std.specs.Prelude.{◌≡◌, IfOk, OnOk};
 ghost use Rattle.type_graph.specs.Shapes.{shape};
-ghost use Rattle.init_expand.specs.Images.{is_zero, HasNoZero, IsRising, IsImage};
+ghost use Rattle.init_expand.specs.Images.{is_zero, HasNoZero, AreScalars, IsRising, IsImage};
 ghost use Rattle.init_expand.specs.Spots.{RisesTo};
 
 use crate::growing::{Growing, impossible, is_zero};
 use crate::spots::{element, end, kind_of, part_at, plain_step};
 use crate::sweep::{Event, Given, Placed, What, swept};
 use cil_base::{Bytes, Constant, EntityId, Memory, TypeId, wrap};
+use cil_check::unions_agree;
 use cil_tree::{GlobalDef, ImageItem, Step};
 use std::alloc::Global;
 use typed_tree::{InitStep, Path, TypedInit};
@@ -204,6 +205,7 @@ fn add_item(
 ) -> Result<(), Memory>
     ensures none { OnOk result (HasNoZero image.old.items.items → HasNoZero image.new.items.items) }
     ensures rises { OnOk result (RisesTo types.now (shape types.now.nodes ty.0) 0 image.old.items.items image.old.least → RisesTo types.now (shape types.now.nodes ty.0) 0 image.new.items.items image.new.least) }
+    ensures scalars { OnOk result (AreScalars types.now (shape types.now.nodes ty.0) image.old.items.items → AreScalars types.now (shape types.now.nodes ty.0) image.new.items.items) }
 {
     if is_zero(given.value) {
         return Ok(());
@@ -224,6 +226,7 @@ fn items(
 ) -> Result<Vec<ImageItem>, Memory>
     ensures none { IfOk result (λ found. HasNoZero found.items) }
     ensures rising { IfOk result (λ found. IsRising types.now (shape types.now.nodes ty.0) found.items) }
+    ensures scalars { IfOk result (λ found. AreScalars types.now (shape types.now.nodes ty.0) found.items) }
 {
     let mut image = Growing::new(alloc);
     for placed in kept {
@@ -232,7 +235,27 @@ fn items(
     Ok(image.items)
 }
 
-/// The definition of an object of a type with an initialiser: its scalars that are not zero, by rising offsets.
+/// The definition of an object of a type with these scalars; of each union one member is initialised.
+#[tactic(auto, using(crate::proofs::ImageLaws::scalars_rise))]
+fn definition(types: &Types, ty: TypeId, items: Vec<ImageItem>) -> Result<GlobalDef, Memory>
+    requires none { HasNoZero items.items }
+    requires scalars { AreScalars types.now (shape types.now.nodes ty.0) items.items }
+    requires rising { IsRising types.now (shape types.now.nodes ty.0) items.items }
+    ensures { IfOk result (IsImage types.now (shape types.now.nodes ty.0)) }
+{
+    let g = types.graph();
+    if ty.0 >= g.len() || !unions_agree(g, ty, &items) {
+        return Err(impossible());
+    }
+    if items.is_empty() {
+        Ok(GlobalDef::Zero)
+    } else {
+        Ok(GlobalDef::Image(items))
+    }
+}
+
+/// The definition of an object of a type with an initialiser: its scalars that are not zero, by rising offsets, of each union those of one
+/// member.
 ///
 /// The table gives each object or function that the constants name its place among the program's globals.
 pub fn image(
@@ -254,9 +277,5 @@ pub fn image(
         numbers,
     };
     let items = items(alloc, types, ty, all, &kept)?;
-    if items.is_empty() {
-        Ok(GlobalDef::Zero)
-    } else {
-        Ok(GlobalDef::Image(items))
-    }
+    definition(types, ty, items)
 }

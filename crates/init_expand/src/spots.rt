@@ -1,10 +1,12 @@
-ghost use Rattle.std.specs.Prelude.{◌≡◌, Some, IfSome, map};
+ghost use Rattle.std.specs.Prelude.{◌≡◌, true, Some, IfSome, IsTrue, map};
 ghost use Rattle.type_graph.specs.Shapes.{shape};
 ghost use Rattle.cil_tree.specs.View.{step_of};
 ghost use Rattle.cil_tree.specs.Globals.{member_part, element_part, path_part};
+ghost use Rattle.cil_tree.specs.Typing.{is_scalar};
 ghost use Rattle.init_expand.specs.Spots.{part_of, step_part};
 
 use cil_base::{IntKind, TypeId};
+use cil_check::{is_scalar, see};
 use cil_tree::Step;
 use type_graph::AggKind;
 use typed_tree::Path;
@@ -95,7 +97,7 @@ pub(crate) fn part_at(types: &Types, t: TypeId, path: &Path) -> Option<Spot> {
 
 /// The part of an object of a type to which a path leads.
 #[tactic(auto, using(crate::proofs::SpotLaws::path_next, crate::proofs::SpotLaws::path_end))]
-pub(crate) fn scalar_at(types: &Types, t: TypeId, path: &[Step]) -> Option<Spot>
+fn spot_at(types: &Types, t: TypeId, path: &[Step]) -> Option<Spot>
     ensures { IfSome result (λ p. path_part types.now (map step_of path.now) (shape types.now.nodes t.0, 0) ≡ Some (part_of types.now p)) }
 {
     let mut at = Spot { offset: 0, ty: t };
@@ -103,6 +105,27 @@ pub(crate) fn scalar_at(types: &Types, t: TypeId, path: &[Step]) -> Option<Spot>
         at = stepped(types, at, *step)?;
     }
     Some(at)
+}
+
+/// Whether a type is scalar (C11 6.2.5p21); one that is not there is not.
+fn has_scalar(types: &Types, t: TypeId) -> bool
+    ensures { IsTrue result → is_scalar types.now (shape types.now.nodes t.0) ≡ true }
+{
+    let g = types.graph();
+    t.0 < g.len() && is_scalar(g, see(g, t))
+}
+
+/// The scalar of an object of a type to which a path leads.
+pub(crate) fn scalar_at(types: &Types, t: TypeId, path: &[Step]) -> Option<Spot>
+    ensures part { IfSome result (λ p. path_part types.now (map step_of path.now) (shape types.now.nodes t.0, 0) ≡ Some (part_of types.now p)) }
+    ensures scalar { IfSome result (λ p. is_scalar types.now (shape types.now.nodes p.ty.0) ≡ true) }
+{
+    let at = spot_at(types, t, path)?;
+    if has_scalar(types, at.ty) {
+        Some(at)
+    } else {
+        None
+    }
 }
 
 /// Where a part ends.

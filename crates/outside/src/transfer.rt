@@ -55,12 +55,15 @@ impl From<AllocError> for ReadStop {
     }
 }
 
-// The least number of bytes by which a buffer grows.
+// The number of bytes that a buffer has first: most files are smaller.
+const FIRST: usize = 4096;
+
+// The number of bytes up to which a buffer doubles, and by which it grows at least from there on.
 const STEP: usize = 65536;
 
-// Sees to it that the buffer is longer than what is filled of it, at most as long as the limit. It grows
-// by an eighth, and at least by a step: so its growth takes linear time, and, as the old and the new
-// buffer stand side by side, little more than two bytes of memory a byte.
+// Sees to it that the buffer is longer than what is filled of it, at most as long as the limit. It doubles
+// up to a step, and then grows by an eighth, and at least by a step: so its growth takes linear time, and, as
+// the old and the new buffer stand side by side, little more than two bytes of memory a byte.
 fn make_room(buffer: &mut Vec<u8>, filled: usize, limit: usize) -> Result<(), AllocError>
     requires within { filled ≤ vec_len buffer.old }
     requires short { filled < limit }
@@ -73,7 +76,8 @@ fn make_room(buffer: &mut Vec<u8>, filled: usize, limit: usize) -> Result<(), Al
     if filled < len {
         return Ok(());
     }
-    let more = (len / 8).max(STEP).min(limit - len);
+    let step = len.max(FIRST).min(STEP);
+    let more = (len / 8).max(step).min(limit - len);
     buffer.reserve_exact(more)?;
     buffer.resize(len + more, 0)
 }

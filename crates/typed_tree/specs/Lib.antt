@@ -1,7 +1,10 @@
 pub mod Built
 pub mod Places
 pub mod Statements
+pub mod StatementsBuilt
 pub mod StatementView
 pub mod Top
 pub mod Tree
+pub mod Units
+pub mod UnitView
 pub mod View

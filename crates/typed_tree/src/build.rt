@@ -4,26 +4,15 @@ ghost use Rattle.type_graph.specs.Shapes.{shape};
 ghost use Rattle.typed_tree.specs.Tree as tree;
 ghost use Rattle.typed_tree.specs.View.{form_of, typed_of, arguments_of, typed_init_of};
 ghost use Rattle.typed_tree.specs.Top.{top_in, top_of, top_list, top_init};
-ghost use Rattle.typed_tree.specs.Built.{IsBuilt, unqualified};
+ghost use Rattle.typed_tree.specs.Built.{IsBuilt};
+ghost use Rattle.unit_types.specs.Normal.{unqualified};
 
 use crate::expressions::{Branches, Logic, StepForm, TypedExp, TypedNode};
 use crate::initialisers::TypedInit;
 use cil_base::{AggId, BinOp, EntityId, LocalId, Memory, TypeId, UnOp};
 use std::alloc::Global;
-use type_graph::{QualType, Quals};
-
-/// The type of a value: no qualifiers (C11 6.3.2.1p2).
-fn plain(of: TypeId) -> QualType
-    ensures { result ≡ unqualified of }
-{
-    QualType {
-        quals: Quals {
-            constant: false,
-            restricted: false,
-        },
-        of,
-    }
-}
+use type_graph::QualType;
+use unit_types::unqualified;
 
 /// A node in its box.
 fn made(alloc: Global, ty: QualType, effect: bool, node: TypedNode) -> Result<TypedExp, Memory>
@@ -37,7 +26,7 @@ fn made(alloc: Global, ty: QualType, effect: bool, node: TypedNode) -> Result<Ty
 pub fn integer(alloc: Global, of: TypeId, n: i128) -> Result<TypedExp, Memory>
     ensures { IfOk result (IsBuilt (unqualified of) false (λ nodes. tree.Integer n) 0) }
 {
-    made(alloc, plain(of), false, TypedNode::Integer(n))
+    made(alloc, unqualified(of), false, TypedNode::Integer(n))
 }
 
 /// The place of a declared object or a parameter.
@@ -67,7 +56,7 @@ pub fn load(alloc: Global, place: TypedExp) -> Result<TypedExp, Memory>
 {
     let effect = place.effect;
     let of = place.ty.of;
-    made(alloc, plain(of), effect, TypedNode::Load(place))
+    made(alloc, unqualified(of), effect, TypedNode::Load(place))
 }
 
 /// The pointer to which an array or a function decays (C11 6.3.2.1p3, p4).
@@ -75,7 +64,7 @@ pub fn decay(alloc: Global, pointer: TypeId, e: TypedExp) -> Result<TypedExp, Me
     ensures { IfOk result (IsBuilt (unqualified pointer) e.effect (λ nodes. tree.Decay (typed_of nodes e)) (top_of e)) }
 {
     let effect = e.effect;
-    made(alloc, plain(pointer), effect, TypedNode::Decay(e))
+    made(alloc, unqualified(pointer), effect, TypedNode::Decay(e))
 }
 
 /// The address of a place or a function (C11 6.5.3.2).
@@ -83,7 +72,7 @@ pub fn address(alloc: Global, pointer: TypeId, e: TypedExp) -> Result<TypedExp, 
     ensures { IfOk result (IsBuilt (unqualified pointer) e.effect (λ nodes. tree.Address (typed_of nodes e)) (top_of e)) }
 {
     let effect = e.effect;
-    made(alloc, plain(pointer), effect, TypedNode::Address(e))
+    made(alloc, unqualified(pointer), effect, TypedNode::Address(e))
 }
 
 /// What a pointer points to (C11 6.5.3.2).
@@ -126,7 +115,7 @@ pub fn convert(alloc: Global, to: TypeId, e: TypedExp) -> Result<TypedExp, Memor
     ensures { IfOk result (IsBuilt (unqualified to) e.effect (λ nodes. tree.Convert (typed_of nodes e)) (top_of e)) }
 {
     let effect = e.effect;
-    made(alloc, plain(to), effect, TypedNode::Convert(e))
+    made(alloc, unqualified(to), effect, TypedNode::Convert(e))
 }
 
 /// A unary operator (C11 6.5.3.3).
@@ -134,7 +123,7 @@ pub fn unary(alloc: Global, of: TypeId, op: UnOp, e: TypedExp) -> Result<TypedEx
     ensures { IfOk result (IsBuilt (unqualified of) e.effect (λ nodes. tree.Unary op (typed_of nodes e)) (top_of e)) }
 {
     let effect = e.effect;
-    made(alloc, plain(of), effect, TypedNode::Unary(op, e))
+    made(alloc, unqualified(of), effect, TypedNode::Unary(op, e))
 }
 
 /// A binary operator (C11 6.5.5 to 6.5.12).
@@ -148,7 +137,12 @@ pub fn binary(
     ensures { IfOk result (IsBuilt (unqualified of) (left.effect || right.effect) (λ nodes. tree.Binary op (typed_of nodes left) (typed_of nodes right)) (max (top_of left) (top_of right))) }
 {
     let effect = left.effect || right.effect;
-    made(alloc, plain(of), effect, TypedNode::Binary(op, left, right))
+    made(
+        alloc,
+        unqualified(of),
+        effect,
+        TypedNode::Binary(op, left, right),
+    )
 }
 
 /// `&&` and `||` (C11 6.5.13, 6.5.14).
@@ -161,7 +155,12 @@ pub fn logical(
 ) -> Result<TypedExp, Memory>
     ensures { IfOk result (IsBuilt (unqualified of) true (λ nodes. tree.Logical op (typed_of nodes left) (typed_of nodes right)) (max (top_of left) (top_of right))) }
 {
-    made(alloc, plain(of), true, TypedNode::Logical(op, left, right))
+    made(
+        alloc,
+        unqualified(of),
+        true,
+        TypedNode::Logical(op, left, right),
+    )
 }
 
 /// A conditional (C11 6.5.15).
@@ -175,7 +174,7 @@ pub fn conditional(
 {
     made(
         alloc,
-        plain(of),
+        unqualified(of),
         true,
         TypedNode::Conditional(test, branches),
     )
@@ -186,7 +185,7 @@ pub fn comma(alloc: Global, left: TypedExp, right: TypedExp) -> Result<TypedExp,
     ensures { IfOk result (IsBuilt (unqualified right.ty.of) true (λ nodes. tree.Comma (typed_of nodes left) (typed_of nodes right)) (max (top_of left) (top_of right))) }
 {
     let of = right.ty.of;
-    made(alloc, plain(of), true, TypedNode::Comma(left, right))
+    made(alloc, unqualified(of), true, TypedNode::Comma(left, right))
 }
 
 /// An assignment (C11 6.5.16.1). The value has the place's type.
@@ -194,7 +193,12 @@ pub fn assign(alloc: Global, place: TypedExp, value: TypedExp) -> Result<TypedEx
     ensures { IfOk result (IsBuilt (unqualified place.ty.of) true (λ nodes. tree.Assign (typed_of nodes place) (typed_of nodes value)) (max (top_of place) (top_of value))) }
 {
     let of = place.ty.of;
-    made(alloc, plain(of), true, TypedNode::Assign(place, value))
+    made(
+        alloc,
+        unqualified(of),
+        true,
+        TypedNode::Assign(place, value),
+    )
 }
 
 /// A compound assignment (C11 6.5.16.2), computed in a type.
@@ -210,7 +214,7 @@ pub fn compute(
     let of = place.ty.of;
     made(
         alloc,
-        plain(of),
+        unqualified(of),
         true,
         TypedNode::Compute(op, at, place, value),
     )
@@ -221,7 +225,12 @@ pub fn step(alloc: Global, form: StepForm, at: TypeId, place: TypedExp) -> Resul
     ensures { IfOk result (IsBuilt (unqualified place.ty.of) true (λ nodes. tree.Step form (shape nodes at.0) (typed_of nodes place)) (max (suc at.0) (top_of place))) }
 {
     let of = place.ty.of;
-    made(alloc, plain(of), true, TypedNode::Step(form, at, place))
+    made(
+        alloc,
+        unqualified(of),
+        true,
+        TypedNode::Step(form, at, place),
+    )
 }
 
 /// A call (C11 6.5.2.2), whose result has a type.
@@ -233,5 +242,10 @@ pub fn call(
 ) -> Result<TypedExp, Memory>
     ensures { IfOk result (IsBuilt (unqualified of) true (λ nodes. tree.Call (typed_of nodes callee) (arguments_of nodes arguments.items)) (max (top_of callee) (top_list arguments.items))) }
 {
-    made(alloc, plain(of), true, TypedNode::Call(callee, arguments))
+    made(
+        alloc,
+        unqualified(of),
+        true,
+        TypedNode::Call(callee, arguments),
+    )
 }

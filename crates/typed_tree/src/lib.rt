@@ -7,6 +7,9 @@
 #![tactic(auto)]
 
 mod build;
+mod build_initialisers;
+mod build_statements;
+mod build_units;
 mod expressions;
 mod initialisers;
 mod statements;
@@ -15,6 +18,16 @@ mod units;
 pub use build::{
     address, assign, binary, call, comma, compute, conditional, convert, decay, entity, indirect,
     integer, literal, load, local, logical, member, step, subscript, unary,
+};
+pub use build_initialisers::{
+    aggregate_part, constant_part, initialiser, scalar_part, string_part, zeroed_part,
+};
+pub use build_statements::{
+    break_jump, case_label, compound, continue_jump, declaration, default_label, do_loop,
+    evaluation, for_loop, goto, label, return_jump, selection, switch, while_loop,
+};
+pub use build_units::{
+    EntityHead, EntityPlaces, FunctionLists, entity_declared, function_body, translation_unit,
 };
 pub use expressions::{Branches, Logic, StepForm, TypedExp, TypedNode};
 pub use initialisers::{InitStep, Path, Step, TypedInit};

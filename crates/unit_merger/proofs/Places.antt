@@ -1,7 +1,7 @@
 -- Device: which faults have a second place.
 use Rattle.std.proofs.Common.{◌≡◌, ℕ, ◌<◌, true, false, Option, Some, None, refl}
 use Rattle.cil_base.specs.declared.faults.Fault.{Fault}
-use Rattle.cil_base.specs.declared.faults.Fault.TheVariants.{Lexical, Excluded, Syntax, Constraint, Limit, Duplicate, Incompatible, NotBuilt}
+use Rattle.cil_base.specs.declared.faults.Fault.TheVariants.{Lexical, Excluded, Syntax, Constraint, Limit, Duplicate, Incompatible}
 use Rattle.cil_base.specs.declared.faults.Place.{Place}
 use Rattle.unit_merger.specs.Refusals.{has_two_places, HasOther}
 
@@ -13,7 +13,6 @@ has_second units Lexical place two within = cc
 has_second units (Excluded feature) place two within = cc
 has_second units (Constraint code) place two within = cc
 has_second units (Limit what) place two within = cc
-has_second units NotBuilt place two within = cc
 
 pub has_none : (units : ℕ) (fault : Fault) → has_two_places fault ≡ false → HasOther units fault None
 has_none units Syntax one = cc
@@ -23,4 +22,3 @@ has_none units Lexical one = refl
 has_none units (Excluded feature) one = refl
 has_none units (Constraint code) one = refl
 has_none units (Limit what) one = refl
-has_none units NotBuilt one = refl

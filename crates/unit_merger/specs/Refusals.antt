@@ -1,12 +1,16 @@
 -- Definition: what units are refused for, and where.
-use Rattle.std.specs.Prelude.{◌≡◌, ◌≢◌, ℕ, ◌<◌, Bool, true, false, List, [], ◌∷◌, Option, Some, None, Result, Err}
+use Rattle.std.specs.Prelude.{◌≡◌, ◌≢◌, ℕ, ◌<◌, Bool, true, false, List, [], ◌∷◌, length, Option, Some, None, Result, Err}
 use Rattle.std.specs.Option.{ForSome}
 use Rattle.cil_base.specs.declared.faults.Fault.{Fault}
 use Rattle.cil_base.specs.declared.faults.Fault.TheVariants.{Lexical, Excluded, Syntax, Constraint, Limit, Duplicate, Incompatible}
+use Rattle.cil_base.specs.declared.faults.What.TheVariants.{PrintedBytes}
 use Rattle.cil_base.specs.declared.faults.Place.{Place}
 use Rattle.cil_base.specs.declared.faults.Refusal.{Refusal}
 use Rattle.cil_base.specs.declared.faults.Stop.{Stop}
 use Rattle.cil_base.specs.declared.faults.Stop.TheVariants.{Refused, Memory}
+use Rattle.cil_tree.specs.Tree.{Program}
+use Rattle.cil_tree.specs.Text.{Text}
+use Rattle.cil_tree.specs.Programs.{IsProgram, text_limit}
 
 -- the faults of a grammatical unit: an excluded form, a constraint of C11 that is violated, or a limit that is passed
 abbrev pub IsUnitFault : Fault → Type 0
@@ -31,7 +35,6 @@ IsMergeFault (Constraint code) = Unit {0}
 IsMergeFault (Limit what) = Unit {0}
 IsMergeFault Duplicate = Unit {0}
 IsMergeFault Incompatible = Unit {0}
-IsMergeFault _ = ⊥
 
 -- the faults that have a second place
 abbrev pub has_two_places : Fault → Bool
@@ -67,3 +70,15 @@ KeepsFirst result old new = result ≢ Err Memory → (name : List ℕ) (more : 
 abbrev pub IfRefusal : Stop → (Refusal → Type 0) → Type 0
 IfRefusal (Refused refusal) Says = Says refusal
 IfRefusal Memory Says = Unit {0}
+
+-- the text of some well-formed program is too long to be printed, and the place is that of the first token of the first unit
+pub record IsTooLong (at : Place) : Type 0 where
+  pub program : Program
+  pub formed : IsProgram program
+  pub long : text_limit < length (Text program)
+  pub unit : at.unit ≡ record { 0 = 0 }
+  pub token : at.token ≡ 0
+
+-- a text is told to be too long only where it is
+abbrev pub PrintedIfLong : Refusal → Type 0
+PrintedIfLong refusal = refusal.fault ≡ Limit PrintedBytes → IsTooLong refusal.at

@@ -1,17 +1,17 @@
 ghost use Rattle.std.specs.Prelude.{length, IfOk};
 ghost use Rattle.c_lexer.specs.Lexed.{IfRefused};
 ghost use Rattle.cil_tree.specs.Tree.{Program};
-ghost use Rattle.cil_tree.specs.Programs.{IsTextOf};
-ghost use Rattle.unit_merger.specs.Refusals.{IsUnitRefusal, IsMergeRefusal, KeepsFirst};
+ghost use Rattle.cil_tree.specs.View.{program_of};
+ghost use Rattle.cil_tree.specs.Programs.{IsProgram, IsTextOf};
+ghost use Rattle.unit_merger.specs.Refusals.{IsUnitRefusal, IsMergeRefusal, KeepsFirst, PrintedIfLong};
 
 use crate::pool::{begins, first_name};
+use crate::printing::{unit_printed, units_printed};
 use crate::refusals::{impossible, of_first, of_units};
 use c_lexer::Tokens;
 use c_tree::Unit;
 use cil_base::{Abi, Bytes, Fault, Mode, NameId, NamePool, Place, Refusal, Stop, UnitNo, What};
-use cil_check::check;
 use cil_merge::merge;
-use cil_printer::{PrintStop, print};
 use cil_sources::Sources;
 use cil_tree::CilUnit;
 use link_names::Fronted;
@@ -28,6 +28,7 @@ pub fn unit_text(
 ) -> Result<Bytes, Stop>
     ensures text { IfOk result (λ b. (p : Program) × IsTextOf b p) }
     ensures refused { IfRefused result (IsUnitRefusal (length names.new)) }
+    ensures printed { IfRefused result PrintedIfLong }
     ensures first { KeepsFirst result names.old names.new }
 {
     let first = first_name(alloc, names)?;
@@ -35,11 +36,7 @@ pub fn unit_text(
     if !begins(names, &first) {
         return Err(impossible());
     }
-    match end {
-        Ok(text) => Ok(text),
-        Err(Stop::Refused(refusal)) => Err(of_first(refusal, names)),
-        Err(Stop::Memory) => Err(Stop::Memory),
-    }
+    end
 }
 
 /// The text of the CIL program that translation units of these files become, whose tentative definitions of one name are one object
@@ -54,6 +51,7 @@ pub fn units_text(
 ) -> Result<Bytes, Stop>
     ensures text { IfOk result (λ b. (p : Program) × IsTextOf b p) }
     ensures refused { IfRefused result (IsMergeRefusal (length files.now) (length names.new)) }
+    ensures printed { IfRefused result PrintedIfLong }
     ensures first { KeepsFirst result names.old names.new }
 {
     let first = first_name(alloc, names)?;
@@ -61,11 +59,24 @@ pub fn units_text(
     if !begins(names, &first) {
         return Err(impossible());
     }
-    match end {
-        Ok(text) => Ok(text),
-        Err(Stop::Refused(refusal)) => Err(of_units(refusal, files.len(), names)),
-        Err(Stop::Memory) => Err(Stop::Memory),
-    }
+    end
+}
+
+/// The CIL program that translation units in memory become, of files of these names; it is refused as the text of `units_text` is.
+/// Own.
+pub fn units_program(
+    alloc: Global,
+    units: &[Bytes],
+    files: &[String],
+    names: &mut NamePool,
+) -> Result<CilUnit, Stop>
+    ensures program { IfOk result (λ u. IsProgram (program_of names.new u)) }
+    ensures refused { IfRefused result (IsMergeRefusal (length files.now) (length names.new)) }
+    ensures printed { IfRefused result PrintedIfLong }
+{
+    let program = merged(alloc, units, None, files, false, names)?;
+    let _ = units_printed(alloc, &program, units, files, names)?;
+    Ok(program)
 }
 
 /// The text of the program that one unit becomes.
@@ -75,17 +86,12 @@ fn text_of_unit(
     tokens: &Tokens<'_>,
     names: &mut NamePool,
 ) -> Result<Bytes, Stop>
-    ensures { IfOk result (λ b. (p : Program) × IsTextOf b p) }
+    ensures text { IfOk result (λ b. (p : Program) × IsTextOf b p) }
+    ensures refused { IfRefused result (IsUnitRefusal (length names.new)) }
+    ensures printed { IfRefused result PrintedIfLong }
 {
-    let mode = Mode {
-        common: false,
-        abi: Abi::Lp64,
-    };
-    let fronted = parsed_front(alloc, unit, tokens, names, mode.abi)?;
-    let mut units = Vec::new(alloc);
-    units.push(fronted)?;
-    let program = merge(alloc, units, names, mode)?;
-    text_of(&program, names)
+    let program = merged_unit(alloc, unit, tokens, names)?;
+    unit_printed(&program, tokens, names)
 }
 
 /// The text of the program that units of these files become.
@@ -96,40 +102,102 @@ fn text_of_units(
     common: bool,
     names: &mut NamePool,
 ) -> Result<Bytes, Stop>
-    ensures { IfOk result (λ b. (p : Program) × IsTextOf b p) }
+    ensures text { IfOk result (λ b. (p : Program) × IsTextOf b p) }
+    ensures refused { IfRefused result (IsMergeRefusal (length files.now) (length names.new)) }
+    ensures printed { IfRefused result PrintedIfLong }
 {
+    let units = &sources.units;
+    let program = merged(alloc, units, sources.over, files, common, names)?;
+    units_printed(alloc, &program, units, files, names)
+}
+
+/// The program that one unit becomes.
+fn merged_unit(
+    alloc: Global,
+    unit: &Unit,
+    tokens: &Tokens<'_>,
+    names: &mut NamePool,
+) -> Result<CilUnit, Stop>
+    ensures refused { IfRefused result (IsUnitRefusal (length names.new)) }
+    ensures printed { IfRefused result PrintedIfLong }
+{
+    match program_of_unit(alloc, unit, tokens, names) {
+        Ok(program) => Ok(program),
+        Err(Stop::Refused(refusal)) => Err(of_first(refusal, names)),
+        Err(Stop::Memory) => Err(Stop::Memory),
+    }
+}
+
+/// The program that units of these files become; behind them one passes a limit where `over` has one.
+fn merged(
+    alloc: Global,
+    units: &[Bytes],
+    over: Option<What>,
+    files: &[String],
+    common: bool,
+    names: &mut NamePool,
+) -> Result<CilUnit, Stop>
+    ensures refused { IfRefused result (IsMergeRefusal (length files.now) (length names.new)) }
+    ensures printed { IfRefused result PrintedIfLong }
+{
+    match program_of_units(alloc, units, over, files, common, names) {
+        Ok(program) => Ok(program),
+        Err(Stop::Refused(refusal)) => Err(of_units(refusal, files.len(), names)),
+        Err(Stop::Memory) => Err(Stop::Memory),
+    }
+}
+
+/// The program that one unit becomes, or its first fault.
+fn program_of_unit(
+    alloc: Global,
+    unit: &Unit,
+    tokens: &Tokens<'_>,
+    names: &mut NamePool,
+) -> Result<CilUnit, Stop> {
+    let mode = Mode {
+        common: false,
+        abi: Abi::Lp64,
+    };
+    let fronted = parsed_front(alloc, unit, tokens, names, mode.abi)?;
+    let mut units = Vec::new(alloc);
+    units.push(fronted)?;
+    merge(alloc, units, names, mode)
+}
+
+/// The program that units of these files become, or their first fault.
+fn program_of_units(
+    alloc: Global,
+    units: &[Bytes],
+    over: Option<What>,
+    files: &[String],
+    common: bool,
+    names: &mut NamePool,
+) -> Result<CilUnit, Stop> {
     let mode = Mode {
         common,
         abi: Abi::Lp64,
     };
-    let units = fronted(alloc, sources, files, names, mode)?;
-    let program = merge(alloc, units, names, mode)?;
-    text_of(&program, names)
+    let fronted = fronted(alloc, units, over, files, names, mode)?;
+    merge(alloc, fronted, names, mode)
 }
 
 /// Each unit as a CIL program; it is refused at the first unit that has a fault.
 fn fronted(
     alloc: Global,
-    sources: &Sources,
+    units: &[Bytes],
+    over: Option<What>,
     files: &[String],
     names: &mut NamePool,
     mode: Mode,
 ) -> Result<Vec<Fronted>, Stop> {
     let mut done = Vec::new(alloc);
-    for i in 0..sources.units.len() {
+    for i in 0..units.len() {
         let (unit, file) = named(i, files, names)?;
-        let fronted = front(
-            alloc,
-            sources.units[i].as_slice(),
-            unit,
-            file,
-            names,
-            mode.abi,
-        )?;
+        let fronted = front(alloc, units[i].as_slice(), unit, file, names, mode.abi)?;
         done.push(fronted)?;
     }
-    if let Some(limit) = sources.over {
-        let (unit, file) = named(sources.units.len(), files, names)?;
+    if let Some(limit) = over {
+        let (unit, file) = named(units.len(), files, names)?;
         return Err(limit_of(limit, unit, file));
     }
     Ok(done)
@@ -156,18 +224,4 @@ fn limit_of(limit: What, unit: UnitNo, file: NameId) -> Stop {
         },
         other: None,
     })
-}
-
-/// The text of a program, which is looked at before it is printed.
-fn text_of(program: &CilUnit, names: &NamePool) -> Result<Bytes, Stop>
-    ensures { IfOk result (λ b. (p : Program) × IsTextOf b p) }
-{
-    if !check(program, names)? {
-        return Err(impossible());
-    }
-    match print(program, names) {
-        Ok(text) => Ok(text),
-        Err(PrintStop::TooLong) => Err(limit_of(What::PrintedBytes, UnitNo(0), NameId(0))),
-        Err(PrintStop::Memory) => Err(Stop::Memory),
-    }
 }

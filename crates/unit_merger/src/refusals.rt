@@ -1,25 +1,30 @@
-ghost use Rattle.std.specs.Prelude.{◌≡◌, ◌<◌, length, IsTrue};
+ghost use Rattle.std.specs.Prelude.{◌≡◌, ◌≢◌, ◌<◌, ℕ, length, IsTrue};
 ghost use Rattle.std.specs.Option.{ForSome};
-ghost use Rattle.unit_merger.specs.Refusals.{IsUnitFault, IsUnitRefusal, IsMergeFault, has_two_places, HasOther, IsMergeRefusal, IfRefusal};
+ghost use Rattle.cil_base.specs.declared.faults.Fault.TheVariants.{Limit};
+ghost use Rattle.cil_base.specs.declared.faults.What.TheVariants.{PrintedBytes};
+ghost use Rattle.unit_merger.specs.Refusals.{IsUnitFault, IsUnitRefusal, IsMergeFault, has_two_places, HasOther, IsMergeRefusal, IfRefusal, IsTooLong, PrintedIfLong};
 
-use cil_base::{Fault, NamePool, Place, Refusal, Stop, UnitNo};
+use cil_base::{Fault, NamePool, Place, Refusal, Stop, UnitNo, What};
 
-/// Whether a fault is one of a grammatical unit.
+/// Whether a fault is one of a grammatical unit, before its program is printed.
 fn is_unit_fault(fault: &Fault) -> bool
-    ensures { IsTrue result → IsUnitFault fault.now }
+    ensures unit { IsTrue result → IsUnitFault fault.now }
+    ensures printed { IsTrue result → fault.now ≢ Limit PrintedBytes }
 {
     match fault {
+        Fault::Limit(What::PrintedBytes) => false,
         Fault::Excluded(_) | Fault::Constraint(_) | Fault::Limit(_) => true,
-        Fault::Lexical | Fault::Syntax | Fault::Duplicate | Fault::Incompatible | Fault::NotBuilt =>
-            false,
+        Fault::Lexical | Fault::Syntax | Fault::Duplicate | Fault::Incompatible => false,
     }
 }
 
-/// Whether a fault is one of a merge.
+/// Whether a fault is one of a merge, before its program is printed.
 fn is_merge_fault(fault: &Fault) -> bool
-    ensures { IsTrue result → IsMergeFault fault.now }
+    ensures merge { IsTrue result → IsMergeFault fault.now }
+    ensures printed { IsTrue result → fault.now ≢ Limit PrintedBytes }
 {
     match fault {
+        Fault::Limit(What::PrintedBytes) => false,
         Fault::Lexical
         | Fault::Excluded(_)
         | Fault::Syntax
@@ -27,7 +32,6 @@ fn is_merge_fault(fault: &Fault) -> bool
         | Fault::Limit(_)
         | Fault::Duplicate
         | Fault::Incompatible => true,
-        Fault::NotBuilt => false,
     }
 }
 
@@ -37,11 +41,7 @@ fn has_two(fault: &Fault) -> bool
 {
     match fault {
         Fault::Syntax | Fault::Duplicate | Fault::Incompatible => true,
-        Fault::Lexical
-        | Fault::Excluded(_)
-        | Fault::Constraint(_)
-        | Fault::Limit(_)
-        | Fault::NotBuilt => false,
+        Fault::Lexical | Fault::Excluded(_) | Fault::Constraint(_) | Fault::Limit(_) => false,
     }
 }
 
@@ -65,9 +65,10 @@ fn has_other(refusal: &Refusal, units: usize, names: &NamePool) -> bool
     }
 }
 
-/// What is answered where the first unit alone is refused.
+/// What is answered where the first unit alone is refused before its program is printed.
 pub(crate) fn of_first(refusal: Refusal, names: &NamePool) -> Stop
-    ensures { IfRefusal result (IsUnitRefusal (length names.now)) }
+    ensures printed { IfRefusal result PrintedIfLong }
+    ensures refused { IfRefusal result (IsUnitRefusal (length names.now)) }
 {
     if is_unit_fault(&refusal.fault)
         && refusal.at.unit == UnitNo(0)
@@ -80,15 +81,34 @@ pub(crate) fn of_first(refusal: Refusal, names: &NamePool) -> Stop
     }
 }
 
-/// What is answered where units are refused.
+/// What is answered where units are refused before their program is printed.
 pub(crate) fn of_units(refusal: Refusal, units: usize, names: &NamePool) -> Stop
-    ensures { IfRefusal result (IsMergeRefusal units (length names.now)) }
+    ensures printed { IfRefusal result PrintedIfLong }
+    ensures refused { IfRefusal result (IsMergeRefusal units (length names.now)) }
 {
     if is_merge_fault(&refusal.fault)
         && is_within(&refusal.at, units, names)
         && has_other(&refusal, units, names)
     {
         Stop::Refused(refusal)
+    } else {
+        impossible()
+    }
+}
+
+/// What is answered where the text of a program is too long, by the place of the first unit's first token.
+pub(crate) fn too_long(at: Place, names: &NamePool) -> Stop
+    requires { IsTooLong at }
+    ensures printed { IfRefusal result PrintedIfLong }
+    ensures unit { IfRefusal result (IsUnitRefusal (length names.now)) }
+    ensures refused { (units : ℕ) → 0 < units → IfRefusal result (IsMergeRefusal units (length names.now)) }
+{
+    if at.file.0 < names.len() {
+        Stop::Refused(Refusal {
+            fault: Fault::Limit(What::PrintedBytes),
+            at,
+            other: None,
+        })
     } else {
         impossible()
     }

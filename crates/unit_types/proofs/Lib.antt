@@ -1,3 +1,4 @@
+pub mod ConstantLaws
 pub mod NormalLaws
 pub mod StepLaws
 pub mod TypeLists

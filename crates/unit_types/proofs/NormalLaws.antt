@@ -30,11 +30,11 @@ node_kept g h k m (Array q bound) grows low below = ap (is_normal q.quals) (kept
 node_kept g h k m (Func proto variadic ret params) grows low below = refl
 node_kept g h k m (Agg a) grows low below = refl
 
-both : (p q : Bool) → p && q ≡ true → (p ≡ true) × (q ≡ true)
+pub both : (p q : Bool) → p && q ≡ true → (p ≡ true) × (q ≡ true)
 both true q h = (refl, h)
 both false q h = cc
 
-some_same : {K : Type 0} (x y : K) → Some x ≡ Some y → x ≡ y
+pub some_same : {K : Type 0} (x y : K) → Some x ≡ Some y → x ≡ y
 some_same x y e = cc
 
 get_below : {K : Type 0} (xs : List K) (i : ℕ) (x : K) → slice_get xs i ≡ Some x → i < length xs
@@ -42,7 +42,7 @@ get_below [] i x e = cc
 get_below (y ∷ xs) zero x e = omega arith
 get_below (y ∷ xs) (suc i) x e = omega (arith, get_below xs i x e)
 
-member_below : (nodes : List Node) (order : List AggId) (r i : ℕ) (ms : List Member) (m : Member) → EachBelow nodes order r ms → slice_get ms i ≡ Some m → m.ty.of.0 < length nodes
+pub member_below : (nodes : List Node) (order : List AggId) (r i : ℕ) (ms : List Member) (m : Member) → EachBelow nodes order r ms → slice_get ms i ≡ Some m → m.ty.of.0 < length nodes
 member_below nodes order r i [] m each e = cc
 member_below nodes order r zero (x ∷ ms) m each e = subst (λ (y : Member). y.ty.of.0 < length nodes) (some_same x m e) each.0
 member_below nodes order r (suc i) (x ∷ ms) m each e = member_below nodes order r i ms m each.2 e
@@ -96,7 +96,7 @@ normal_added g h n t w normal names form grows adds = by (nat_lt t (length g.nod
         subst IsNormal (sym (adds.known t (x.1 ∙ ap Some same))) normal
     by false past = normal_pushed g h n w normal names form grows (adds.fresh (ltb-false _ _ past))
 
-members_at : (aggs : List Aggregate) (a : ℕ) (x : Aggregate) → slice_get aggs a ≡ Some x → members_of aggs a ≡ x.members
+pub members_at : (aggs : List Aggregate) (a : ℕ) (x : Aggregate) → slice_get aggs a ≡ Some x → members_of aggs a ≡ x.members
 members_at aggs a x e = ap (option_and_then (λ (y : Aggregate). y.members)) e
 
 -- an incomplete aggregate

@@ -1,6 +1,8 @@
 -- Definition: qualified types in their normal form (C11 6.7.3p9): qualifiers on an array type are those of its elements, and a function type has none (own).
 use Rattle.std.specs.Prelude.{◌≡◌, ◌≤◌, ℕ, Bool, true, false, ◌&&◌, ◌||◌, not, Some, List, [], ◌∷◌, slice_get}
 use Rattle.type_graph.specs.declared.aggregates.Member.{Member}
+use Rattle.cil_base.specs.declared.numbers.TypeId.{TypeId}
+use Rattle.type_graph.specs.declared.nodes.QualType.{QualType}
 use Rattle.type_graph.specs.declared.nodes.Quals.{Quals}
 use Rattle.type_graph.specs.declared.nodes.Node.{Node}
 use Rattle.type_graph.specs.declared.nodes.Node.TheVariants.{Void, Int, Ptr, Array, Func, Agg}
@@ -10,6 +12,10 @@ use Rattle.type_graph.specs.Arena.{Graph, members_of}
 -- no qualifier
 abbrev pub plain : Quals
 plain = record { constant = false; restricted = false }
+
+-- the unqualified version of a type (C11 6.2.5p26)
+abbrev pub unqualified : TypeId → QualType
+unqualified of = record { quals = plain; of = of }
 
 abbrev pub is_plain : Quals → Bool
 is_plain q = not q.constant && not q.restricted

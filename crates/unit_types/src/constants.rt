@@ -1,6 +1,11 @@
-ghost use Rattle.std.specs.Prelude.{◌<◌, length};
+ghost use Rattle.std.specs.Prelude.{◌≡◌, ◌<◌, ◌↔◌, ◌⊎◌, cond, length, IsTrue, OnOk, OnErr};
+ghost use Rattle.cil_base.specs.contracts.numbers.AggIdPartialEq.TheImpl.{ghosts};
+ghost use Rattle.cil_base.specs.declared.numbers.AggId.{AggId as SeenAggId};
+ghost use Rattle.type_graph.specs.Shapes.{shape};
+ghost use Rattle.unit_types.specs.Constants.{HasConstant, HasConstantMember};
+ghost use Rattle.unit_types.specs.Known.{is_found, Knows, InPart, AnyConstant};
 
-use cil_base::{AggId, Memory};
+use cil_base::{AggId, Memory, TypeId};
 use std::alloc::Global;
 use std::collections::HashSet;
 use type_graph::{Member, Node, QualType, TypeGraph};
@@ -20,33 +25,73 @@ impl ConstantMembers {
     }
 
     /// Whether a struct or union is among them.
-    pub(crate) fn has(&self, a: AggId) -> bool {
+    fn has(&self, a: AggId) -> bool
+        ensures { result ≡ is_found self.now a }
+    {
         self.found.contains(&a)
     }
 
-    /// Adds a struct or union.
-    pub(crate) fn add(&mut self, a: AggId) -> Result<(), Memory> {
-        self.found.insert(a)?;
+    /// Notes whether a struct or union is one of them.
+    pub(crate) fn set(&mut self, a: AggId, constant: bool) -> Result<(), Memory>
+        ensures ok { OnOk result ((k : SeenAggId) → is_found self.new k ≡ cond (ghosts.eq a k) constant (is_found self.old k)) }
+        ensures own { OnOk result (is_found self.new a ≡ constant) }
+        ensures err { OnErr result ((k : SeenAggId) → is_found self.new k ≡ is_found self.old k) }
+    {
+        if constant {
+            self.found.insert(a)?;
+        } else {
+            let _was = self.found.remove(&a);
+        }
         Ok(())
     }
 }
 
-/// Whether a type is const, or an array of such, or a struct or union that has such a member.
-fn is_constant(g: &TypeGraph, found: &ConstantMembers, q: QualType) -> bool
-    requires { q.of.0 < length g.now.nodes }
+/// Whether a struct or union has a const member, itself or in a part of it.
+pub(crate) fn has_constant_member(g: &TypeGraph, known: &ConstantMembers, a: AggId) -> bool
+    requires there { a.0 < length g.now.aggs }
+    requires known { Knows known.now g.now }
+    ensures { IsTrue result ↔ HasConstantMember g.now a.0 }
 {
-    q.quals.constant
-        || match g.node(q.of) {
-            Node::Array(element, _) => is_constant(g, found, *element),
-            Node::Agg(a) => found.has(*a),
-            Node::Void | Node::Int(_) | Node::Ptr(_) | Node::Func { .. } => false,
-        }
+    match &g.agg(a).members {
+        None => false,
+        Some(_) => known.has(a),
+    }
 }
 
-/// Whether one of some members is const, itself or in a part of it.
-pub(crate) fn are_constant(g: &TypeGraph, found: &ConstantMembers, members: &[Member]) -> bool {
+/// Whether a part of an object of a type is const, whether the object is or not.
+fn has_constant_part(g: &TypeGraph, known: &ConstantMembers, t: TypeId) -> bool
+    requires there { t.0 < length g.now.nodes }
+    requires known { Knows known.now g.now }
+    ensures { IsTrue result ↔ InPart g.now (shape g.now.nodes t.0) }
+{
+    match g.node(t) {
+        Node::Array(element, _) => {
+            element.quals.constant || has_constant_part(g, known, element.of)
+        }
+        Node::Agg(a) => has_constant_member(g, known, *a),
+        Node::Void | Node::Int(_) | Node::Ptr(_) | Node::Func { .. } => false,
+    }
+}
+
+/// Whether an object of a type is const, or has a const part.
+pub(crate) fn has_constant(g: &TypeGraph, known: &ConstantMembers, q: QualType) -> bool
+    requires known { Knows known.now g.now }
+    ensures { IsTrue result ↔ HasConstant g.now q.quals (shape g.now.nodes q.of.0) }
+{
+    if q.quals.constant {
+        return true;
+    }
+    q.of.0 < g.len() && has_constant_part(g, known, q.of)
+}
+
+/// Whether one of some members is const, or has a const part.
+#[tactic(auto, using(crate::proofs::ConstantLaws::none_start, crate::proofs::ConstantLaws::none_next, crate::proofs::ConstantLaws::found_one, crate::proofs::ConstantLaws::none_end))]
+pub(crate) fn are_constant(g: &TypeGraph, known: &ConstantMembers, members: &[Member]) -> bool
+    requires known { Knows known.now g.now }
+    ensures { IsTrue result ↔ AnyConstant g.now members.now }
+{
     for m in members {
-        if m.ty.of.0 < g.len() && is_constant(g, found, m.ty) {
+        if has_constant(g, known, m.ty) {
             return true;
         }
     }

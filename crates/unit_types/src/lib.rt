@@ -10,10 +10,12 @@ mod class;
 mod constants;
 mod members;
 mod parts;
+mod quals;
 mod types;
 
 pub use class::Class;
 pub use members::{can_complete, members_fit};
+pub use quals::{PLAIN, joined, unqualified};
 pub use types::Types;
 
 #[cfg(test)]

@@ -7,6 +7,7 @@ ghost use Rattle.layout_lp64.specs.Tables.{InStep, WereInStep};
 ghost use Rattle.layout_lp64.specs.Stops.{StopsAt};
 ghost use Rattle.unit_types.specs.Normal.{IsNormal, normal_node, normal_members};
 ghost use Rattle.type_compat.specs.Composed.{composite_shape};
+ghost use Rattle.unit_types.specs.Known.{KeepsKnown, KnowsCompleted};
 ghost use Rattle.unit_types.specs.Steps.{Makes, StopsWith, StopsCompleting};
 
 use crate::members::new_are_normal;
@@ -37,7 +38,7 @@ impl Parts {
 }
 
 /// Brings the layouts up to date with the arena. After an error there are no types.
-#[tactic(auto, using(crate::proofs::NormalLaws::normal_empty))]
+#[tactic(auto, using(crate::proofs::NormalLaws::normal_empty, crate::proofs::ConstantLaws::keeps_same, crate::proofs::ConstantLaws::keeps_none))]
 fn keep_up(alloc: Global, parts: &mut Parts) -> Result<(), LayoutStop>
     requires before { WereInStep parts.old.layouts parts.old.graph }
     ensures ok { OnOk result (parts.new.graph ≡ parts.old.graph) }
@@ -45,6 +46,7 @@ fn keep_up(alloc: Global, parts: &mut Parts) -> Result<(), LayoutStop>
     ensures err { OnErr result (parts.new.graph ≡ empty_graph parts.old.graph.abi) }
     ensures step { InStep parts.new.layouts parts.new.graph }
     ensures normal { IsNormal parts.old.graph → IsNormal parts.new.graph }
+    ensures constants { KeepsKnown parts.old.graph parts.new.graph }
 {
     match parts.layouts.update(&parts.graph) {
         Ok(()) => Ok(()),
@@ -56,7 +58,7 @@ fn keep_up(alloc: Global, parts: &mut Parts) -> Result<(), LayoutStop>
 }
 
 /// The number of a type. After `TooBig` there are no types.
-#[tactic(auto, using(crate::proofs::StepLaws::were_in_step, crate::proofs::StepLaws::stops_added, crate::proofs::NormalLaws::normal_added))]
+#[tactic(auto, using(crate::proofs::StepLaws::were_in_step, crate::proofs::StepLaws::stops_added, crate::proofs::NormalLaws::normal_added, crate::proofs::ConstantLaws::keeps_same, crate::proofs::ConstantLaws::keeps_grown))]
 pub(crate) fn add(alloc: Global, parts: &mut Parts, n: Node) -> Result<TypeId, LayoutStop>
     requires step { InStep parts.old.layouts parts.old.graph }
     requires normal { IsNormal parts.old.graph }
@@ -67,6 +69,7 @@ pub(crate) fn add(alloc: Global, parts: &mut Parts, n: Node) -> Result<TypeId, L
     ensures stops { IfErr result (λ e. StopsWith parts.old.graph n e) }
     ensures step { InStep parts.new.layouts parts.new.graph }
     ensures normal { IsNormal parts.new.graph }
+    ensures constants { KeepsKnown parts.old.graph parts.new.graph }
 {
     // What is known of an arena is known where it is read.
     let _types = parts.graph.len();
@@ -76,7 +79,7 @@ pub(crate) fn add(alloc: Global, parts: &mut Parts, n: Node) -> Result<TypeId, L
 }
 
 /// Adds an incomplete struct, union or enum.
-#[tactic(auto, using(crate::proofs::StepLaws::were_in_step, crate::proofs::NormalLaws::normal_agg))]
+#[tactic(auto, using(crate::proofs::StepLaws::were_in_step, crate::proofs::NormalLaws::normal_agg, crate::proofs::ConstantLaws::keeps_same, crate::proofs::ConstantLaws::keeps_agg))]
 pub(crate) fn add_agg(
     alloc: Global,
     parts: &mut Parts,
@@ -90,6 +93,7 @@ pub(crate) fn add_agg(
     ensures stops { IfErr result (λ e. StopsAt (with_agg parts.old.graph (record { kind = kind; tag = tag; members = None })) e) }
     ensures step { InStep parts.new.layouts parts.new.graph }
     ensures normal { IsNormal parts.new.graph }
+    ensures constants { KeepsKnown parts.old.graph parts.new.graph }
 {
     // What is known of an arena is known where it is read.
     let _types = parts.graph.len();
@@ -99,7 +103,7 @@ pub(crate) fn add_agg(
 }
 
 /// Gives an incomplete aggregate its members. After `TooBig` there are no types.
-#[tactic(auto, using(crate::proofs::StepLaws::were_in_step, crate::proofs::StepLaws::stops_completed, crate::proofs::NormalLaws::normal_completed))]
+#[tactic(auto, using(crate::proofs::StepLaws::were_in_step, crate::proofs::StepLaws::stops_completed, crate::proofs::NormalLaws::normal_completed, crate::proofs::ConstantLaws::completes_same))]
 pub(crate) fn complete(
     alloc: Global,
     parts: &mut Parts,
@@ -117,6 +121,7 @@ pub(crate) fn complete(
     ensures stops { IfErr result (StopsCompleting parts.old.graph a members) }
     ensures step { InStep parts.new.layouts parts.new.graph }
     ensures normal { IsNormal parts.new.graph }
+    ensures constants { KnowsCompleted a members parts.old.graph parts.new.graph }
 {
     // What is known of an arena is known where it is read.
     let _types = parts.graph.len();
@@ -128,7 +133,7 @@ pub(crate) fn complete(
 }
 
 /// The composite of two types (C11 6.2.7p3). After `TooBig` there are no types.
-#[tactic(auto, using(crate::proofs::StepLaws::were_in_step, crate::proofs::NormalLaws::normal_grown))]
+#[tactic(auto, using(crate::proofs::StepLaws::were_in_step, crate::proofs::NormalLaws::normal_grown, crate::proofs::ConstantLaws::keeps_same, crate::proofs::ConstantLaws::keeps_grown))]
 pub(crate) fn compose(
     alloc: Global,
     parts: &mut Parts,
@@ -145,6 +150,7 @@ pub(crate) fn compose(
     ensures aggregates { OnOk result (KeepsAggregates parts.old.graph parts.new.graph) }
     ensures step { InStep parts.new.layouts parts.new.graph }
     ensures normal { IsNormal parts.new.graph }
+    ensures constants { KeepsKnown parts.old.graph parts.new.graph }
 {
     let first = parts.graph.len();
     let composed = composite(alloc, &mut parts.graph, a, b);

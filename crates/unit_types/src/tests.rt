@@ -285,6 +285,79 @@ fn constant_members_are_found_in_parts(
     Ok(())
 }
 
+/// Which lvalues are modifiable (C11 6.3.2.1p1): complete ones that are no array, not const, and without a const member at any depth.
+fn modifiable_lvalues_are_told(
+    rt: &impl Abort,
+    alloc: Global,
+    types: &mut Types,
+) -> Result<(), LayoutStop> {
+    let int = types.int(IntKind::Int)?;
+    let void = types.void()?;
+    let constant = QualType {
+        quals: CONST,
+        of: int,
+    };
+    let row = types.array(plain(int), Some(2))?;
+    let pointer = types.pointer(constant)?;
+    let (_, unfinished) = add_open(types)?;
+    let a = add_wrapper(alloc, types, constant)?;
+    let b = add_wrapper(alloc, types, plain(int))?;
+    let fixed = types.aggregate(a)?;
+    let record = types.aggregate(b)?;
+    for (ty, expected) in [
+        (plain(int), true),
+        (constant, false),
+        (plain(void), false),
+        (plain(row), false),
+        (plain(pointer), true),
+        (plain(unfinished), false),
+        (plain(fixed), false),
+        (plain(record), true),
+        (
+            QualType {
+                quals: CONST,
+                of: record,
+            },
+            false,
+        ),
+        (plain(TypeId(9000)), false),
+    ] {
+        assert_eq!(rt; types.is_modifiable(ty), expected, "of {ty:?}");
+    }
+    Ok(())
+}
+
+/// How many structs stand in a chain.
+const CHAIN: u32 = 2000;
+
+/// `struct s0 { int m; }; struct s1 { struct s0 m; char n; }; ..`: each is four bytes longer than the one before, as gcc has it too, and each
+/// has the const member of the first, where that has one.
+fn chains_of_structs_are_laid_out(
+    rt: &impl Abort,
+    alloc: Global,
+    types: &mut Types,
+) -> Result<(), LayoutStop> {
+    let [char, _, int, _] = integers(types)?;
+    for quals in [unqualified(int).quals, CONST] {
+        let first = add_wrapper(alloc, types, QualType { quals, of: int })?;
+        let mut last = types.aggregate(first)?;
+        for _i in 1..CHAIN {
+            last = add_aggregate(alloc, types, AggKind::Struct, &[last, char])?;
+        }
+        let fixed = quals.constant;
+        assert_eq!(rt;
+            figures(types, last),
+            (
+                Some(4 * CHAIN),
+                Some(4),
+                [Some(0), Some(4 * CHAIN - 4), None]
+            )
+        );
+        assert_eq!(rt; types.is_modifiable(unqualified(last)), !fixed);
+    }
+    Ok(())
+}
+
 /// All of these, over the types of one unit; behind the last there are none.
 fn types_keep_their_rules(
     rt: &impl Abort,
@@ -298,6 +371,8 @@ fn types_keep_their_rules(
     qualifiers_of_arrays_go_to_their_elements(rt, alloc, types)?;
     composites_take_bounds(rt, types)?;
     constant_members_are_found_in_parts(rt, alloc, types)?;
+    modifiable_lvalues_are_told(rt, alloc, types)?;
+    chains_of_structs_are_laid_out(rt, alloc, types)?;
     the_least_type_that_is_too_big_is_named(rt, alloc, types)
 }
 

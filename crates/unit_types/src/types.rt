@@ -1,4 +1,4 @@
-ghost use Rattle.std.specs.Prelude.{◌≡◌, ◌<◌, ◌≤◌, true, false, None, Some, length, slice_get, IfOk, IfErr, OnOk, OnErr, IsTrue};
+ghost use Rattle.std.specs.Prelude.{◌≡◌, ◌<◌, ◌≤◌, ◌↔◌, true, false, None, Some, length, slice_get, IfOk, IfErr, OnOk, OnErr, IsTrue};
 ghost use Rattle.std.specs.Option.{option_map, option_and_then};
 ghost use Rattle.type_graph.specs.declared.aggregates.Aggregate.{Aggregate};
 ghost use Rattle.type_graph.specs.declared.layout.Layout.{Layout};
@@ -14,12 +14,14 @@ ghost use Rattle.unit_types.specs.Classes.{Tells, kind_of, param_of, offset_in};
 ghost use Rattle.type_compat.specs.Compatible.{compatible_shape};
 ghost use Rattle.type_compat.specs.Composed.{composite_shape};
 ghost use Rattle.layout_lp64.specs.Tables.{InStep};
-ghost use Rattle.unit_types.specs.Normal.{is_normal, joined, qualified};
+ghost use Rattle.unit_types.specs.Constants.{is_array, HasConstantMember, IsModifiable};
+ghost use Rattle.unit_types.specs.Normal.{is_normal, qualified};
 
 use crate::class::Class;
-use crate::constants::{ConstantMembers, are_constant};
+use crate::constants::{ConstantMembers, are_constant, has_constant, has_constant_member};
 use crate::members::{can_complete, is_complete, is_normal};
 use crate::parts::{Parts, add, add_agg, complete, compose};
+use crate::quals::{joined, unqualified};
 use cil_base::{Abi, AggId, IntKind, NameId, TypeId};
 use layout_lp64::LayoutStop;
 use std::alloc::Global;
@@ -38,13 +40,14 @@ pub struct Types {
 impl Model for Types {
     ghost use Rattle.type_graph.specs.Arena.{Graph};
     ghost use Rattle.layout_lp64.specs.Tables.{InStep};
+    ghost use Rattle.unit_types.specs.Known.{Knows};
     ghost use Rattle.unit_types.specs.Normal.{IsNormal};
 
     ghost Value = { Graph };
 
     ghost view = { λ s. s.parts.graph };
 
-    ghost invariant = { λ s. IsNormal s.parts.graph × InStep s.parts.layouts s.parts.graph };
+    ghost invariant = { λ s. IsNormal s.parts.graph × InStep s.parts.layouts s.parts.graph × Knows s.constants s.parts.graph };
 }
 
 /// The class of a node.
@@ -76,6 +79,7 @@ fn class_of(g: &TypeGraph, t: TypeId) -> Class
 
 impl Types {
     /// No types, for a data model.
+    #[tactic(auto, using(crate::proofs::ConstantLaws::knows_none))]
     pub fn new(alloc: Global, abi: Abi) -> Self
         ensures { result ≡ empty_graph abi }
     {
@@ -152,8 +156,40 @@ impl Types {
     }
 
     /// Whether a struct or union has a member that is const, itself or in a struct, a union or an array in it (C11 6.3.2.1p1).
-    pub fn has_constant_member(&self, a: AggId) -> bool {
-        self.constants.has(a)
+    #[tactic(auto, using(crate::proofs::ConstantLaws::none_there))]
+    pub fn has_constant_member(&self, a: AggId) -> bool
+        ensures { IsTrue result ↔ HasConstantMember self.now a.0 }
+    {
+        if a.0 >= self.parts.graph.agg_count() {
+            return false;
+        }
+        has_constant_member(&self.parts.graph, &self.constants, a)
+    }
+
+    /// Whether an lvalue of a type is modifiable (C11 6.3.2.1p1): the type is complete, no array, and neither const nor one with a const
+    /// member at any depth.
+    #[tactic(auto, using(crate::proofs::ConstantLaws::modifiable, crate::proofs::ConstantLaws::incomplete, crate::proofs::ConstantLaws::array_fixed))]
+    pub fn is_modifiable(&self, q: QualType) -> bool
+        ensures { IsTrue result ↔ IsModifiable self.now q.quals q.of.0 }
+    {
+        if !self.is_complete(q.of) {
+            return false;
+        }
+        if self.is_array(q.of) {
+            return false;
+        }
+        !has_constant(&self.parts.graph, &self.constants, q)
+    }
+
+    /// Whether a type is an array (C11 6.2.5p20).
+    fn is_array(&self, t: TypeId) -> bool
+        ensures { result ≡ is_array (shape self.now.nodes t.0) }
+    {
+        match self.class(t) {
+            Class::Array(..) => true,
+            Class::Void | Class::Int(_) | Class::Ptr(_) | Class::Func { .. } | Class::Agg(..) =>
+                false,
+        }
     }
 
     /// A parameter of a function type.
@@ -300,15 +336,9 @@ impl Types {
             Class::Array(of, bound) => {
                 let of = self.qualified(joined(of.quals, quals), of.of)?;
                 let array = self.array(of, bound)?;
-                Ok(QualType {
-                    quals: PLAIN,
-                    of: array,
-                })
+                Ok(unqualified(array))
             }
-            Class::Func { .. } => Ok(QualType {
-                quals: PLAIN,
-                of: t,
-            }),
+            Class::Func { .. } => Ok(unqualified(t)),
             Class::Void | Class::Int(_) | Class::Ptr(_) | Class::Agg(..) => {
                 Ok(QualType { quals, of: t })
             }
@@ -316,6 +346,7 @@ impl Types {
     }
 
     /// Gives an incomplete aggregate its members. Where `can_complete` does not hold it answers Memory.
+    #[tactic(auto, using(crate::proofs::ConstantLaws::knows_same))]
     pub fn complete(&mut self, a: AggId, members: Members) -> Result<(), LayoutStop>
         ensures ok { OnOk result ((x : Aggregate) → slice_get self.old.aggs a.0 ≡ Some x → self.new ≡ with_members self.old a x members) }
         ensures grows { OnOk result (Grows self.old self.new) }
@@ -324,9 +355,8 @@ impl Types {
         if !can_complete(&self.parts.graph, a, members.as_slice()) {
             return Err(impossible());
         }
-        if are_constant(&self.parts.graph, &self.constants, members.as_slice()) {
-            self.constants.add(a)?;
-        }
+        let constant = are_constant(&self.parts.graph, &self.constants, members.as_slice());
+        self.constants.set(a, constant)?;
         complete(self.alloc, &mut self.parts, a, members)
     }
 
@@ -364,22 +394,6 @@ fn impossible() -> LayoutStop
     ensures { result ≡ WantOfMemory }
 {
     LayoutStop::Memory
-}
-
-/// No qualifiers.
-const PLAIN: Quals = Quals {
-    constant: false,
-    restricted: false,
-};
-
-/// Both qualifiers (C11 6.7.3p5).
-fn joined(p: Quals, q: Quals) -> Quals
-    ensures { result ≡ joined p q }
-{
-    Quals {
-        constant: p.constant || q.constant,
-        restricted: p.restricted || q.restricted,
-    }
 }
 
 /// Whether types are there.

@@ -1,7 +1,7 @@
 use Rattle.type_graph.specs.Shapes.{shape}
-use Rattle.init_expand.specs.Images.{HasNoZero}
+use Rattle.init_expand.specs.Images.{HasNoZero, AreScalars}
 use Rattle.init_expand.specs.Spots.{RisesTo}
 use Rattle.init_expand.proofs.images.items.Given as goal
 
 abbrev pub invariant-loop-placed : goal.invariant-loop-placed
-invariant-loop-placed l = HasNoZero l.image.items.items × RisesTo l.types (shape l.types.nodes l.fn.ty.0) 0 l.image.items.items l.image.least
+invariant-loop-placed l = HasNoZero l.image.items.items × RisesTo l.types (shape l.types.nodes l.fn.ty.0) 0 l.image.items.items l.image.least × AreScalars l.types (shape l.types.nodes l.fn.ty.0) l.image.items.items

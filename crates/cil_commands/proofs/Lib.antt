@@ -1,0 +1,16 @@
+pub mod Answered
+pub mod Lengths
+pub mod LongTexts
+pub mod Merging
+pub mod Numbers
+pub mod Printing
+pub mod Ran
+pub mod Runs
+pub mod Samples
+pub mod SmallPrograms
+pub mod SmallRuns
+pub mod SmallTexts
+pub mod SmallUnits
+pub mod Tokens
+pub mod Units
+pub mod Words

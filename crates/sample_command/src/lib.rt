@@ -1,0 +1,11 @@
+//! The command `sample`: its units are made and merged, their program is run, and a summary is written.
+//!
+//! Its public contract says that what is written is the summary of a well-formed CIL program, and that nothing is written unless the
+//! program exits within its bound of steps.
+//!
+//! The command is own.
+#![tactic(auto)]
+
+mod command;
+
+pub use command::sample;

@@ -1,4 +1,0 @@
-use Rattle.unit_merger.proofs.merger.text_of.Goals as goal
-
-pub print-requires : goal.print-requires
-print-requires c = c.in_ok-check.ensures.0 c.if-not-branch.false

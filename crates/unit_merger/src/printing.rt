@@ -1,0 +1,108 @@
+ghost use Rattle.std.specs.Prelude.{◌≡◌, ◌≤◌, ◌<◌, length, MatchOption, IfOk, OnOk};
+ghost use Rattle.c_lexer.specs.Lexed.{IfRefused};
+ghost use Rattle.cil_tree.specs.Tree.{Program};
+ghost use Rattle.cil_tree.specs.Text.{Text};
+ghost use Rattle.cil_tree.specs.View.{program_of};
+ghost use Rattle.cil_tree.specs.Programs.{IsProgram, IsTextOf, text_limit};
+ghost use Rattle.unit_merger.specs.Refusals.{IsUnitRefusal, IsMergeRefusal, PrintedIfLong};
+
+use crate::refusals::{impossible, too_long};
+use c_lexer::{Tokens, lex};
+use cil_base::{Bytes, NamePool, Place, Stop, UnitNo};
+use cil_check::check;
+use cil_printer::{PrintStop, print};
+use cil_tree::CilUnit;
+use std::alloc::Global;
+
+/// The greatest number of bytes in a translation unit.
+const UNIT_BYTES: usize = 4_194_304;
+
+/// The text of a program, which is looked at before it is printed; none where the text is too long.
+fn printed(program: &CilUnit, names: &NamePool) -> Result<Option<Bytes>, Stop>
+    ensures program { OnOk result (IsProgram (program_of names.now program.now)) }
+    ensures text { IfOk result (λ found. MatchOption found (text_limit < length (Text (program_of names.now program.now))) (λ b. IsTextOf b (program_of names.now program.now))) }
+    ensures refused { IfRefused result (λ refusal. ⊥) }
+{
+    if !check(program, names)? {
+        return Err(impossible());
+    }
+    match print(program, names) {
+        Ok(text) => Ok(Some(text)),
+        Err(PrintStop::TooLong) => Ok(None),
+        Err(PrintStop::Memory) => Err(Stop::Memory),
+    }
+}
+
+/// The place of the first token of the first unit, which has these tokens.
+fn first_place(tokens: &Tokens<'_>) -> Place
+    ensures unit { result.unit ≡ record { 0 = 0 } }
+    ensures token { result.token ≡ 0 }
+{
+    let place = tokens.place(0);
+    Place {
+        unit: UnitNo(0),
+        token: 0,
+        file: place.file,
+        line: place.line,
+    }
+}
+
+/// The text of the program that a unit of these tokens becomes.
+pub(crate) fn unit_printed(
+    program: &CilUnit,
+    tokens: &Tokens<'_>,
+    names: &NamePool,
+) -> Result<Bytes, Stop>
+    ensures text { IfOk result (λ b. (p : Program) × IsTextOf b p) }
+    ensures refused { IfRefused result (IsUnitRefusal (length names.now)) }
+    ensures printed { IfRefused result PrintedIfLong }
+{
+    match printed(program, names)? {
+        Some(text) => Ok(text),
+        None => Err(too_long(first_place(tokens), names)),
+    }
+}
+
+/// The place of the first token of the first of some units, of which the first file has that name.
+fn place_in(
+    alloc: Global,
+    units: &[Bytes],
+    files: &[String],
+    names: &mut NamePool,
+) -> Result<Place, Stop>
+    ensures unit { IfOk result (λ place. place.unit ≡ record { 0 = 0 }) }
+    ensures token { IfOk result (λ place. place.token ≡ 0) }
+    ensures some { OnOk result (0 < length files.now) }
+    ensures refused { IfRefused result (λ refusal. ⊥) }
+{
+    if units.is_empty() || files.is_empty() || units[0].as_slice().len() > UNIT_BYTES {
+        return Err(impossible());
+    }
+    let file = names.intern(files[0].as_bytes())?;
+    match lex(alloc, units[0].as_slice(), UnitNo(0), file, names) {
+        Ok(tokens) => Ok(first_place(&tokens)),
+        Err(_) => Err(impossible()),
+    }
+}
+
+/// The text of the program that units of these files become.
+pub(crate) fn units_printed(
+    alloc: Global,
+    program: &CilUnit,
+    units: &[Bytes],
+    files: &[String],
+    names: &mut NamePool,
+) -> Result<Bytes, Stop>
+    ensures text { IfOk result (λ b. (p : Program) × IsTextOf b p) }
+    ensures program { OnOk result (IsProgram (program_of names.new program.now)) }
+    ensures refused { IfRefused result (IsMergeRefusal (length files.now) (length names.new)) }
+    ensures printed { IfRefused result PrintedIfLong }
+{
+    match printed(program, names)? {
+        Some(text) => Ok(text),
+        None => {
+            let place = place_in(alloc, units, files, names)?;
+            Err(too_long(place, names))
+        }
+    }
+}
