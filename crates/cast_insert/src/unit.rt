@@ -1,3 +1,6 @@
+ghost use Rattle.std.specs.Prelude.{IfSome};
+ghost use Rattle.cast_insert.specs.Refusals.{IsPlaceIn};
+
 use crate::declarations::declaration;
 use crate::functions::definition;
 use c_lexer::TokenList;
@@ -69,7 +72,9 @@ pub(crate) fn ended(w: &mut Walker) -> Result<(), WalkStop> {
 }
 
 /// The place of a token, or of the unit's end.
-pub(crate) fn place_of<L: TokenList>(t: &L, at: u32) -> Option<Place> {
+pub(crate) fn place_of<L: TokenList>(t: &L, at: u32) -> Option<Place>
+    ensures { IfSome result (IsPlaceIn (L.lexed t.now)) }
+{
     if at <= t.count() {
         Some(t.place(at))
     } else {

@@ -1,7 +1,11 @@
+ghost use Rattle.std.specs.Prelude.{◌≡◌, true, IfErr, IfSome};
+ghost use Rattle.cil_base.specs.declared.faults.Fault.TheVariants.{Constraint};
+ghost use Rattle.decl_types.specs.Refusals.{IsRefusal, of_anonymous, of_body, of_member};
+
 use crate::declared::MemberAt;
 use crate::made_names::name_anonymous;
 use crate::stops::{bad, impossible, laid, narrow, never};
-use crate::types::{PLAIN, is_function, is_unbounded, plain, qualified};
+use crate::types::{is_function, is_unbounded};
 use cil_base::{AggId, Code, IntKind, Memory, NameId, NamePool, RuleStop};
 use indexmap::{IndexMap, IndexSet};
 use smallvec::SmallVec;
@@ -96,7 +100,9 @@ fn is_flexible(b: &OpenBody, m: NewMember, t: &Types) -> bool {
 }
 
 /// The first constraint that a member violates.
-fn member_code(b: &OpenBody, m: NewMember, t: &Types) -> Option<Code> {
+fn member_code(b: &OpenBody, m: NewMember, t: &Types) -> Option<Code>
+    ensures { IfSome result (λ code. of_member (Constraint code) ≡ true) }
+{
     if b.offered.contains(&m.name) {
         Some(Code::Redeclared)
     } else if is_function(t, m.ty.of) {
@@ -170,7 +176,9 @@ impl Bodies {
     }
 
     /// Adds a named member to a struct or union.
-    pub(crate) fn member(&mut self, a: AggId, m: NewMember, t: &Types) -> Result<(), RuleStop> {
+    pub(crate) fn member(&mut self, a: AggId, m: NewMember, t: &Types) -> Result<(), RuleStop>
+        ensures { IfErr result (IsRefusal of_member) }
+    {
         let mut b = self.take(a)?;
         if let Some(code) = member_code(&b, m, t) {
             return Err(bad(code));
@@ -188,7 +196,9 @@ impl Bodies {
     }
 
     /// Adds an anonymous member to a struct or union. Its name is made when the body ends.
-    pub(crate) fn anonymous(&mut self, a: AggId, ty: QualType, t: &Types) -> Result<(), RuleStop> {
+    pub(crate) fn anonymous(&mut self, a: AggId, ty: QualType, t: &Types) -> Result<(), RuleStop>
+        ensures { IfErr result (IsRefusal of_anonymous) }
+    {
         let mut b = self.take(a)?;
         let closed = match self.closed.take() {
             None => return Err(never()),
@@ -210,7 +220,9 @@ impl Bodies {
     }
 
     /// The next member of a body offers what an aggregate offers.
-    fn offer(&mut self, b: &mut OpenBody, closed: &ClosedBody) -> Result<(), RuleStop> {
+    fn offer(&mut self, b: &mut OpenBody, closed: &ClosedBody) -> Result<(), RuleStop>
+        ensures { IfErr result (IsRefusal of_anonymous) }
+    {
         let i = next_place(b)?;
         for n in closed.offered.iter() {
             if b.offered.contains(n) {
@@ -254,7 +266,9 @@ impl Bodies {
         a: AggId,
         names: &mut NamePool,
         t: &mut Types,
-    ) -> Result<QualType, RuleStop> {
+    ) -> Result<QualType, RuleStop>
+        ensures { IfErr result (IsRefusal of_body) }
+    {
         let b = self.take(a)?;
         if b.members.is_empty() {
             return Err(bad(Code::Incomplete));
@@ -270,7 +284,7 @@ impl Bodies {
             });
         }
         let of = laid(t.aggregate(a))?;
-        qualified(quals, plain(of), t)
+        laid(t.qualified(quals, of))
     }
 
     /// The member with a name, or the anonymous one that offers it, by its place.

@@ -1,8 +1,10 @@
-ghost use Rattle.std.specs.Prelude.{◌≡◌, Ok, Err};
+ghost use Rattle.std.specs.Prelude.{◌≡◌, Ok, Err, Bool, true, IfErr, IfSome};
 ghost use Rattle.cil_base.specs.declared.faults.Code.TheVariants.{Initialiser};
 ghost use Rattle.cil_base.specs.declared.faults.Fault.TheVariants.{Constraint};
 ghost use Rattle.cil_base.specs.declared.faults.RuleStop.TheVariants as stop;
 ghost use Rattle.decl_types.specs.declared.declare.Start.TheVariants as begins;
+ghost use Rattle.cil_base.specs.declared.faults.Fault.{Fault};
+ghost use Rattle.decl_types.specs.Refusals.{IsRefusal, of_bound, of_declaration, of_parameter};
 
 use crate::declared::{BodyForm, Declared, Declaring, Form, Linkage};
 use crate::declarer::Declarer;
@@ -39,6 +41,7 @@ struct Item {
 fn without_initialiser(start: Start, d: Declared) -> Result<Declared, RuleStop>
     ensures plain { start ≡ begins.Plain → result ≡ Ok d }
     ensures initialised { start ≡ begins.Initialised → result ≡ Err (stop.Bad (Constraint Initialiser)) }
+    ensures refused { (faults : Fault → Bool) → faults (Constraint Initialiser) ≡ true → IfErr result (IsRefusal faults) }
 {
     match start {
         Start::Plain => Ok(d),
@@ -89,7 +92,9 @@ fn function_linkage(
     storage: Option<StorageClass>,
     depth: u32,
     prior: Option<Declared>,
-) -> Result<Linkage, RuleStop> {
+) -> Result<Linkage, RuleStop>
+    ensures { IfErr result (IsRefusal of_declaration) }
+{
     match storage {
         None | Some(StorageClass::Extern) => Ok(inherited(prior)),
         Some(StorageClass::Static) => {
@@ -136,7 +141,9 @@ impl Declarer {
         h: Heading,
         form: Form,
         t: &mut Types,
-    ) -> Result<Declared, RuleStop> {
+    ) -> Result<Declared, RuleStop>
+        ensures { IfErr result (IsRefusal of_declaration) }
+    {
         match form {
             Form::Parameter(q) => self.declare_parameter(n, ty, q, h, t),
             Form::Body(body) => self.declare_definition(n, ty, h, body, t),
@@ -153,7 +160,9 @@ impl Declarer {
         heading: Heading,
         start: Start,
         t: &mut Types,
-    ) -> Result<Declared, RuleStop> {
+    ) -> Result<Declared, RuleStop>
+        ensures { IfErr result (IsRefusal of_declaration) }
+    {
         let depth = self.numbers.depth()?;
         let i = Item {
             name,
@@ -172,13 +181,17 @@ impl Declarer {
     }
 
     /// Enters a declaration in the innermost scope.
-    fn enter_name(&mut self, n: NameId, d: Declared) -> Result<Declared, RuleStop> {
+    fn enter_name(&mut self, n: NameId, d: Declared) -> Result<Declared, RuleStop>
+        ensures { (faults : Fault → Bool) → IfErr result (IsRefusal faults) }
+    {
         self.names.declare(n, d)?;
         Ok(d)
     }
 
     /// Declares a typedef name (C11 6.7.8), again where it is the same type (6.7p3).
-    fn declare_typedef(&mut self, i: &Item) -> Result<Declared, RuleStop> {
+    fn declare_typedef(&mut self, i: &Item) -> Result<Declared, RuleStop>
+        ensures { IfErr result (IsRefusal of_declaration) }
+    {
         let d = Declared {
             what: Declaring::Typedef,
             ty: i.ty,
@@ -199,7 +212,9 @@ impl Declarer {
     }
 
     /// Declares a function without a body.
-    fn declare_function(&mut self, i: &Item, t: &mut Types) -> Result<Declared, RuleStop> {
+    fn declare_function(&mut self, i: &Item, t: &mut Types) -> Result<Declared, RuleStop>
+        ensures { IfErr result (IsRefusal of_declaration) }
+    {
         let prior = self.names.find(i.name);
         let linkage = function_linkage(i.heading.storage, i.depth, prior)?;
         let l = Linking {
@@ -217,7 +232,9 @@ impl Declarer {
     }
 
     /// Declares an object.
-    fn declare_object(&mut self, i: &Item, t: &mut Types) -> Result<Declared, RuleStop> {
+    fn declare_object(&mut self, i: &Item, t: &mut Types) -> Result<Declared, RuleStop>
+        ensures { IfErr result (IsRefusal of_declaration) }
+    {
         let prior = self.names.find(i.name);
         match object_storage(i, prior) {
             Storage::Linked(linkage) => self.declare_linked(i, linkage, prior, t),
@@ -233,7 +250,9 @@ impl Declarer {
         linkage: Linkage,
         prior: Option<Declared>,
         t: &mut Types,
-    ) -> Result<Declared, RuleStop> {
+    ) -> Result<Declared, RuleStop>
+        ensures { IfErr result (IsRefusal of_declaration) }
+    {
         let l = Linking {
             name: i.name,
             ty: i.ty,
@@ -252,7 +271,9 @@ impl Declarer {
     }
 
     /// The first constraint that an object without linkage violates.
-    fn block_code(&self, i: &Item, t: &Types) -> Option<Code> {
+    fn block_code(&self, i: &Item, t: &Types) -> Option<Code>
+        ensures { IfSome result (λ code. of_declaration (Constraint code) ≡ true) }
+    {
         if self.find_here(i.name, i.depth).is_some() {
             Some(Code::Redeclared)
         } else if is_incomplete(i, t) {
@@ -265,7 +286,9 @@ impl Declarer {
     }
 
     /// Declares a static object in a block.
-    fn declare_static(&mut self, i: &Item, t: &Types) -> Result<Declared, RuleStop> {
+    fn declare_static(&mut self, i: &Item, t: &Types) -> Result<Declared, RuleStop>
+        ensures { IfErr result (IsRefusal of_declaration) }
+    {
         if let Some(code) = self.block_code(i, t) {
             return Err(bad(code));
         }
@@ -290,7 +313,9 @@ impl Declarer {
     }
 
     /// Declares an automatic object in a block.
-    fn declare_automatic(&mut self, i: &Item, t: &Types) -> Result<Declared, RuleStop> {
+    fn declare_automatic(&mut self, i: &Item, t: &Types) -> Result<Declared, RuleStop>
+        ensures { IfErr result (IsRefusal of_declaration) }
+    {
         if let Some(code) = self.block_code(i, t) {
             return Err(bad(code));
         }
@@ -311,7 +336,9 @@ impl Declarer {
     }
 
     /// The first constraint that a named parameter violates.
-    fn parameter_code(&self, n: NameId, ty: QualType, depth: u32, t: &Types) -> Option<Code> {
+    fn parameter_code(&self, n: NameId, ty: QualType, depth: u32, t: &Types) -> Option<Code>
+        ensures { IfSome result (λ code. of_declaration (Constraint code) ≡ true) }
+    {
         if self.find_here(n, depth).is_some() {
             Some(Code::Redeclared)
         } else if is_void(t, ty.of) {
@@ -331,7 +358,9 @@ impl Declarer {
         q: Quals,
         h: Heading,
         t: &mut Types,
-    ) -> Result<Declared, RuleStop> {
+    ) -> Result<Declared, RuleStop>
+        ensures { IfErr result (IsRefusal of_declaration) }
+    {
         let depth = self.numbers.depth()?;
         if let Some(code) = self.parameter_code(n, ty, depth, t) {
             return Err(bad(code));
@@ -358,7 +387,9 @@ impl Declarer {
         h: Heading,
         body: BodyForm,
         t: &mut Types,
-    ) -> Result<Declared, RuleStop> {
+    ) -> Result<Declared, RuleStop>
+        ensures { IfErr result (IsRefusal of_declaration) }
+    {
         if self.numbers.depth()? != 1 {
             return Err(never());
         }
@@ -389,7 +420,9 @@ impl Declarer {
 
     /// A parameter of a function that is defined, by its number, behind `declare` with its body, in the order of the text. At its identifier: `Incomplete`
     /// (C11 6.9.1p7), and the limit on locals.
-    pub fn defined_parameter(&self, l: LocalId, t: &Types) -> Result<(), RuleStop> {
+    pub fn defined_parameter(&self, l: LocalId, t: &Types) -> Result<(), RuleStop>
+        ensures { IfErr result (IsRefusal of_parameter) }
+    {
         match self.numbers.locals().get(l.0 as usize) {
             None => Err(never()),
             Some(local) => {
@@ -407,12 +440,9 @@ impl Declarer {
     /// Gives the visible declaration of a name, which is an array of unknown bound, its bound (C11 6.7.9p22).
     ///
     /// At the identifier: `Conflict` where another declaration of the unit has another bound, and the limit on objects.
-    pub fn set_bound(
-        &mut self,
-        n: NameId,
-        bound: u64,
-        t: &mut Types,
-    ) -> Result<Declared, RuleStop> {
+    pub fn set_bound(&mut self, n: NameId, bound: u64, t: &mut Types) -> Result<Declared, RuleStop>
+        ensures { IfErr result (IsRefusal of_bound) }
+    {
         let d = match self.names.find(n) {
             None => return Err(never()),
             Some(d) => d,
@@ -443,7 +473,9 @@ impl Declarer {
     }
 
     /// Whether the bound of a declaration agrees with that of its entity.
-    fn check_bound(&self, d: Declared, bound: u64, t: &Types) -> Result<(), RuleStop> {
+    fn check_bound(&self, d: Declared, bound: u64, t: &Types) -> Result<(), RuleStop>
+        ensures { IfErr result (IsRefusal of_bound) }
+    {
         let entity = match d.what {
             Declaring::Entity(e) => self.entities.get(e),
             Declaring::Typedef | Declaring::Enumerator(_) | Declaring::Local(_) => None,
@@ -463,7 +495,9 @@ impl Declarer {
     }
 
     /// Gives what is declared the type of its declaration.
-    fn bound_object(&mut self, d: Declared, t: &mut Types) -> Result<(), RuleStop> {
+    fn bound_object(&mut self, d: Declared, t: &mut Types) -> Result<(), RuleStop>
+        ensures { IfErr result (IsRefusal of_bound) }
+    {
         match d.what {
             Declaring::Local(l) => {
                 self.numbers.set_type(l, d.ty)?;

@@ -1,3 +1,8 @@
+ghost use Rattle.std.specs.Prelude.{◌≡◌, [], ◌∷◌, ◌++◌, OnOk, IfErr};
+ghost use Rattle.name_scopes.specs.Scopes.{found};
+ghost use Rattle.decl_types.specs.Scopes.{Leaves};
+ghost use Rattle.decl_types.specs.Refusals.{IsRefusal, of_literal};
+
 use crate::bodies::{Bodies, MemberPath};
 use crate::declared::{Declared, Declaring, Linkage, Tag};
 use crate::entities::{Declarations, DeclaredEntity, Defined, Entities};
@@ -104,14 +109,20 @@ impl Declarer {
 
     /// Opens the scope of a block, or of parameters. The parameters of a function that is defined and the outermost block of its body are one scope
     /// (C11 6.2.1p4).
-    pub fn enter(&mut self) -> Result<(), Memory> {
+    pub fn enter(&mut self) -> Result<(), Memory>
+        ensures names { OnOk result (self.new.names ≡ self.old.names ++ [] ∷ []) }
+        ensures tags { OnOk result (self.new.tags ≡ self.old.tags ++ [] ∷ []) }
+    {
         self.names.enter()?;
         self.tags.enter()?;
         self.numbers.enter()
     }
 
     /// Closes the innermost scope. The parameters of a declarator without body give their numbers back.
-    pub fn leave(&mut self) -> Result<(), Memory> {
+    pub fn leave(&mut self) -> Result<(), Memory>
+        ensures names { OnOk result (Leaves self.old.names self.new.names) }
+        ensures tags { OnOk result (Leaves self.old.tags self.new.tags) }
+    {
         if self.names.leave().is_none() || self.tags.leave().is_none() {
             return Err(impossible());
         }
@@ -119,7 +130,9 @@ impl Declarer {
     }
 
     /// The visible declaration of an ordinary name (C11 6.2.1p4).
-    pub fn find(&self, n: NameId) -> Option<Declared> {
+    pub fn find(&self, n: NameId) -> Option<Declared>
+        ensures { result ≡ found self.now.names n }
+    {
         self.names.find(n)
     }
 
@@ -142,7 +155,9 @@ impl Declarer {
     }
 
     /// A compound literal in a function, where it is evaluated: its number in the function (C11 6.5.2.5p5). The limit on locals, at its first token.
-    pub fn compound_literal(&mut self) -> Result<u32, RuleStop> {
+    pub fn compound_literal(&mut self) -> Result<u32, RuleStop>
+        ensures { IfErr result (IsRefusal of_literal) }
+    {
         self.numbers.add_literal()
     }
 

@@ -1,3 +1,6 @@
+ghost use Rattle.std.specs.Prelude.{IfErr};
+ghost use Rattle.decl_types.specs.Refusals.{IsRefusal, of_types};
+
 use crate::declarer::Declarer;
 use crate::entities::{DeclaredEntity, Defined, LateFault};
 use crate::stops::{laid, narrow};
@@ -6,7 +9,9 @@ use cil_base::{Code, EntityId, RuleStop, TypeId};
 use unit_types::{Class, Types};
 
 /// The type of an entity at the unit's end: an array of unknown bound that is defined tentatively alone has one element (C11 6.9.2p2, p5).
-fn final_type(e: &DeclaredEntity, t: &mut Types) -> Result<TypeId, RuleStop> {
+fn final_type(e: &DeclaredEntity, t: &mut Types) -> Result<TypeId, RuleStop>
+    ensures { IfErr result (IsRefusal of_types) }
+{
     if e.defined != Defined::Tentative || !is_unbounded(t, e.ty.of) {
         return Ok(e.ty.of);
     }
@@ -35,7 +40,9 @@ fn late_code(e: &DeclaredEntity, t: &Types) -> Option<Code> {
 
 impl Declarer {
     /// Ends an entity.
-    fn finish_entity(&mut self, e: EntityId, t: &mut Types) -> Result<Option<LateFault>, RuleStop> {
+    fn finish_entity(&mut self, e: EntityId, t: &mut Types) -> Result<Option<LateFault>, RuleStop>
+        ensures { IfErr result (IsRefusal of_types) }
+    {
         let entity = match self.entities.get(e) {
             None => return Ok(None),
             Some(entity) => entity,
@@ -52,7 +59,9 @@ impl Declarer {
     }
 
     /// Ends the unit: tentative definitions of arrays of unknown bound get one element. The answer lists the faults that only the end shows, by entity.
-    pub fn finish(&mut self, t: &mut Types) -> Result<Vec<LateFault>, RuleStop> {
+    pub fn finish(&mut self, t: &mut Types) -> Result<Vec<LateFault>, RuleStop>
+        ensures { IfErr result (IsRefusal of_types) }
+    {
         let mut faults = Vec::new(self.alloc);
         let count = narrow(self.entities.as_slice().len())?;
         for i in 0..count {

@@ -1,3 +1,7 @@
+ghost use Rattle.std.specs.Prelude.{Bool, IfErr};
+ghost use Rattle.cil_base.specs.declared.faults.Fault.{Fault};
+ghost use Rattle.decl_types.specs.Refusals.{IsRefusal};
+
 use crate::declared::Linkage;
 use crate::stops::{narrow, never};
 use crate::types::is_function;
@@ -130,7 +134,9 @@ impl Entities {
     }
 
     /// Gives an entity another content.
-    pub(crate) fn set(&mut self, e: EntityId, entity: DeclaredEntity) -> Result<(), RuleStop> {
+    pub(crate) fn set(&mut self, e: EntityId, entity: DeclaredEntity) -> Result<(), RuleStop>
+        ensures { (faults : Fault → Bool) → IfErr result (IsRefusal faults) }
+    {
         let i = e.0 as usize;
         if i >= self.list.len() {
             return Err(never());
@@ -140,7 +146,9 @@ impl Entities {
     }
 
     /// Gives an entity another type, with its qualifiers.
-    pub(crate) fn set_type(&mut self, e: EntityId, of: TypeId) -> Result<(), RuleStop> {
+    pub(crate) fn set_type(&mut self, e: EntityId, of: TypeId) -> Result<(), RuleStop>
+        ensures { (faults : Fault → Bool) → IfErr result (IsRefusal faults) }
+    {
         let i = e.0 as usize;
         if i >= self.list.len() {
             return Err(never());

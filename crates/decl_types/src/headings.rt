@@ -1,3 +1,6 @@
+ghost use Rattle.std.specs.Prelude.{IfErr};
+ghost use Rattle.decl_types.specs.Refusals.{IsRefusal, of_heading};
+
 use crate::stops::bad;
 use c_tree::{FunctionSpecifier, Specifier, StorageClass};
 use cil_base::{Code, RuleStop};
@@ -33,7 +36,9 @@ pub struct Heading {
 }
 
 /// A heading with one specifier more; at most one storage class is allowed (C11 6.7.1p2).
-fn with(h: Heading, s: &Specifier) -> Result<Heading, RuleStop> {
+fn with(h: Heading, s: &Specifier) -> Result<Heading, RuleStop>
+    ensures { IfErr result (IsRefusal of_heading) }
+{
     match s {
         Specifier::Storage(_, class) => {
             if h.storage.is_some() {
@@ -80,7 +85,9 @@ fn is_allowed(class: StorageClass, at: Position) -> bool {
 
 /// What specifiers say beside the type. `Specifiers` where there are two storage classes, or one that is not allowed there; its place is the first
 /// token of the specifiers.
-pub fn heading_of(s: &[Specifier], at: Position) -> Result<Heading, RuleStop> {
+pub fn heading_of(s: &[Specifier], at: Position) -> Result<Heading, RuleStop>
+    ensures { IfErr result (IsRefusal of_heading) }
+{
     let mut h = Heading {
         storage: None,
         inline: Inline::No,

@@ -1,8 +1,8 @@
 //! What a translation unit has declared so far: scopes, linkage, tags, the bodies of structs, unions and enums, derived types, and the numbers of objects
 //! and functions.
 //!
-//! Its public contract answers for every number, whatever was declared before; each call is one step of a declaration, which refuses what C refuses, and
-//! the caller adds the place.
+//! Its public contract answers for every number, whatever was declared before; scopes are opened, left and searched as C has them, and each other call is
+//! one step of a declaration, which is refused for the faults of that step alone. The caller adds the place.
 //!
 //! The rules come from C11 6.2.1 to 6.2.3, 6.2.7, 6.7 and 6.9.
 #![tactic(auto)]

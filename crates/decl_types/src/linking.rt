@@ -1,3 +1,9 @@
+ghost use Rattle.std.specs.Prelude.{◌≡◌, Bool, true, IfErr, IfSome};
+ghost use Rattle.cil_base.specs.declared.faults.Fault.TheVariants.{Constraint, Excluded, Limit};
+ghost use Rattle.cil_base.specs.declared.faults.Fault.{Fault};
+ghost use Rattle.cil_base.specs.declared.faults.What.TheVariants.{ObjectSize};
+ghost use Rattle.decl_types.specs.Refusals.{IsRefusal, of_declaration};
+
 use crate::declared::{BodyForm, Declared, Declaring, Linkage};
 use crate::declarer::Declarer;
 use crate::entities::{DeclaredEntity, Defined, kind_of};
@@ -126,7 +132,9 @@ fn is_misplaced(l: &Linking, t: &Types) -> bool {
 }
 
 /// The excluded form of a function that is declared.
-fn feature(l: &Linking, t: &Types) -> Option<Feature> {
+fn feature(l: &Linking, t: &Types) -> Option<Feature>
+    ensures { IfSome result (λ feature. of_declaration (Excluded feature) ≡ true) }
+{
     let variadic = match t.class(l.ty.of) {
         Class::Func { variadic, .. } => variadic,
         Class::Void | Class::Int(_) | Class::Ptr(_) | Class::Array(..) | Class::Agg(..) => {
@@ -178,7 +186,9 @@ impl Declarer {
         l: &Linking,
         known: Option<(EntityId, DeclaredEntity)>,
         t: &Types,
-    ) -> Option<Code> {
+    ) -> Option<Code>
+        ensures { IfSome result (λ code. of_declaration (Constraint code) ≡ true) }
+    {
         let (conflicts, full) = match known {
             None => (false, false),
             Some((_, e)) => (!agrees(l, &e, t), e.defined == Defined::Full),
@@ -201,7 +211,9 @@ impl Declarer {
     }
 
     /// The entity of a name that the unit declares for the first time.
-    fn first_declared(&mut self, l: &Linking) -> Result<EntityId, RuleStop> {
+    fn first_declared(&mut self, l: &Linking) -> Result<EntityId, RuleStop>
+        ensures { (faults : Fault → Bool) → IfErr result (IsRefusal faults) }
+    {
         let kind = kind_of(l.linkage);
         let e = self.entities.add_linked(DeclaredEntity {
             name: l.name,
@@ -224,7 +236,9 @@ impl Declarer {
         e: EntityId,
         before: DeclaredEntity,
         t: &mut Types,
-    ) -> Result<EntityId, RuleStop> {
+    ) -> Result<EntityId, RuleStop>
+        ensures { (faults : Fault → Bool) → faults (Limit ObjectSize) ≡ true → IfErr result (IsRefusal faults) }
+    {
         let of = composite(t, before.ty.of, l.ty.of)?;
         self.entities.set(
             e,
@@ -244,7 +258,9 @@ impl Declarer {
     }
 
     /// Declares an object or function with linkage; its scope begins here. The answer is not in the scopes yet.
-    pub(crate) fn link(&mut self, l: &Linking, t: &mut Types) -> Result<Declared, RuleStop> {
+    pub(crate) fn link(&mut self, l: &Linking, t: &mut Types) -> Result<Declared, RuleStop>
+        ensures { IfErr result (IsRefusal of_declaration) }
+    {
         let known = self.entities.linked(l.name);
         if let Some(code) = self.linking_code(l, known, t) {
             return Err(bad(code));
@@ -268,7 +284,9 @@ impl Declarer {
 }
 
 /// The type that is visible behind a declaration: the composite with the one that was visible before, where that has linkage (C11 6.2.7p4).
-fn visible_type(l: &Linking, t: &mut Types) -> Result<QualType, RuleStop> {
+fn visible_type(l: &Linking, t: &mut Types) -> Result<QualType, RuleStop>
+    ensures { (faults : Fault → Bool) → faults (Limit ObjectSize) ≡ true → IfErr result (IsRefusal faults) }
+{
     match l.prior {
         None => Ok(l.ty),
         Some(d) => {

@@ -1,3 +1,9 @@
+ghost use Rattle.std.specs.Prelude.{◌≡◌, Bool, true, IfErr};
+ghost use Rattle.cil_base.specs.declared.faults.Fault.TheVariants.{Limit};
+ghost use Rattle.cil_base.specs.declared.faults.Fault.{Fault};
+ghost use Rattle.cil_base.specs.declared.faults.What.TheVariants.{Locals};
+ghost use Rattle.decl_types.specs.Refusals.{IsRefusal, of_literal};
+
 use crate::stops::{impossible, narrow, past};
 use cil_base::{LocalId, Memory, RuleStop, What};
 use std::alloc::Global;
@@ -135,7 +141,9 @@ impl Numbers {
     }
 
     /// An automatic object.
-    pub(crate) fn add_object(&mut self, local: TypedLocal) -> Result<LocalId, RuleStop> {
+    pub(crate) fn add_object(&mut self, local: TypedLocal) -> Result<LocalId, RuleStop>
+        ensures { (faults : Fault → Bool) → faults (Limit Locals) ≡ true → IfErr result (IsRefusal faults) }
+    {
         if self.is_full() {
             return Err(past(What::Locals));
         }
@@ -144,7 +152,9 @@ impl Numbers {
     }
 
     /// A compound literal.
-    pub(crate) fn add_literal(&mut self) -> Result<u32, RuleStop> {
+    pub(crate) fn add_literal(&mut self) -> Result<u32, RuleStop>
+        ensures { IfErr result (IsRefusal of_literal) }
+    {
         if self.is_full() {
             return Err(past(What::Locals));
         }

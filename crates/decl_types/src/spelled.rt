@@ -1,3 +1,6 @@
+ghost use Rattle.std.specs.Prelude.{IfErr};
+ghost use Rattle.decl_types.specs.Refusals.{IsRefusal, of_specifiers};
+
 use crate::basics::{BasicMeaning, Basics, NO_BASICS};
 use crate::stops::bad;
 use c_tree::{Qualifier, Specifier, StructKind, TagKind};
@@ -95,7 +98,9 @@ pub fn qualifiers(list: &[Qualifier]) -> Quals {
 
 impl Sorted {
     /// With a type specifier that is no keyword, where there is none.
-    fn with_named(self, named: Named) -> Result<Sorted, RuleStop> {
+    fn with_named(self, named: Named) -> Result<Sorted, RuleStop>
+        ensures { IfErr result (IsRefusal of_specifiers) }
+    {
         if self.named.is_some() {
             return Err(bad(Code::Specifiers));
         }
@@ -107,7 +112,9 @@ impl Sorted {
     }
 
     /// With one specifier more.
-    fn with(self, s: &Specifier) -> Result<Sorted, RuleStop> {
+    fn with(self, s: &Specifier) -> Result<Sorted, RuleStop>
+        ensures { IfErr result (IsRefusal of_specifiers) }
+    {
         if let Some(named) = named_by(s) {
             return self.with_named(named);
         }
@@ -153,7 +160,9 @@ impl Sorted {
 }
 
 /// What specifiers say of a type. `Specifiers` where they name none (C11 6.7.2p2).
-pub(crate) fn spelled_by(s: &[Specifier]) -> Result<Spelled, RuleStop> {
+pub(crate) fn spelled_by(s: &[Specifier]) -> Result<Spelled, RuleStop>
+    ensures { IfErr result (IsRefusal of_specifiers) }
+{
     let mut sorted = Sorted {
         basics: NO_BASICS,
         named: None,

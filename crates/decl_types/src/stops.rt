@@ -1,7 +1,10 @@
-ghost use Rattle.std.specs.Prelude.{◌≡◌, MatchResult, IfOk, Ok, Err};
+ghost use Rattle.std.specs.Prelude.{◌≡◌, MatchResult, IfOk, Ok, Err, Bool, true, IfErr};
 ghost use Rattle.cil_base.specs.declared.faults.Fault.TheVariants.{Constraint, Excluded, Limit};
 ghost use Rattle.cil_base.specs.declared.faults.RuleStop.TheVariants as stop;
 ghost use Rattle.decl_types.specs.Stops.{refusal};
+ghost use Rattle.cil_base.specs.declared.faults.Fault.{Fault};
+ghost use Rattle.cil_base.specs.declared.faults.What.TheVariants.{ObjectSize};
+ghost use Rattle.decl_types.specs.Refusals.{IsRefusal};
 
 use cil_base::{Code, Fault, Feature, Memory, RuleStop, What};
 use layout_lp64::LayoutStop;
@@ -51,7 +54,8 @@ fn refusal(stop: LayoutStop) -> RuleStop
 
 /// Hands on what the types of the unit answer.
 pub(crate) fn laid<T>(r: Result<T, LayoutStop>) -> Result<T, RuleStop>
-    ensures { MatchResult r (λ x. result ≡ Ok x) (λ e. result ≡ Err (refusal e)) }
+    ensures is { MatchResult r (λ x. result ≡ Ok x) (λ e. result ≡ Err (refusal e)) }
+    ensures refused { (faults : Fault → Bool) → faults (Limit ObjectSize) ≡ true → IfErr result (IsRefusal faults) }
 {
     match r {
         Ok(x) => Ok(x),

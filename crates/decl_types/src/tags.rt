@@ -1,3 +1,6 @@
+ghost use Rattle.std.specs.Prelude.{IfErr};
+ghost use Rattle.decl_types.specs.Refusals.{IsRefusal, of_anonymous, of_body, of_enumerator, of_member, of_specifiers};
+
 use crate::basics::BasicMeaning;
 use crate::bodies::{NewMember, Opening};
 use crate::declared::{Behind, Declared, Declaring, Linkage, MemberAt, Tag, TagBody};
@@ -12,7 +15,9 @@ use typed_tree::Ordinary;
 use unit_types::Types;
 
 /// The type that keywords name.
-fn basic_type(meaning: BasicMeaning, t: &mut Types) -> Result<QualType, RuleStop> {
+fn basic_type(meaning: BasicMeaning, t: &mut Types) -> Result<QualType, RuleStop>
+    ensures { IfErr result (IsRefusal of_specifiers) }
+{
     let of = match meaning {
         BasicMeaning::Void => t.void(),
         BasicMeaning::Int(kind) => t.int(kind),
@@ -27,7 +32,9 @@ fn is_alone(s: &[Specifier], behind: Behind, kind: AggKind) -> bool {
 
 impl Declarer {
     /// The type of a typedef name. One that is hidden by another declaration is no type specifier (C11 6.7.8p3).
-    fn typedef_type(&self, n: NameId) -> Result<QualType, RuleStop> {
+    fn typedef_type(&self, n: NameId) -> Result<QualType, RuleStop>
+        ensures { IfErr result (IsRefusal of_specifiers) }
+    {
         match self.names.find(n) {
             None => Err(bad(Code::Specifiers)),
             Some(d) => match d.what {
@@ -54,7 +61,9 @@ impl Declarer {
         kind: AggKind,
         body: TagBody,
         t: &mut Types,
-    ) -> Result<AggId, RuleStop> {
+    ) -> Result<AggId, RuleStop>
+        ensures { IfErr result (IsRefusal of_specifiers) }
+    {
         if self.is_reserved(n) {
             return Err(bad(Code::Reserved));
         }
@@ -79,7 +88,9 @@ impl Declarer {
         n: NameId,
         visible: Option<Tag>,
         t: &mut Types,
-    ) -> Result<AggId, RuleStop> {
+    ) -> Result<AggId, RuleStop>
+        ensures { IfErr result (IsRefusal of_specifiers) }
+    {
         match visible {
             Some(tag) => {
                 if tag.kind != kind {
@@ -103,7 +114,9 @@ impl Declarer {
         n: NameId,
         alone: bool,
         t: &mut Types,
-    ) -> Result<QualType, RuleStop> {
+    ) -> Result<QualType, RuleStop>
+        ensures { IfErr result (IsRefusal of_specifiers) }
+    {
         let visible = if alone {
             let depth = self.numbers.depth()?;
             self.tag_here(n, depth)
@@ -124,7 +137,9 @@ impl Declarer {
         s: &[Specifier],
         behind: Behind,
         t: &mut Types,
-    ) -> Result<QualType, RuleStop> {
+    ) -> Result<QualType, RuleStop>
+        ensures { IfErr result (IsRefusal of_specifiers) }
+    {
         let spelled = spelled_by(s)?;
         let ty = match spelled.meaning {
             Meaning::Basic(basic) => basic_type(basic, t)?,
@@ -138,7 +153,9 @@ impl Declarer {
     }
 
     /// The aggregate of a tag with a body (C11 6.7.2.3p6): one that is declared in the innermost scope without a body, else a new one.
-    fn bodied(&mut self, kind: AggKind, n: NameId, t: &mut Types) -> Result<AggId, RuleStop> {
+    fn bodied(&mut self, kind: AggKind, n: NameId, t: &mut Types) -> Result<AggId, RuleStop>
+        ensures { IfErr result (IsRefusal of_specifiers) }
+    {
         let depth = self.numbers.depth()?;
         match self.tag_here(n, depth) {
             None => self.declare_tag(n, kind, TagBody::Begun, t),
@@ -163,7 +180,9 @@ impl Declarer {
     /// The aggregate of specifiers with a body, whose tag is in scope from here on (C11 6.2.1p7). It is open until `close_body`.
     ///
     /// `Specifiers`, `Tag`, `Reserved` and `Restrict` as by `words`; `Tag` also where the tag has a body already.
-    pub fn open_body(&mut self, s: &[Specifier], t: &mut Types) -> Result<AggId, RuleStop> {
+    pub fn open_body(&mut self, s: &[Specifier], t: &mut Types) -> Result<AggId, RuleStop>
+        ensures { IfErr result (IsRefusal of_specifiers) }
+    {
         let spelled = spelled_by(s)?;
         match spelled.meaning {
             Meaning::Named(Named::Body(kind, tag)) => self.open_named(kind, tag, spelled.quals, t),
@@ -180,7 +199,9 @@ impl Declarer {
         tag: Option<NameId>,
         quals: Quals,
         t: &mut Types,
-    ) -> Result<AggId, RuleStop> {
+    ) -> Result<AggId, RuleStop>
+        ensures { IfErr result (IsRefusal of_specifiers) }
+    {
         let agg = match tag {
             None => laid(t.add_agg(kind, None))?,
             Some(n) => self.bodied(kind, n, t)?,
@@ -207,7 +228,9 @@ impl Declarer {
         ty: QualType,
         at: MemberAt,
         t: &Types,
-    ) -> Result<(), RuleStop> {
+    ) -> Result<(), RuleStop>
+        ensures { IfErr result (IsRefusal of_member) }
+    {
         let reserved = self.is_reserved(n);
         self.bodies.member(
             a,
@@ -224,7 +247,9 @@ impl Declarer {
     /// Adds an anonymous struct or union to an open one (C11 6.7.2.1p13), with the type that `close_body` gave just before for a body without a tag.
     ///
     /// `Redeclared` where the aggregate offers a name of it already: that is the answer of `repeated` then, and the place is the name's in its body.
-    pub fn anonymous(&mut self, a: AggId, ty: QualType, t: &Types) -> Result<(), RuleStop> {
+    pub fn anonymous(&mut self, a: AggId, ty: QualType, t: &Types) -> Result<(), RuleStop>
+        ensures { IfErr result (IsRefusal of_anonymous) }
+    {
         self.bodies.anonymous(a, ty, t)
     }
 
@@ -242,7 +267,9 @@ impl Declarer {
         n: NameId,
         value: Option<i128>,
         t: &mut Types,
-    ) -> Result<(), RuleStop> {
+    ) -> Result<(), RuleStop>
+        ensures { IfErr result (IsRefusal of_enumerator) }
+    {
         let depth = self.numbers.depth()?;
         let (v, index) = self.bodies.next_enumerator(a, value)?;
         if self.find_here(n, depth).is_some() {
@@ -278,7 +305,9 @@ impl Declarer {
         a: AggId,
         names: &mut NamePool,
         t: &mut Types,
-    ) -> Result<QualType, RuleStop> {
+    ) -> Result<QualType, RuleStop>
+        ensures { IfErr result (IsRefusal of_body) }
+    {
         self.bodies.close(a, names, t)
     }
 }

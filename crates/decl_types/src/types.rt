@@ -1,3 +1,10 @@
+ghost use Rattle.std.specs.Prelude.{◌≡◌, Bool, true, IfErr};
+ghost use Rattle.cil_base.specs.declared.faults.Code.TheVariants.{Restrict, Incomplete};
+ghost use Rattle.cil_base.specs.declared.faults.Fault.TheVariants.{Constraint, Limit};
+ghost use Rattle.cil_base.specs.declared.faults.Fault.{Fault};
+ghost use Rattle.cil_base.specs.declared.faults.What.TheVariants.{ObjectSize};
+ghost use Rattle.decl_types.specs.Refusals.{IsRefusal, of_array, of_function};
+
 use crate::stops::{bad, laid, past};
 use cil_base::{Code, IntKind, RuleStop, TypeId, What};
 use std::alloc::Global;
@@ -83,7 +90,9 @@ fn is_restrictable(ty: TypeId, t: &Types) -> bool {
 }
 
 /// A type with qualifiers more (C11 6.7.3).
-pub(crate) fn qualified(q: Quals, ty: QualType, t: &mut Types) -> Result<QualType, RuleStop> {
+pub(crate) fn qualified(q: Quals, ty: QualType, t: &mut Types) -> Result<QualType, RuleStop>
+    ensures { (faults : Fault → Bool) → faults (Constraint Restrict) ≡ true → faults (Limit ObjectSize) ≡ true → IfErr result (IsRefusal faults) }
+{
     if q.restricted && !is_restrictable(ty.of, t) {
         return Err(bad(Code::Restrict));
     }
@@ -91,13 +100,17 @@ pub(crate) fn qualified(q: Quals, ty: QualType, t: &mut Types) -> Result<QualTyp
 }
 
 /// The type int.
-pub(crate) fn int(t: &mut Types) -> Result<QualType, RuleStop> {
+pub(crate) fn int(t: &mut Types) -> Result<QualType, RuleStop>
+    ensures { (faults : Fault → Bool) → faults (Limit ObjectSize) ≡ true → IfErr result (IsRefusal faults) }
+{
     let of = laid(t.int(IntKind::Int))?;
     Ok(plain(of))
 }
 
 /// The composite of two types, the first of which was declared earlier (C11 6.2.7p3).
-pub(crate) fn composite(t: &mut Types, a: TypeId, b: TypeId) -> Result<TypeId, RuleStop> {
+pub(crate) fn composite(t: &mut Types, a: TypeId, b: TypeId) -> Result<TypeId, RuleStop>
+    ensures { (faults : Fault → Bool) → faults (Limit ObjectSize) ≡ true → IfErr result (IsRefusal faults) }
+{
     laid(t.composite(a, b))
 }
 
@@ -107,16 +120,27 @@ pub(crate) fn are_compatible(t: &Types, a: QualType, b: QualType) -> bool {
 }
 
 /// A pointer with qualifiers of its own (C11 6.7.6.1). `Restrict` where it points to a function and is restrict-qualified.
-pub fn pointer(to: QualType, q: Quals, t: &mut Types) -> Result<QualType, RuleStop> {
+pub fn pointer(to: QualType, q: Quals, t: &mut Types) -> Result<QualType, RuleStop>
+    ensures { (faults : Fault → Bool) → faults (Constraint Restrict) ≡ true → faults (Limit ObjectSize) ≡ true → IfErr result (IsRefusal faults) }
+{
     if q.restricted && is_function(t, to.of) {
         return Err(bad(Code::Restrict));
     }
+    pointed(to, q, t)
+}
+
+/// A pointer with qualifiers of its own, to what may be pointed to so.
+fn pointed(to: QualType, q: Quals, t: &mut Types) -> Result<QualType, RuleStop>
+    ensures { (faults : Fault → Bool) → faults (Limit ObjectSize) ≡ true → IfErr result (IsRefusal faults) }
+{
     let of = laid(t.pointer(to))?;
     Ok(QualType { quals: q, of })
 }
 
 /// The bound of an array (C11 6.7.6.2p1). One that no number of 64 bits has passes the limit on objects too.
-fn checked_bound(bound: Option<i128>) -> Result<Option<u64>, RuleStop> {
+fn checked_bound(bound: Option<i128>) -> Result<Option<u64>, RuleStop>
+    ensures { IfErr result (IsRefusal of_array) }
+{
     match bound {
         None => Ok(None),
         Some(n) => {
@@ -133,7 +157,9 @@ fn checked_bound(bound: Option<i128>) -> Result<Option<u64>, RuleStop> {
 
 /// An array, with its bound where it has one (C11 6.7.6.2). `Incomplete` and `FunctionType` where its elements have such a type, `ArraySize` for a
 /// bound below 1, whose place is the bound's, and the limit on objects.
-pub fn array(of: QualType, bound: Option<i128>, t: &mut Types) -> Result<QualType, RuleStop> {
+pub fn array(of: QualType, bound: Option<i128>, t: &mut Types) -> Result<QualType, RuleStop>
+    ensures { IfErr result (IsRefusal of_array) }
+{
     if is_function(t, of.of) {
         return Err(bad(Code::FunctionType));
     }
@@ -162,7 +188,9 @@ pub enum Prototype {
 }
 
 /// The types of parameters, without their qualifiers.
-fn parameter_types(alloc: Global, params: &[QualType]) -> Result<Vec<TypeId>, RuleStop> {
+fn parameter_types(alloc: Global, params: &[QualType]) -> Result<Vec<TypeId>, RuleStop>
+    ensures { (faults : Fault → Bool) → IfErr result (IsRefusal faults) }
+{
     let mut types = Vec::new(alloc);
     for p in params {
         types.push(p.of)?;
@@ -178,7 +206,9 @@ pub fn function(
     params: &[QualType],
     prototype: Prototype,
     t: &mut Types,
-) -> Result<QualType, RuleStop> {
+) -> Result<QualType, RuleStop>
+    ensures { IfErr result (IsRefusal of_function) }
+{
     if is_unreturnable(t, ret.of) {
         return Err(bad(Code::FunctionType));
     }
@@ -191,11 +221,13 @@ pub fn function(
 
 /// The type of a parameter that is declared with a type: a pointer for an array, with the qualifiers between its brackets, and for a function
 /// (C11 6.7.6.3p7, p8). `Incomplete` for void.
-pub fn parameter(ty: QualType, q: Quals, t: &mut Types) -> Result<QualType, RuleStop> {
+pub fn parameter(ty: QualType, q: Quals, t: &mut Types) -> Result<QualType, RuleStop>
+    ensures { (faults : Fault → Bool) → faults (Constraint Incomplete) ≡ true → faults (Limit ObjectSize) ≡ true → IfErr result (IsRefusal faults) }
+{
     match t.class(ty.of) {
         Class::Void => Err(bad(Code::Incomplete)),
-        Class::Array(element, _) => pointer(element, q, t),
-        Class::Func { .. } => pointer(plain(ty.of), PLAIN, t),
+        Class::Array(element, _) => pointed(element, q, t),
+        Class::Func { .. } => pointed(plain(ty.of), PLAIN, t),
         Class::Int(_) | Class::Ptr(_) | Class::Agg(..) => Ok(ty),
     }
 }

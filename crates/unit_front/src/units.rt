@@ -1,3 +1,7 @@
+ghost use Rattle.c_lexer.specs.Lexed.{IfRefused};
+ghost use Rattle.cast_insert.specs.Refusals.{IfRefusal, IsCheckedRefusal};
+ghost use Rattle.unit_front.specs.Refusals.{IsFrontRefusal};
+
 use c_lexer::{Tokens, lex};
 use c_parser::parse;
 use c_tree::Unit;
@@ -12,6 +16,9 @@ const UNIT_BYTES: usize = 4_194_304;
 
 /// The CIL program that a translation unit becomes, with what linking it with others asks for; or its first fault. The unit has that
 /// number and file.
+///
+/// It is refused for a limit on its bytes, then as `lex`, `parse` and `check_unit` say.
+#[tactic(auto, using(crate::proofs::Places::of_tokens, crate::proofs::Places::unit_of_tokens))]
 pub fn front(
     alloc: Global,
     bytes: &[u8],
@@ -19,7 +26,9 @@ pub fn front(
     file: NameId,
     names: &mut NamePool,
     abi: Abi,
-) -> Result<Fronted, Stop> {
+) -> Result<Fronted, Stop>
+    ensures refused { IfRefused result (IsFrontRefusal unit) }
+{
     if file.0 >= names.len() {
         return Err(Stop::Memory);
     }
@@ -27,8 +36,21 @@ pub fn front(
         return Err(too_large(unit, file));
     }
     let tokens = lex(alloc, bytes, unit, file, names)?;
-    let tree = parse(alloc, &tokens)?;
-    parsed_front(alloc, &tree, &tokens, names, abi)
+    tokens_front(alloc, &tokens, names, abi)
+}
+
+/// The CIL program that a translation unit of these tokens becomes.
+#[tactic(auto, using(crate::proofs::Places::of_grammar, crate::proofs::Places::of_check))]
+fn tokens_front(
+    alloc: Global,
+    tokens: &Tokens<'_>,
+    names: &mut NamePool,
+    abi: Abi,
+) -> Result<Fronted, Stop>
+    ensures refused { IfRefused result (IsFrontRefusal tokens.now.unit) }
+{
+    let tree = parse(alloc, tokens)?;
+    parsed_front(alloc, &tree, tokens, names, abi)
 }
 
 /// The CIL program that a translation unit of these tokens becomes, with what linking it with others asks for; or its first fault.
@@ -38,14 +60,18 @@ pub fn parsed_front(
     tokens: &Tokens<'_>,
     names: &mut NamePool,
     abi: Abi,
-) -> Result<Fronted, Stop> {
+) -> Result<Fronted, Stop>
+    ensures refused { IfRefused result (IsCheckedRefusal tokens.now) }
+{
     let typed = check_unit(alloc, tree, tokens, names, abi)?;
     let bases = names.bases()?;
     Ok(lower_unit(alloc, &typed, bases)?)
 }
 
 /// The refusal of a unit that has too many bytes.
-fn too_large(unit: UnitNo, file: NameId) -> Stop {
+fn too_large(unit: UnitNo, file: NameId) -> Stop
+    ensures { IfRefusal result (IsFrontRefusal unit) }
+{
     Stop::Refused(Refusal {
         fault: Fault::Limit(What::UnitBytes),
         at: Place {
