@@ -1,3 +1,4 @@
+use c_places::init_at;
 use c_tree::{Declaration, Init, InitDeclarator, Specifier};
 use cast_exprs::{derivations, initialiser, specifiers, static_assert};
 use cil_base::{EntityId, LocalId};
@@ -7,7 +8,7 @@ use decl_types::{
 use init_parts::{Filled, Storage};
 use type_graph::QualType;
 use typed_parts::{
-    DeclaredName, Places, Role, WalkStop, Walker, built, declare, impossible, init_at, named,
+    DeclaredName, Places, Role, WalkStop, Walker, built, declare, impossible, named,
     placed, specifiers_at,
 };
 use typed_tree::{Definition, TypedStmt};
@@ -132,9 +133,9 @@ fn local(
     match init {
         Some(x) => {
             let filled = initialised(w, n, Storage::Automatic, ty, x)?;
-            out.push(TypedStmt::Declare(l, Some(filled.init)))?;
+            out.push(typed_tree::declaration(l, Some(filled.init)))?;
         }
-        None => out.push(TypedStmt::Declare(l, None))?,
+        None => out.push(typed_tree::declaration(l, None))?,
     }
     Ok(())
 }

@@ -10,7 +10,7 @@ use typed_parts::{
     DeclaredName, Derivation, OwnList, Places, Role, WalkStop, Walker, Within, built, declare,
     impossible, named, own_list, placed, specifiers_at,
 };
-use typed_tree::{Definition, TypedFunction, TypedStmt};
+use typed_tree::{Definition, FunctionLists, TypedFunction, TypedStmt, function_body};
 use unit_types::Class;
 
 /// Whether each parameter of a list has a name.
@@ -136,13 +136,13 @@ fn own_parameters(d: &FunctionDefinition) -> &[Parameter] {
 fn function_of(w: &mut Walker, f: Body, body: Vec<TypedStmt>) -> TypedFunction {
     let declared = w.declarer.end_function();
     let literals = mem::replace(&mut w.literals, Vec::new(w.alloc));
-    TypedFunction {
+    let lists = FunctionLists {
         params: declared.params,
         locals: declared.locals,
         literals,
         labels: f.labels.names,
-        body,
-    }
+    };
+    function_body(lists, body)
 }
 
 /// A function definition (C11 6.9.1): its parameters and the outermost block of its body are one scope (6.2.1p4).

@@ -1,15 +1,19 @@
 use crate::body::{Around, Body, may_break, may_continue};
 use crate::declarations::declaration;
 use crate::labels::not_reserved;
+use c_places::expr_at;
 use c_tree::{BlockItem, Expr, ForStart, Stmt};
 use cast_exprs::expr;
 use cast_rules::{Operand, scalar_test, switch_value, value};
 use cil_base::{Code, IntKind};
 use decl_types::Position;
 use typed_parts::{
-    WalkStop, Walker, constant_value, convert, expr_at, impossible, placed, violated,
+    WalkStop, Walker, constant_value, convert, impossible, placed, violated,
 };
-use typed_tree::{TypedExp, TypedStmt};
+use typed_tree::{
+    TypedExp, TypedStmt, break_jump, case_label, continue_jump, default_label, do_loop, evaluation,
+    for_loop, goto, return_jump, switch, while_loop,
+};
 use unit_types::Class;
 
 /// The value of an expression whose value is not used, or a void expression (C11 6.8.3p2).
@@ -114,7 +118,7 @@ fn start_of(w: &mut Walker, s: &ForStart) -> Result<Vec<TypedStmt>, WalkStop> {
         ForStart::Expr(None) => {}
         ForStart::Expr(Some(e)) => {
             let x = discarded(w, e)?;
-            out.push(TypedStmt::Expr(x))?;
+            out.push(evaluation(x))?;
         }
         ForStart::Declaration(d) => declaration(w, Position::ForStart, d, &mut out)?,
     }
@@ -215,13 +219,13 @@ fn statement(
         }
         Stmt::Compound(_, list) => {
             let block = compound(w, f, around, list)?;
-            out.push(TypedStmt::Block(block))?;
+            out.push(typed_tree::compound(block))?;
             Ok(())
         }
         Stmt::Expr(_, None) => Ok(()),
         Stmt::Expr(_, Some(e)) => {
             let x = discarded(w, e)?;
-            out.push(TypedStmt::Expr(x))?;
+            out.push(evaluation(x))?;
             Ok(())
         }
         Stmt::If(..) | Stmt::IfElse(..) | Stmt::Switch(..) => selection(w, f, around, s, out),
@@ -238,17 +242,17 @@ fn label(w: &mut Walker, f: &mut Body, s: &Stmt, out: &mut Vec<TypedStmt>) -> Re
         Stmt::Labelled(at, n, _) => {
             let set = f.labels.set(*at, *n)?;
             not_reserved(w, *at, *n)?;
-            out.push(TypedStmt::Label(set))?;
+            out.push(typed_tree::label(set))?;
             Ok(())
         }
         Stmt::Case(at, e, _) => {
             let (kind, v) = case_of(w, f, *at, e)?;
-            out.push(TypedStmt::Case(kind, v))?;
+            out.push(case_label(kind, v))?;
             Ok(())
         }
         Stmt::Default(at, _) => {
             f.fall_back(*at)?;
-            out.push(TypedStmt::Default)?;
+            out.push(default_label())?;
             Ok(())
         }
         _ => Err(impossible()),
@@ -269,20 +273,20 @@ fn selection(
         Stmt::If(_, e, yes) => {
             let x = test(w, e)?;
             let yes = substatement(w, f, around, yes)?;
-            out.push(TypedStmt::If(x, yes, Vec::new(w.alloc)))?;
+            out.push(typed_tree::selection(x, yes, Vec::new(w.alloc)))?;
         }
         Stmt::IfElse(_, e, yes, no) => {
             let x = test(w, e)?;
             let yes = substatement(w, f, around, yes)?;
             let no = substatement(w, f, around, no)?;
-            out.push(TypedStmt::If(x, yes, no))?;
+            out.push(typed_tree::selection(x, yes, no))?;
         }
         Stmt::Switch(_, e, inner) => {
             let x = switched(w, e)?;
             f.begin_switch(w.alloc, kind_of(w, &x)?)?;
             let inner = substatement(w, f, around.switched(), inner)?;
             f.end_switch();
-            out.push(TypedStmt::Switch(x, inner))?;
+            out.push(switch(x, inner))?;
         }
         _ => return Err(impossible()),
     }
@@ -303,18 +307,18 @@ fn iteration(
         Stmt::While(_, e, inner) => {
             let x = test(w, e)?;
             let inner = substatement(w, f, Around::Loop, inner)?;
-            out.push(TypedStmt::While(x, inner))?;
+            out.push(while_loop(x, inner))?;
         }
         Stmt::Do(_, inner, e) => {
             let inner = substatement(w, f, Around::Loop, inner)?;
             let x = test(w, e)?;
-            out.push(TypedStmt::Do(inner, x))?;
+            out.push(do_loop(inner, x))?;
         }
         Stmt::For(_, s, condition, step, inner) => {
             let start = start_of(w, s)?;
             let c = controls_of(w, condition, step)?;
             let inner = substatement(w, f, Around::Loop, inner)?;
-            out.push(TypedStmt::For(start, c.condition, c.step, inner))?;
+            out.push(for_loop(start, c.condition, c.step, inner))?;
         }
         _ => return Err(impossible()),
     }
@@ -333,19 +337,19 @@ fn jump(
     match s {
         Stmt::Goto(at, n) => {
             let to = f.labels.jump(*at, *n)?;
-            out.push(TypedStmt::Goto(to))?;
+            out.push(goto(to))?;
         }
         Stmt::Continue(at) => {
             may_continue(*at, around)?;
-            out.push(TypedStmt::Continue)?;
+            out.push(continue_jump())?;
         }
         Stmt::Break(at) => {
             may_break(*at, around)?;
-            out.push(TypedStmt::Break)?;
+            out.push(break_jump())?;
         }
         Stmt::Return(at, e) => {
             let x = returned(w, f, *at, e)?;
-            out.push(TypedStmt::Return(x))?;
+            out.push(return_jump(x))?;
         }
         _ => return Err(impossible()),
     }

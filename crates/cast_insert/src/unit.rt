@@ -9,7 +9,9 @@ use cil_base::{Code, Memory, Place};
 use decl_types::{Declarations, DeclaredEntity, LateFault};
 use std::alloc::Global;
 use typed_parts::{Site, WalkStop, Walker, impossible, violated};
-use typed_tree::{Entity, Ordinary, TypedUnit};
+use typed_tree::{
+    Entity, EntityHead, EntityPlaces, Ordinary, TypedUnit, entity_declared, translation_unit,
+};
 use unit_types::Types;
 
 /// An external declaration (C11 6.9).
@@ -82,15 +84,8 @@ pub(crate) fn place_of<L: TokenList>(t: &L, at: u32) -> Option<Place>
     }
 }
 
-/// Places of an entity. One that the unit does not name stands at its end.
-#[derive(Clone, Copy)]
-struct Places {
-    first: Place,
-    defined: Option<Place>,
-}
-
-/// The places of an entity.
-fn places_of<L: TokenList>(t: &L, site: &Site) -> Result<Places, Memory> {
+/// The places of an entity. One that the unit does not name stands at its end.
+fn places_of<L: TokenList>(t: &L, site: &Site) -> Result<EntityPlaces, Memory> {
     let first = match site.first {
         Some(at) => at,
         None => t.count(),
@@ -99,7 +94,7 @@ fn places_of<L: TokenList>(t: &L, site: &Site) -> Result<Places, Memory> {
         Some(at) => Some(place_of(t, at).ok_or(Memory)?),
         None => None,
     };
-    Ok(Places {
+    Ok(EntityPlaces {
         first: place_of(t, first).ok_or(Memory)?,
         defined,
     })
@@ -113,17 +108,15 @@ fn entity_of<L: TokenList>(
     site: Site,
 ) -> Result<Entity, Memory> {
     let places = places_of(t, &site)?;
-    Ok(Entity {
+    let head = EntityHead {
         name: e.name,
         ty: e.ty.of,
         constant: site.constant,
         kind: e.kind,
-        first: places.first,
-        defined: places.defined,
         bare: e.bare,
         kept: site.first.is_some() && !e.is_dropped(types),
-        definition: site.definition,
-    })
+    };
+    Ok(entity_declared(head, places, site.definition))
 }
 
 /// The objects and functions of a unit, by their numbers.
@@ -177,9 +170,5 @@ pub(crate) fn unit_of<L: TokenList>(t: &L, w: Walker) -> Result<TypedUnit, Memor
     let types = w.types;
     let entities = entities_of(alloc, t, &types, &entities, w.sites)?;
     let ordinary = ordinary_of(alloc, &entities, &ordinary)?;
-    Ok(TypedUnit {
-        types,
-        entities,
-        ordinary,
-    })
+    Ok(translation_unit(types, entities, ordinary))
 }

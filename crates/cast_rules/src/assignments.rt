@@ -95,17 +95,6 @@ fn is_no_lvalue(e: &TypedExp, t: &Types) -> bool {
     }
 }
 
-/// Whether an lvalue is not modifiable (C11 6.3.2.1p1).
-fn is_fixed(e: &TypedExp, t: &Types) -> bool {
-    let ty = e.ty();
-    ty.quals.constant
-        || match t.class(ty.of) {
-            Class::Array(..) => true,
-            Class::Agg(_, a) => !t.is_complete(ty.of) || t.has_constant_member(a),
-            Class::Void | Class::Int(_) | Class::Ptr(_) | Class::Func { .. } => false,
-        }
-}
-
 /// Whether the operands of a compound assignment meet its constraint (C11 6.5.16.2p1, p2).
 fn are_compound_operands(op: BinOp, pairing: Pairing, t: &Types) -> bool {
     match pairing {
@@ -123,7 +112,7 @@ fn fault_simple(place: &Operand, value: &Operand, t: &Types) -> Option<Code>
         Some(Code::Incomplete)
     } else if is_no_lvalue(&place.exp, t) {
         Some(Code::NotLvalue)
-    } else if is_fixed(&place.exp, t) {
+    } else if !t.is_modifiable(place.exp.ty()) {
         Some(Code::NotModifiable)
     } else if !assignable(place.exp.ty().of, value, t) {
         Some(Code::Assignment)
@@ -141,7 +130,7 @@ fn fault_compound(op: BinOp, place: &Operand, value: &Operand, t: &Types) -> Opt
         Some(Code::Incomplete)
     } else if is_no_lvalue(&place.exp, t) {
         Some(Code::NotLvalue)
-    } else if is_fixed(&place.exp, t) {
+    } else if !t.is_modifiable(place.exp.ty()) {
         Some(Code::NotModifiable)
     } else if !are_compound_operands(op, pairing, t) {
         Some(Code::Operand)
@@ -290,7 +279,7 @@ fn fault_step(place: &Operand, t: &Types) -> Option<Code>
         Some(Code::Incomplete)
     } else if is_no_lvalue(&place.exp, t) {
         Some(Code::NotLvalue)
-    } else if is_fixed(&place.exp, t) {
+    } else if !t.is_modifiable(place.exp.ty()) {
         Some(Code::NotModifiable)
     } else if is_no_step(s, t) {
         Some(Code::Operand)

@@ -2,7 +2,7 @@ ghost use Rattle.std.specs.Prelude.{◌≡◌, true, IfSome, IfErr};
 ghost use Rattle.cast_rules.specs.Refusals.{IsRefusal, of_cast, of_value};
 
 use crate::operands::{
-    Operand, Sort, arithmetic_kind, is_scalar, is_unreadable, operand_sort, sort_of, unqualified,
+    Operand, Sort, arithmetic_kind, is_scalar, is_unreadable, operand_sort, sort_of,
 };
 use crate::pairings::is_void;
 use crate::stops::{allowed, impossible, made};
@@ -11,7 +11,7 @@ use layout_lp64::LayoutStop;
 use std::alloc::Global;
 use type_graph::QualType;
 use typed_tree::TypedExp;
-use unit_types::{Class, Types};
+use unit_types::{Class, Types, unqualified};
 
 /// Two values, in the order of the text.
 #[derive(Drop)]

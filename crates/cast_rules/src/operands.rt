@@ -1,7 +1,7 @@
 use cil_base::{AggId, IntKind, TypeId};
-use type_graph::{AggKind, QualType, Quals};
+use type_graph::{AggKind, QualType};
 use typed_tree::TypedExp;
-use unit_types::{Class, Types};
+use unit_types::{Class, Types, unqualified};
 
 /// An operand as it is written, before the conversions of C11 6.3.2.1: it may be an lvalue, an array or a function.
 #[derive(Drop)]
@@ -43,25 +43,6 @@ pub(crate) enum Pointee {
     /// An object type that is not complete, `void` among them (C11 6.2.5p1, p19).
     Incomplete,
     Function,
-}
-
-/// A type without qualifiers.
-pub(crate) fn unqualified(of: TypeId) -> QualType {
-    QualType {
-        quals: Quals {
-            constant: false,
-            restricted: false,
-        },
-        of,
-    }
-}
-
-/// The qualifiers of both (C11 6.7.3p5).
-pub(crate) fn joined(p: Quals, q: Quals) -> Quals {
-    Quals {
-        constant: p.constant || q.constant,
-        restricted: p.restricted || q.restricted,
-    }
 }
 
 /// What the value of an operand of a type is.

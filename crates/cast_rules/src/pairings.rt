@@ -1,8 +1,8 @@
-use crate::operands::{Operand, Sort, arithmetic_kind, is_object, joined, operand_sort};
+use crate::operands::{Operand, Sort, arithmetic_kind, is_object, operand_sort};
 use cil_base::{IntKind, TypeId};
 use layout_lp64::LayoutStop;
 use type_graph::{QualType, Quals};
-use unit_types::{Class, Types};
+use unit_types::{Class, Types, joined};
 
 /// What two operands are together.
 #[derive(Clone, Copy)]

@@ -4,7 +4,7 @@ ghost use Rattle.cast_rules.specs.Refusals.{IsRefusal, none, of_address, of_oper
 use crate::arithmetic::indexed;
 use crate::conversions::{Pair, both_values, value_of};
 use crate::operands::{
-    Operand, Sort, is_incomplete, is_object, is_unreadable, joined, operand_sort, unqualified,
+    Operand, Sort, is_incomplete, is_object, is_unreadable, operand_sort,
 };
 use crate::pairings::{Pairing, paired};
 use crate::stops::{allowed, impossible, made};
@@ -13,7 +13,7 @@ use layout_lp64::LayoutStop;
 use std::alloc::Global;
 use type_graph::{Member, QualType};
 use typed_tree::TypedExp;
-use unit_types::{Class, Types};
+use unit_types::{Class, Types, joined, unqualified};
 
 /// The first constraint that the address of an operand violates, if there is one (C11 6.5.3.2p1).
 fn fault_address(e: &Operand) -> Option<Code>

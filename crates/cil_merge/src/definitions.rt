@@ -1,49 +1,8 @@
-use crate::expressions::Mapping;
 use crate::numbers::impossible;
-use crate::statements::map_stmts;
-use cil_base::{Constant, Memory};
-use cil_tree::{Body, GlobalDecl, GlobalDef, ImageItem, Local};
+use cil_base::Memory;
+use cil_bodies::{Mapping, map_definition};
+use cil_tree::{GlobalDecl, GlobalDef};
 use std::alloc::Global;
-
-/// Maps the types of locals.
-fn map_locals(locals: &mut Vec<Local>, m: &Mapping<'_>) -> Result<(), Memory> {
-    for i in 0..locals.len() {
-        locals[i].ty = m.ty(locals[i].ty)?;
-    }
-    Ok(())
-}
-
-/// Maps a body.
-fn map_body(alloc: Global, body: &mut Body, m: &Mapping<'_>) -> Result<(), Memory> {
-    map_locals(&mut body.locals, m)?;
-    map_stmts(alloc, &mut body.stmts, m)
-}
-
-/// Maps a constant.
-fn mapped_constant(value: Constant, m: &Mapping<'_>) -> Result<Constant, Memory> {
-    match value {
-        Constant::Int(kind, n) => Ok(Constant::Int(kind, n)),
-        Constant::Address(e, offset) => Ok(Constant::Address(m.entity(e)?.entity, offset)),
-        Constant::Function(e) => Ok(Constant::Function(m.entity(e)?.entity)),
-    }
-}
-
-/// Maps the scalars of an initialised object.
-fn map_image(items: &mut Vec<ImageItem>, m: &Mapping<'_>) -> Result<(), Memory> {
-    for i in 0..items.len() {
-        items[i].value = mapped_constant(items[i].value, m)?;
-    }
-    Ok(())
-}
-
-/// Maps a definition.
-fn map_definition(alloc: Global, def: &mut GlobalDef, m: &Mapping<'_>) -> Result<(), Memory> {
-    match def {
-        GlobalDef::Declared | GlobalDef::Zero => Ok(()),
-        GlobalDef::Image(items) => map_image(items, m),
-        GlobalDef::Body(body) => map_body(alloc, body, m),
-    }
-}
 
 /// Whether a definition takes the place of another: whatever defines that of a declaration, and a value or a body that of zeroes
 /// (C11 6.9.2, J.5.11).

@@ -1,20 +1,12 @@
 use crate::arena::Arena;
 use crate::numbers::{entity_number, impossible, type_in};
 use cil_base::{EntityId, Memory, NameId, TypeId};
+use cil_bodies::Use;
 use cil_tree::{CilUnit, GlobalDecl, GlobalDef};
 use indexmap::IndexMap;
 use link_names::Fronted;
 use std::alloc::Global;
 use type_graph::{Node, QualType, Quals, TypeGraph};
-
-/// How a unit's object or function is used in the program.
-#[derive(Clone, Copy)]
-pub(crate) struct Use {
-    /// What it is there.
-    pub(crate) entity: EntityId,
-    /// The pointer to the type that it has in the unit, where that is not the one with which it is printed.
-    pub(crate) through: Option<TypeId>,
-}
 
 /// The globals of a program while they are numbered: external ones by their names.
 #[derive(Drop)]

@@ -10,10 +10,8 @@
 
 mod arena;
 mod definitions;
-mod expressions;
 mod globals;
 mod merging;
 mod numbers;
-mod statements;
 
 pub use merging::merge;

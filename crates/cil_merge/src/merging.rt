@@ -1,9 +1,9 @@
 use crate::arena::{Arena, arena_of};
 use crate::definitions::give_definitions;
-use crate::expressions::Mapping;
 use crate::globals::{all_globals, uses_of};
 use crate::numbers::impossible;
 use cil_base::{EntityId, Fault, Memory, Mode, NamePool, Place, Refusal, Stop, TypeId};
+use cil_bodies::Mapping;
 use cil_tree::{CilUnit, GlobalDecl};
 use link_names::{Fronted, Links, links};
 use static_rename::rename;

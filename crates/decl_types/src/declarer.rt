@@ -8,14 +8,14 @@ use crate::declared::{Declared, Declaring, Linkage, Tag};
 use crate::entities::{Declarations, DeclaredEntity, Defined, Entities};
 use crate::numbers::{FunctionLocals, Numbers};
 use crate::stops::{impossible, laid};
-use crate::types::{PLAIN, Prototype, function, int, plain, pointer};
+use crate::types::{Prototype, function, int, pointer};
 use cil_base::{AggId, EntityId, LocalId, Memory, NameId, NamePool, RuleStop};
 use indexmap::IndexSet;
 use name_scopes::Scopes;
 use std::alloc::Global;
 use type_graph::{QualType, Quals};
 use typed_tree::{EntityKind, Ordinary, TypedLocal};
-use unit_types::Types;
+use unit_types::{PLAIN, Types, unqualified};
 
 /// What a unit has declared so far (C11 6.2.1 to 6.2.3, 6.7). After an error of a call it is only dropped.
 #[derive(Drop)]
@@ -55,11 +55,11 @@ fn builtin_names(alloc: Global, names: &NamePool) -> Result<IndexSet<NameId>, Me
 /// The type `void * ( void * , int , unsigned long )`.
 fn memset_type(alloc: Global, t: &mut Types) -> Result<QualType, RuleStop> {
     let void = laid(t.void())?;
-    let address = pointer(plain(void), PLAIN, t)?;
+    let address = pointer(unqualified(void), PLAIN, t)?;
     let int = int(t)?;
     let kind = t.graph().abi().ulong();
     let size = laid(t.int(kind))?;
-    let params = [address, int, plain(size)];
+    let params = [address, int, unqualified(size)];
     function(alloc, address, &params, Prototype::Fixed, t)
 }
 

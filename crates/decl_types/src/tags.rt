@@ -7,12 +7,12 @@ use crate::declared::{Behind, Declared, Declaring, Linkage, MemberAt, Tag, TagBo
 use crate::declarer::Declarer;
 use crate::spelled::{Meaning, Named, spelled_by};
 use crate::stops::{bad, laid, never};
-use crate::types::{PLAIN, int, plain, qualified};
+use crate::types::{int, qualified};
 use c_tree::Specifier;
 use cil_base::{AggId, Code, IntKind, NameId, NamePool, RuleStop, TypeId};
 use type_graph::{AggKind, Member, QualType, Quals};
 use typed_tree::Ordinary;
-use unit_types::Types;
+use unit_types::{Types, unqualified};
 
 /// The type that keywords name.
 fn basic_type(meaning: BasicMeaning, t: &mut Types) -> Result<QualType, RuleStop>
@@ -22,7 +22,7 @@ fn basic_type(meaning: BasicMeaning, t: &mut Types) -> Result<QualType, RuleStop
         BasicMeaning::Void => t.void(),
         BasicMeaning::Int(kind) => t.int(kind),
     };
-    Ok(plain(laid(of)?))
+    Ok(unqualified(laid(of)?))
 }
 
 /// Whether specifiers are a struct or union with its tag alone, in front of a semicolon (C11 6.7.2.3p7).
@@ -125,7 +125,7 @@ impl Declarer {
         };
         let a = self.tagged(kind, n, visible, t)?;
         let of = laid(t.aggregate(a))?;
-        Ok(plain(of))
+        Ok(unqualified(of))
     }
 
     /// The type of specifiers without a body (C11 6.7.2, 6.7.3).

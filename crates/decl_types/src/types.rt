@@ -9,26 +9,7 @@ use crate::stops::{bad, laid, past};
 use cil_base::{Code, IntKind, RuleStop, TypeId, What};
 use std::alloc::Global;
 use type_graph::{QualType, Quals};
-use unit_types::{Class, Types};
-
-/// No qualifiers.
-pub(crate) const PLAIN: Quals = Quals {
-    constant: false,
-    restricted: false,
-};
-
-/// A type without qualifiers.
-pub(crate) fn plain(of: TypeId) -> QualType {
-    QualType { quals: PLAIN, of }
-}
-
-/// Both qualifiers (C11 6.7.3p5).
-fn joined(p: Quals, q: Quals) -> Quals {
-    Quals {
-        constant: p.constant || q.constant,
-        restricted: p.restricted || q.restricted,
-    }
-}
+use unit_types::{Class, PLAIN, Types, joined, unqualified};
 
 /// Whether a type is a function type.
 pub(crate) fn is_function(t: &Types, ty: TypeId) -> bool {
@@ -104,7 +85,7 @@ pub(crate) fn int(t: &mut Types) -> Result<QualType, RuleStop>
     ensures { (faults : Fault → Bool) → faults (Limit ObjectSize) ≡ true → IfErr result (IsRefusal faults) }
 {
     let of = laid(t.int(IntKind::Int))?;
-    Ok(plain(of))
+    Ok(unqualified(of))
 }
 
 /// The composite of two types, the first of which was declared earlier (C11 6.2.7p3).
@@ -168,7 +149,7 @@ pub fn array(of: QualType, bound: Option<i128>, t: &mut Types) -> Result<QualTyp
     }
     let bound = checked_bound(bound)?;
     let array = laid(t.array(of, bound))?;
-    Ok(plain(array))
+    Ok(unqualified(array))
 }
 
 /// Whether a function may not return a type (C11 6.7.6.3p1).
@@ -216,7 +197,7 @@ pub fn function(
     let proto = prototype != Prototype::Absent;
     let variadic = prototype == Prototype::Variadic;
     let of = laid(t.function(ret.of, types, proto, variadic))?;
-    Ok(plain(of))
+    Ok(unqualified(of))
 }
 
 /// The type of a parameter that is declared with a type: a pointer for an array, with the qualifiers between its brackets, and for a function
@@ -227,7 +208,7 @@ pub fn parameter(ty: QualType, q: Quals, t: &mut Types) -> Result<QualType, Rule
     match t.class(ty.of) {
         Class::Void => Err(bad(Code::Incomplete)),
         Class::Array(element, _) => pointed(element, q, t),
-        Class::Func { .. } => pointed(plain(ty.of), PLAIN, t),
+        Class::Func { .. } => pointed(unqualified(ty.of), PLAIN, t),
         Class::Int(_) | Class::Ptr(_) | Class::Agg(..) => Ok(ty),
     }
 }

@@ -4,7 +4,7 @@ use indexmap::IndexMap;
 use std::alloc::Global;
 use type_graph::{AggKind, QualType};
 use typed_parts::{WalkStop, Walker, impossible, violated};
-use typed_tree::{InitStep, Path, Step, TypedExp, TypedInit};
+use typed_tree::{InitStep, Path, Step, TypedExp, TypedInit, initialiser, zeroed_part};
 use unit_types::{Class, Types};
 
 /// The storage duration of an object that is initialised (C11 6.2.4): that with static duration is given constants (6.7.9p4).
@@ -67,7 +67,7 @@ impl Filling {
             return Err(WalkStop::At(at, Fault::Limit(What::Scalars)));
         }
         Ok(Filled {
-            init: TypedInit { steps: self.steps },
+            init: initialiser(self.steps),
             reached: self.reached,
         })
     }
@@ -120,7 +120,7 @@ impl Filling {
 
     /// Each byte of an object becomes zero.
     pub fn zero(&mut self, path: Path) -> Result<(), WalkStop> {
-        self.add(InitStep::Zero(path))
+        self.add(zeroed_part(path))
     }
 }
 

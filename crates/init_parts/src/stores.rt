@@ -3,6 +3,7 @@ use crate::filling::{
     not_flexible, settle, wanted_by,
 };
 use crate::levels::{Composite, Levels, composite_of, has_element};
+use c_places::{expr_at, item_at};
 use c_tree::{Expr, Init, InitItem};
 use cil_base::{Bytes, Code, NameId};
 use const_eval::eval;
@@ -10,11 +11,14 @@ use decl_types::{MemberPath, is_constant};
 use smallvec::SmallVec;
 use type_graph::{AggKind, QualType};
 use typed_parts::{
-    Evaluation, WalkStop, Walker, Within, bytes_of, convert, expr_at, impossible, item_at, placed,
-    plain, sized, string_of, unevaluated_place, violated,
+    Evaluation, WalkStop, Walker, Within, bytes_of, convert, impossible, placed,
+    sized, string_of, unevaluated_place, violated,
 };
-use typed_tree::{Definition, InitStep, Path, Step, TypedExp, TypedLiteral};
-use unit_types::{Class, Types};
+use typed_tree::{
+    Definition, Path, Step, TypedExp, TypedLiteral, aggregate_part, constant_part, scalar_part,
+    string_part,
+};
+use unit_types::{Class, Types, unqualified};
 
 /// Where an item stands: the way to its part, behind the path to the object of its brace list, and the item's first token.
 #[derive(Clone, Copy)]
@@ -50,14 +54,14 @@ fn put(
     filling.counted(1)?;
     match filling.storage {
         Storage::Static => match eval(&value, &w.types) {
-            Some(c) => filling.add(InitStep::Constant(path, c)),
+            Some(c) => filling.add(constant_part(path, c)),
             None => Err(violated(at, Code::NotConstant)),
         },
         Storage::Automatic => {
             if is_record(&w.types, ty) {
-                filling.add(InitStep::Aggregate(path, value))
+                filling.add(aggregate_part(path, value))
             } else {
-                filling.add(InitStep::Scalar(path, value))
+                filling.add(scalar_part(path, value))
             }
         }
     }
@@ -129,7 +133,7 @@ pub fn put_string(
     let whole = SmallVec::from_slice(w.alloc, path.as_slice())?;
     filling.zero(whole)?;
     let whole = SmallVec::from_slice(w.alloc, path.as_slice())?;
-    filling.add(InitStep::Bytes(whole, Bytes::new(bytes)))
+    filling.add(string_part(whole, Bytes::new(bytes)))
 }
 
 /// Gives an array of characters string literals as they are written.
@@ -366,7 +370,7 @@ fn completed(w: &mut Walker, at: u32, ty: QualType, reached: u64) -> Result<Qual
     match w.types.class(ty.of) {
         Class::Array(of, None) => {
             let array = sized(at, w.types.array(of, Some(reached)))?;
-            Ok(plain(array))
+            Ok(unqualified(array))
         }
         Class::Array(_, Some(_))
         | Class::Void

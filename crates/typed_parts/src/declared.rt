@@ -1,12 +1,12 @@
 use crate::derivations::{DeclaredName, Derivation, built, named};
 use crate::stops::{WalkStop, placed, violated};
 use crate::tokens::{specifiers_at, tag_at};
-use crate::walker::{PLAIN, Walker};
+use crate::walker::Walker;
 use c_tree::{MemberDeclaration, MemberDeclarator, Parameter, Qualifier, Specifier};
 use cil_base::{AggId, Code, Fault, NameId, RuleStop};
 use decl_types::{Behind, Declared, Form, Heading, MemberAt};
 use type_graph::{QualType, Quals};
-use unit_types::Class;
+use unit_types::{Class, PLAIN};
 
 /// The token of `restrict` among specifiers.
 fn restrict_at(ss: &[Specifier]) -> Option<u32> {

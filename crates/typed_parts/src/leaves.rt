@@ -1,10 +1,11 @@
 use crate::stops::{WalkStop, sized, violated};
-use crate::walker::{Evaluation, Walker, plain};
+use crate::walker::{Evaluation, Walker};
 use cil_base::{Bytes, Code, IntKind, NameId};
 use decl_types::Declaring;
 use literal_values::{character_value, integer_value, string_bytes};
 use type_graph::QualType;
-use typed_tree::{Definition, InitStep, Path, TypedExp, TypedInit};
+use typed_tree::{Definition, Path, TypedExp, initialiser, string_part};
+use unit_types::unqualified;
 
 /// An integer constant of a kind.
 fn constant(w: &mut Walker, at: u32, kind: IntKind, v: i128) -> Result<TypedExp, WalkStop> {
@@ -49,24 +50,22 @@ pub fn character(w: &mut Walker, at: u32, text: &[u8]) -> Result<TypedExp, WalkS
 
 /// The place of a literal in an operand that is not evaluated, of which only the type counts: no object stands for it.
 pub fn unevaluated_place(w: &mut Walker, ty: QualType) -> Result<TypedExp, WalkStop> {
-    let nothing = TypedInit {
-        steps: Vec::new(w.alloc),
-    };
+    let nothing = initialiser(Vec::new(w.alloc));
     Ok(typed_tree::literal(w.alloc, ty, 0, nothing)?)
 }
 
 /// The type of the array that a string has: an array of char (C11 6.4.5p6).
 fn string_type(w: &mut Walker, at: u32, len: usize) -> Result<QualType, WalkStop> {
     let char = sized(at, w.types.int(IntKind::Char))?;
-    let array = sized(at, w.types.array(plain(char), Some(len as u64)))?;
-    Ok(plain(array))
+    let array = sized(at, w.types.array(unqualified(char), Some(len as u64)))?;
+    Ok(unqualified(array))
 }
 
 /// The definition of the array of a string.
 fn string_definition(w: &Walker, bytes: Vec<u8>) -> Result<Definition, WalkStop> {
     let mut steps = Vec::new(w.alloc);
-    steps.push(InitStep::Bytes(Path::new(w.alloc), Bytes::new(bytes)))?;
-    Ok(Definition::Initialised(TypedInit { steps }))
+    steps.push(string_part(Path::new(w.alloc), Bytes::new(bytes)))?;
+    Ok(Definition::Initialised(initialiser(steps)))
 }
 
 /// The array of a string literal whose bytes are known (C11 6.4.5p6): each is an object of its own.

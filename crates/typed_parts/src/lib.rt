@@ -30,5 +30,5 @@ pub use operators::{
     postfix_form, prefix_form, size_of, step, subscript, unary,
 };
 pub use stops::{WalkStop, impossible, placed, sized, violated};
-pub use tokens::{designator_at, expr_at, init_at, item_at, specifiers_at, type_name_at};
-pub use walker::{Evaluation, PLAIN, Site, Walker, Within, plain};
+pub use tokens::{specifiers_at, type_name_at};
+pub use walker::{Evaluation, Site, Walker, Within};

@@ -1,7 +1,7 @@
 use crate::nulls::{beside, is_integer, is_null_beside, is_register, is_void_pointer};
 use crate::stops::{WalkStop, placed, violated};
-use crate::tokens::expr_at;
 use crate::walker::Walker;
+use c_places::expr_at;
 use c_tree::{Expr, LogicalOp, StepOp, UnaryOp};
 use cast_rules::Operand;
 use cil_base::{BinOp, Code, Fault, NameId, RuleStop, TypeId, UnOp};

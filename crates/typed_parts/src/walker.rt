@@ -1,9 +1,9 @@
 use crate::stops::{WalkStop, impossible};
-use cil_base::{EntityId, NamePool, TypeId};
+use cil_base::{EntityId, NamePool};
 use decl_types::Declarer;
 use indexmap::IndexSet;
 use std::alloc::Global;
-use type_graph::{QualType, Quals};
+use type_graph::QualType;
 use typed_tree::{Definition, TypedLiteral};
 use unit_types::Types;
 
@@ -48,17 +48,6 @@ pub struct Walker {
     pub evaluation: Evaluation,
     /// The first tokens of the casts from an integer type to `void *` (C11 6.3.2.3p3).
     pub void_casts: IndexSet<u32>,
-}
-
-/// No qualifiers.
-pub const PLAIN: Quals = Quals {
-    constant: false,
-    restricted: false,
-};
-
-/// A type without qualifiers.
-pub fn plain(of: TypeId) -> QualType {
-    QualType { quals: PLAIN, of }
 }
 
 impl Site {

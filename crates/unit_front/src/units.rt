@@ -1,6 +1,8 @@
+ghost use Rattle.std.specs.Prelude.{IfOk};
 ghost use Rattle.c_lexer.specs.Lexed.{IfRefused};
 ghost use Rattle.cast_insert.specs.Refusals.{IfRefusal, IsCheckedRefusal};
 ghost use Rattle.unit_front.specs.Refusals.{IsFrontRefusal};
+ghost use Rattle.unit_lower.specs.Externals.{HasExternals};
 
 use c_lexer::{Tokens, lex};
 use c_parser::parse;
@@ -28,6 +30,7 @@ pub fn front(
     abi: Abi,
 ) -> Result<Fronted, Stop>
     ensures refused { IfRefused result (IsFrontRefusal unit) }
+    ensures externals { IfOk result HasExternals }
 {
     if file.0 >= names.len() {
         return Err(Stop::Memory);
@@ -48,6 +51,7 @@ fn tokens_front(
     abi: Abi,
 ) -> Result<Fronted, Stop>
     ensures refused { IfRefused result (IsFrontRefusal tokens.now.unit) }
+    ensures externals { IfOk result HasExternals }
 {
     let tree = parse(alloc, tokens)?;
     parsed_front(alloc, &tree, tokens, names, abi)
@@ -62,6 +66,7 @@ pub fn parsed_front(
     abi: Abi,
 ) -> Result<Fronted, Stop>
     ensures refused { IfRefused result (IsCheckedRefusal tokens.now) }
+    ensures externals { IfOk result HasExternals }
 {
     let typed = check_unit(alloc, tree, tokens, names, abi)?;
     let bases = names.bases()?;

@@ -3,7 +3,6 @@ use cil_base::{EntityId, Memory, TypeId};
 use cil_tree::{GlobalDecl, GlobalDef};
 use expr_lower::FunctionOut;
 use init_expand::image;
-use link_names::Site;
 use std::alloc::Global;
 use stmt_lower::function;
 use typed_tree::{Definition, Entity, EntityKind, Ordinary};
@@ -86,39 +85,6 @@ pub(crate) fn globals(
         globals.push(global(f, types, entities, *n)?)?;
     }
     Ok(globals)
-}
-
-/// Whether all definitions of an object are tentative (C11 6.9.2p2).
-fn is_tentative(d: &Definition) -> bool {
-    match d {
-        Definition::Zero => true,
-        Definition::Declared | Definition::Initialised(_) | Definition::Body(_) => false,
-    }
-}
-
-/// The external names of the unit, in the order of the program's globals.
-pub(crate) fn sites(
-    alloc: Global,
-    entities: &[Entity],
-    ordered: &[EntityId],
-) -> Result<Vec<Site>, Memory> {
-    let mut sites = Vec::new(alloc);
-    for i in 0..ordered.len() {
-        let e = entity(entities, ordered[i])?;
-        if !is_internal(e.kind) {
-            if i >= u32::MAX as usize {
-                return Err(impossible());
-            }
-            sites.push(Site {
-                entity: EntityId(i as u32),
-                first: e.first,
-                defined: e.defined,
-                tentative: is_tentative(&e.definition),
-                bare: e.bare,
-            })?;
-        }
-    }
-    Ok(sites)
 }
 
 /// What no other unit sees at file scope, and the enumerators: those that the program has, in order.

@@ -1,17 +1,14 @@
 use super::*;
 use cil_base::{Abi, Bases, Memory, NameId};
 use std::test::Fail;
-use typed_tree::TypedUnit;
+use typed_tree::translation_unit;
 use unit_types::Types;
 
 #[test]
 fn an_empty_unit_is_an_empty_program(rt: HostRuntime) -> Result<(), Fail> {
     let alloc = rt.alloc();
-    let unit = TypedUnit {
-        types: Types::new(alloc, Abi::Lp64),
-        entities: Vec::new(alloc),
-        ordinary: Vec::new(alloc),
-    };
+    let types = Types::new(alloc, Abi::Lp64);
+    let unit = translation_unit(types, Vec::new(alloc), Vec::new(alloc));
     let bases = Bases {
         literal: NameId(0),
         tagless: NameId(1),

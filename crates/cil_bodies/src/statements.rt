@@ -1,4 +1,6 @@
-use crate::expressions::{Mapping, map_exp, map_place, pointer};
+use crate::expressions::{map_exp, map_place};
+use crate::mapping::Mapping;
+use crate::retyping::retyped_pointer;
 use cil_base::{EntityId, Memory};
 use cil_nodes::{direct, through};
 use cil_tree::{Callee, Exp, Instr, Lval, Stmt};
@@ -9,7 +11,7 @@ fn called(alloc: Global, e: EntityId, m: &Mapping<'_>) -> Result<Callee, Memory>
     let found = m.entity(e)?;
     match found.through {
         None => Ok(direct(found.entity)),
-        Some(to) => Ok(through(pointer(alloc, to, found.entity)?)),
+        Some(to) => Ok(through(retyped_pointer(alloc, to, found.entity)?)),
     }
 }
 
@@ -86,7 +88,7 @@ fn map_stmt(alloc: Global, s: &mut Stmt, m: &Mapping<'_>) -> Result<(), Memory> 
 
 /// Maps statements.
 #[cycle(statements)]
-pub(crate) fn map_stmts(alloc: Global, all: &mut Vec<Stmt>, m: &Mapping<'_>) -> Result<(), Memory> {
+pub fn map_stmts(alloc: Global, all: &mut Vec<Stmt>, m: &Mapping<'_>) -> Result<(), Memory> {
     for i in 0..all.len() {
         map_stmt(alloc, &mut all[i], m)?;
     }

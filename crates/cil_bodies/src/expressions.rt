@@ -1,44 +1,14 @@
-use crate::globals::Use;
-use crate::numbers::{impossible, type_in};
-use cil_base::{EntityId, Memory, TypeId};
-use cil_nodes::{address, at, boxed, cast, whole};
+use crate::mapping::{Mapping, Use};
+use crate::retyping::retyped;
+use cil_base::Memory;
 use cil_tree::{Exp, Host, Lval, Offset};
 use std::alloc::Global;
-
-/// What the numbers of a unit are in the program.
-#[derive(Clone, Copy)]
-pub(crate) struct Mapping<'a> {
-    pub(crate) types: &'a [TypeId],
-    pub(crate) uses: &'a [Use],
-}
-
-impl Mapping<'_> {
-    /// A type.
-    pub(crate) fn ty(&self, t: TypeId) -> Result<TypeId, Memory> {
-        type_in(self.types, t)
-    }
-
-    /// An object or function.
-    pub(crate) fn entity(&self, e: EntityId) -> Result<Use, Memory> {
-        match self.uses.get(e.0 as usize) {
-            Some(found) => Ok(*found),
-            None => Err(impossible()),
-        }
-    }
-}
-
-/// The address of an object or function as a pointer of a type.
-pub(crate) fn pointer(alloc: Global, to: TypeId, entity: EntityId) -> Result<Box<Exp>, Memory> {
-    let place = whole(alloc, Host::Global(entity));
-    let operand = boxed(alloc, address(place))?;
-    boxed(alloc, cast(to, operand))
-}
 
 /// An object or function as it is used.
 fn used(alloc: Global, found: Use) -> Result<Host, Memory> {
     match found.through {
         None => Ok(Host::Global(found.entity)),
-        Some(to) => Ok(at(pointer(alloc, to, found.entity)?)),
+        Some(to) => retyped(alloc, to, found.entity),
     }
 }
 
@@ -66,7 +36,7 @@ fn map_offset(alloc: Global, offset: &mut Offset, m: &Mapping<'_>) -> Result<(),
 
 /// Maps an lvalue.
 #[cycle(rewrite)]
-pub(crate) fn map_place(alloc: Global, place: &mut Lval, m: &Mapping<'_>) -> Result<(), Memory> {
+pub fn map_place(alloc: Global, place: &mut Lval, m: &Mapping<'_>) -> Result<(), Memory> {
     map_host(alloc, &mut place.host, m)?;
     for i in 0..place.offsets.len() {
         map_offset(alloc, &mut place.offsets[i], m)?;
@@ -76,7 +46,7 @@ pub(crate) fn map_place(alloc: Global, place: &mut Lval, m: &Mapping<'_>) -> Res
 
 /// Maps an expression.
 #[cycle(rewrite)]
-pub(crate) fn map_exp(alloc: Global, e: &mut Exp, m: &Mapping<'_>) -> Result<(), Memory> {
+pub fn map_exp(alloc: Global, e: &mut Exp, m: &Mapping<'_>) -> Result<(), Memory> {
     match e {
         Exp::Const(..) => Ok(()),
         Exp::Lval(place) => map_place(alloc, place, m),
