@@ -21,6 +21,7 @@ use cil_base::Code;
 use cil_base::Fault;
 use cil_base::Feature;
 use decl_types::Behind;
+use decl_types::NewName;
 use decl_types::Position;
 use decl_types::Prototype;
 use decl_types::heading_of;
@@ -396,7 +397,8 @@ fn enumerator(w: &mut Walker, a: AggId, e: &Enumerator) -> Result<(), WalkStop> 
         }
         None => None,
     };
-    placed(e.at, w.declarer.enumerator(a, e.name, value, &mut w.types))
+    let name = NewName::of(e.name, &w.names);
+    placed(e.at, w.declarer.enumerator(a, name, value, &mut w.types))
 }
 
 /// A static assertion (C11 6.7.10).

@@ -1,4 +1,5 @@
 use cil_base::{Code, LabelId, NameId};
+use decl_types::is_reserved;
 use indexmap::IndexMap;
 use std::alloc::Global;
 use typed_parts::{WalkStop, Walker, impossible, violated};
@@ -96,7 +97,7 @@ impl Labels {
 
 /// A label that is declared may not be reserved (C11 7.1.3, own).
 pub(crate) fn not_reserved(w: &Walker, at: u32, n: NameId) -> Result<(), WalkStop> {
-    if w.declarer.is_reserved(n) {
+    if is_reserved(n, &w.names) {
         Err(violated(at, Code::Reserved))
     } else {
         Ok(())

@@ -1,2 +1,4 @@
+pub mod Exact
 pub mod Refusals
+pub mod Rows
 pub mod Stops

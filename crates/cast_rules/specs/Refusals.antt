@@ -1,7 +1,7 @@
 -- Definition: what each operator is refused for: a constraint of its own clause, or a type that is too big. No other fault is one of an operator.
 use Rattle.std.specs.Prelude.{◌≡◌, Bool, true, false}
 use Rattle.cil_base.specs.declared.faults.Code.{Code}
-use Rattle.cil_base.specs.declared.faults.Code.TheVariants.{Incomplete, NotLvalue, NotModifiable, Operand, Assignment, Call, Cast, Condition, Register}
+use Rattle.cil_base.specs.declared.faults.Code.TheVariants.{Incomplete, NotLvalue, NotModifiable, Operand, Assignment, Call}
 use Rattle.cil_base.specs.declared.faults.Fault.TheVariants.{Constraint, Limit}
 use Rattle.cil_base.specs.declared.faults.What.TheVariants.{ObjectSize}
 use Rattle.cil_base.specs.declared.faults.RuleStop.{RuleStop}
@@ -18,28 +18,11 @@ IsRefusal codes _ = ⊥
 abbrev pub none : Code → Bool
 none code = false
 
--- a value that is read, and a comma (6.3.2.1p2, 6.5.17)
-abbrev pub of_value : Code → Bool
-of_value Incomplete = true
-of_value _ = false
-
--- an operator, an indirection, a subscript, a conditional, and a size (6.5.2.1, 6.5.3 to 6.5.15)
+-- a binary operator, a subscript, and a conditional (6.5.2.1, 6.5.5 to 6.5.12, 6.5.15)
 abbrev pub of_operator : Code → Bool
 of_operator Incomplete = true
 of_operator Operand = true
 of_operator _ = false
-
--- an address (6.5.3.2p1)
-abbrev pub of_address : Code → Bool
-of_address NotLvalue = true
-of_address Register = true
-of_address _ = false
-
--- a cast (6.5.4p2)
-abbrev pub of_cast : Code → Bool
-of_cast Incomplete = true
-of_cast Cast = true
-of_cast _ = false
 
 -- a conversion as by assignment (6.5.16.1p1)
 abbrev pub of_conversion : Code → Bool
@@ -70,9 +53,3 @@ of_call Incomplete = true
 of_call Assignment = true
 of_call Call = true
 of_call _ = false
-
--- a controlling expression (6.8.4.1p1, 6.8.4.2p1, 6.8.5p2)
-abbrev pub of_test : Code → Bool
-of_test Incomplete = true
-of_test Condition = true
-of_test _ = false

@@ -1,9 +1,14 @@
-ghost use Rattle.std.specs.Prelude.{◌≡◌, true, IfSome, IfErr};
+ghost use Rattle.std.specs.Prelude.{◌≡◌, true, IfSome, IfErr, IfOk};
+ghost use Rattle.cil_base.specs.declared.kinds.IntKind.TheVariants.{Int};
+ghost use Rattle.type_graph.specs.Shapes.{IntType, shape};
+ghost use Rattle.cil_base.specs.declared.operators.UnOp.TheVariants.{Neg};
+ghost use Rattle.cast_rules.specs.Exact.{Refuses};
 ghost use Rattle.cast_rules.specs.Refusals.{IsRefusal, of_operator};
+ghost use Rattle.cast_rules.specs.Rows.{is_operand, logical_row, unary_row};
 
 use crate::conversions::{Pair, both_converted, both_values, promoted, promoted_value, value_of};
 use crate::operands::{
-    Operand, is_arithmetic, is_incomplete, is_object, is_scalar, is_unreadable, operand_sort,
+    Operand, gives_scalar, is_arithmetic, is_incomplete, is_object, is_unreadable,
 };
 use crate::pairings::{Meeting, Pairing, meeting_of, meeting_type, paired};
 use crate::stops::{allowed, impossible, made};
@@ -43,21 +48,24 @@ pub(crate) fn group_of(op: BinOp) -> Group {
     }
 }
 
-/// Whether an operand is not of arithmetic type, or not scalar for `!` (C11 6.5.3.3p1).
-fn is_no_operand(op: UnOp, e: &Operand, t: &Types) -> bool {
+/// Whether an operand is of arithmetic type, or scalar for `!` (C11 6.5.3.3p1).
+fn is_operand(op: UnOp, e: &Operand, t: &Types) -> bool
+    ensures { result ≡ is_operand op t.now (shape t.now.nodes e.now.exp.ty.of.0) }
+{
+    let of = e.exp.ty().of;
     match op {
-        UnOp::Neg | UnOp::Compl => !is_arithmetic(operand_sort(e, t)),
-        UnOp::Not => !is_scalar(operand_sort(e, t)),
+        UnOp::Neg | UnOp::Compl => is_arithmetic(t, of),
+        UnOp::Not => gives_scalar(t, of),
     }
 }
 
 /// The first constraint that a unary operator violates, if there is one.
 fn fault_unary(op: UnOp, e: &Operand, t: &Types) -> Option<Code>
-    ensures { IfSome result (λ code. of_operator code ≡ true) }
+    ensures { result ≡ unary_row op t.now (shape t.now.nodes e.now.exp.ty.of.0) }
 {
     if is_unreadable(e, t) {
         Some(Code::Incomplete)
-    } else if is_no_operand(op, e, t) {
+    } else if !is_operand(op, e, t) {
         Some(Code::Operand)
     } else {
         None
@@ -66,7 +74,7 @@ fn fault_unary(op: UnOp, e: &Operand, t: &Types) -> Option<Code>
 
 /// `+ e` (C11 6.5.3.3p2): the promoted value, without a node of its own.
 pub fn plus(alloc: Global, e: Operand, t: &mut Types) -> Result<TypedExp, RuleStop>
-    ensures { IfErr result (IsRefusal of_operator) }
+    ensures { Refuses (unary_row Neg t.old (shape t.old.nodes e.exp.ty.of.0)) result }
 {
     allowed(fault_unary(UnOp::Neg, &e, t))?;
     made(promoted_value(alloc, e.exp, t))
@@ -74,7 +82,7 @@ pub fn plus(alloc: Global, e: Operand, t: &mut Types) -> Result<TypedExp, RuleSt
 
 /// `- e`, `~ e` and `! e` (C11 6.5.3.3).
 pub fn unary(alloc: Global, op: UnOp, e: Operand, t: &mut Types) -> Result<TypedExp, RuleStop>
-    ensures { IfErr result (IsRefusal of_operator) }
+    ensures { Refuses (unary_row op t.old (shape t.old.nodes e.exp.ty.of.0)) result }
 {
     allowed(fault_unary(op, &e, t))?;
     made(unary_node(alloc, op, e.exp, t))
@@ -97,7 +105,9 @@ fn computed(alloc: Global, op: UnOp, e: TypedExp, t: &mut Types) -> Result<Typed
 }
 
 /// `! e` of a value: an int (C11 6.5.3.3p5).
-fn negated(alloc: Global, e: TypedExp, t: &mut Types) -> Result<TypedExp, LayoutStop> {
+fn negated(alloc: Global, e: TypedExp, t: &mut Types) -> Result<TypedExp, LayoutStop>
+    ensures { IfOk result (λ v. shape t.new.nodes v.ty.of.0 ≡ IntType Int) }
+{
     let int = t.int(IntKind::Int)?;
     Ok(typed_tree::unary(alloc, int, UnOp::Not, e)?)
 }
@@ -282,7 +292,9 @@ fn calculated(
     common: IntKind,
     pair: Pair,
     t: &mut Types,
-) -> Result<TypedExp, LayoutStop> {
+) -> Result<TypedExp, LayoutStop>
+    ensures { IfOk result (λ v. shape t.new.nodes v.ty.of.0 ≡ IntType common) }
+{
     let of = t.int(common)?;
     let Pair { left, right } = both_converted(alloc, of, pair, t)?;
     Ok(typed_tree::binary(alloc, of, op, left, right)?)
@@ -327,7 +339,9 @@ fn compared(
     at: TypeId,
     pair: Pair,
     t: &mut Types,
-) -> Result<TypedExp, LayoutStop> {
+) -> Result<TypedExp, LayoutStop>
+    ensures { IfOk result (λ v. shape t.new.nodes v.ty.of.0 ≡ IntType Int) }
+{
     let int = t.int(IntKind::Int)?;
     let Pair { left, right } = both_converted(alloc, at, pair, t)?;
     Ok(typed_tree::binary(alloc, int, op, left, right)?)
@@ -397,11 +411,11 @@ pub(crate) fn indexed(
 
 /// The first constraint that `&&` or `||` violates, if there is one (C11 6.5.13p2, 6.5.14p2).
 fn fault_logical(a: &Operand, b: &Operand, t: &Types) -> Option<Code>
-    ensures { IfSome result (λ code. of_operator code ≡ true) }
+    ensures { result ≡ logical_row t.now (shape t.now.nodes a.now.exp.ty.of.0) (shape t.now.nodes b.now.exp.ty.of.0) }
 {
     if is_unreadable(a, t) || is_unreadable(b, t) {
         Some(Code::Incomplete)
-    } else if !is_scalar(operand_sort(a, t)) || !is_scalar(operand_sort(b, t)) {
+    } else if !gives_scalar(t, a.exp.ty().of) || !gives_scalar(t, b.exp.ty().of) {
         Some(Code::Operand)
     } else {
         None
@@ -416,13 +430,13 @@ pub fn logical(
     b: Operand,
     t: &mut Types,
 ) -> Result<TypedExp, RuleStop>
-    ensures { IfErr result (IsRefusal of_operator) }
+    ensures { Refuses (logical_row t.old (shape t.old.nodes a.exp.ty.of.0) (shape t.old.nodes b.exp.ty.of.0)) result }
 {
     allowed(fault_logical(&a, &b, t))?;
     made(logical_node(alloc, op, a.exp, b.exp, t))
 }
 
-/// The node of `a && b` and `a || b`: an int (C11 6.5.13p3, 6.5.14p3).
+/// The node of `a && b` and `a || b`.
 fn logical_node(
     alloc: Global,
     op: Logic,
@@ -430,7 +444,15 @@ fn logical_node(
     b: TypedExp,
     t: &mut Types,
 ) -> Result<TypedExp, LayoutStop> {
+    let pair = both_values(alloc, a, b, t)?;
+    joined(alloc, op, pair, t)
+}
+
+/// Two values with `&&` or `||` between them: an int (C11 6.5.13p3, 6.5.14p3).
+fn joined(alloc: Global, op: Logic, pair: Pair, t: &mut Types) -> Result<TypedExp, LayoutStop>
+    ensures { IfOk result (λ v. shape t.new.nodes v.ty.of.0 ≡ IntType Int) }
+{
+    let Pair { left, right } = pair;
     let int = t.int(IntKind::Int)?;
-    let Pair { left, right } = both_values(alloc, a, b, t)?;
     Ok(typed_tree::logical(alloc, int, op, left, right)?)
 }

@@ -59,7 +59,7 @@ pub fn assignable(to: TypeId, e: &Operand, t: &Types) -> bool {
 /// Whether the value of an operand may be assigned to a struct, union or enum.
 fn is_for_aggregate(to: TypeId, e: &Operand, t: &Types) -> bool {
     match sort_of(t, to) {
-        Sort::Enumerated => is_arithmetic(operand_sort(e, t)),
+        Sort::Enumerated => is_arithmetic(t, e.exp.ty().of),
         Sort::Record(_) => t.compatible(to, e.exp.ty().of),
         Sort::Void | Sort::Integer(_) | Sort::Pointer(_) => false,
     }

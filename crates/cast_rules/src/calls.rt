@@ -3,8 +3,7 @@ ghost use Rattle.cast_rules.specs.Refusals.{IsRefusal, of_call};
 
 use crate::assignments::assignable;
 use crate::conversions::{converted, promoted_argument, value_of};
-use crate::operands::{Operand, Sort, is_unreadable, operand_sort};
-use crate::pairings::is_void;
+use crate::operands::{Operand, Sort, is_unreadable, is_void, operand_sort};
 use crate::stops::{allowed, impossible, made};
 use cil_base::{Code, Memory, RuleStop, TypeId};
 use layout_lp64::LayoutStop;

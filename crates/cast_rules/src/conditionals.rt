@@ -1,8 +1,11 @@
 ghost use Rattle.std.specs.Prelude.{◌≡◌, true, IfSome, IfErr};
-ghost use Rattle.cast_rules.specs.Refusals.{IsRefusal, of_operator, of_test, of_value};
+ghost use Rattle.type_graph.specs.Shapes.{shape};
+ghost use Rattle.cast_rules.specs.Exact.{Refuses};
+ghost use Rattle.cast_rules.specs.Rows.{comma_row, switch_row, test_row};
+ghost use Rattle.cast_rules.specs.Refusals.{IsRefusal, of_operator};
 
 use crate::conversions::{Pair, both_converted, both_values, promoted_value, value_of};
-use crate::operands::{Operand, Sort, is_arithmetic, is_scalar, is_unreadable, operand_sort};
+use crate::operands::{Operand, Sort, gives_scalar, is_arithmetic, is_unreadable, operand_sort};
 use crate::pairings::{Meeting, Pairing, meeting_of, meeting_type, paired};
 use crate::stops::{allowed, impossible, made};
 use cil_base::{Code, IntKind, Memory, RuleStop, TypeId};
@@ -58,7 +61,7 @@ fn fault_conditional(c: &Operand, a: &Operand, b: &Operand, t: &Types) -> Option
 {
     if is_unreadable(c, t) || is_unreadable(a, t) || is_unreadable(b, t) {
         Some(Code::Incomplete)
-    } else if !is_scalar(operand_sort(c, t)) || joining_of(a, b, t).is_none() {
+    } else if !gives_scalar(t, c.exp.ty().of) || joining_of(a, b, t).is_none() {
         Some(Code::Operand)
     } else {
         None
@@ -128,7 +131,7 @@ fn conditional_node(
 
 /// The first constraint that a comma violates, if there is one.
 fn fault_comma(a: &Operand, b: &Operand, t: &Types) -> Option<Code>
-    ensures { IfSome result (λ code. of_value code ≡ true) }
+    ensures { result ≡ comma_row t.now (shape t.now.nodes a.now.exp.ty.of.0) (shape t.now.nodes b.now.exp.ty.of.0) }
 {
     if is_unreadable(a, t) || is_unreadable(b, t) {
         Some(Code::Incomplete)
@@ -139,7 +142,7 @@ fn fault_comma(a: &Operand, b: &Operand, t: &Types) -> Option<Code>
 
 /// `a , b` (C11 6.5.17).
 pub fn comma(alloc: Global, a: Operand, b: Operand, t: &mut Types) -> Result<TypedExp, RuleStop>
-    ensures { IfErr result (IsRefusal of_value) }
+    ensures { Refuses (comma_row t.old (shape t.old.nodes a.exp.ty.of.0) (shape t.old.nodes b.exp.ty.of.0)) result }
 {
     allowed(fault_comma(&a, &b, t))?;
     made(comma_node(alloc, a.exp, b.exp, t))
@@ -158,11 +161,11 @@ fn comma_node(
 
 /// The first constraint that the controlling expression of an `if` or a loop violates, if there is one.
 fn fault_test(e: &Operand, t: &Types) -> Option<Code>
-    ensures { IfSome result (λ code. of_test code ≡ true) }
+    ensures { result ≡ test_row t.now (shape t.now.nodes e.now.exp.ty.of.0) }
 {
     if is_unreadable(e, t) {
         Some(Code::Incomplete)
-    } else if !is_scalar(operand_sort(e, t)) {
+    } else if !gives_scalar(t, e.exp.ty().of) {
         Some(Code::Condition)
     } else {
         None
@@ -171,7 +174,7 @@ fn fault_test(e: &Operand, t: &Types) -> Option<Code>
 
 /// The value of the controlling expression of an `if` or a loop (C11 6.8.4.1p1, 6.8.5p2).
 pub fn scalar_test(alloc: Global, e: Operand, t: &mut Types) -> Result<TypedExp, RuleStop>
-    ensures { IfErr result (IsRefusal of_test) }
+    ensures { Refuses (test_row t.old (shape t.old.nodes e.exp.ty.of.0)) result }
 {
     allowed(fault_test(&e, t))?;
     made(value_of(alloc, e.exp, t))
@@ -179,11 +182,11 @@ pub fn scalar_test(alloc: Global, e: Operand, t: &mut Types) -> Result<TypedExp,
 
 /// The first constraint that the controlling expression of a `switch` violates, if there is one.
 fn fault_switch(e: &Operand, t: &Types) -> Option<Code>
-    ensures { IfSome result (λ code. of_test code ≡ true) }
+    ensures { result ≡ switch_row t.now (shape t.now.nodes e.now.exp.ty.of.0) }
 {
     if is_unreadable(e, t) {
         Some(Code::Incomplete)
-    } else if !is_arithmetic(operand_sort(e, t)) {
+    } else if !is_arithmetic(t, e.exp.ty().of) {
         Some(Code::Condition)
     } else {
         None
@@ -192,7 +195,7 @@ fn fault_switch(e: &Operand, t: &Types) -> Option<Code>
 
 /// The promoted value of the controlling expression of a `switch` (C11 6.8.4.2p1, p5).
 pub fn switch_value(alloc: Global, e: Operand, t: &mut Types) -> Result<TypedExp, RuleStop>
-    ensures { IfErr result (IsRefusal of_test) }
+    ensures { Refuses (switch_row t.old (shape t.old.nodes e.exp.ty.of.0)) result }
 {
     allowed(fault_switch(&e, t))?;
     made(promoted_value(alloc, e.exp, t))

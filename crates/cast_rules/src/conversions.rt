@@ -1,10 +1,13 @@
-ghost use Rattle.std.specs.Prelude.{◌≡◌, true, IfSome, IfErr};
-ghost use Rattle.cast_rules.specs.Refusals.{IsRefusal, of_cast, of_value};
+ghost use Rattle.std.specs.Prelude.{◌≡◌, ◌&&◌, not, IsTrue, IfOk, MatchOption};
+ghost use Rattle.cil_base.specs.Usual.{promoted};
+ghost use Rattle.cil_base.specs.declared.kinds.IntKind.{IntKind};
+ghost use Rattle.type_graph.specs.Shapes.{IntType, shape};
+ghost use Rattle.cast_rules.specs.Exact.{Refuses};
+ghost use Rattle.cast_rules.specs.Rows.{cast_row, kind_in, value_row, is_void, is_scalar, gives_scalar};
 
 use crate::operands::{
-    Operand, Sort, arithmetic_kind, is_scalar, is_unreadable, operand_sort, sort_of,
+    Operand, Sort, gives_scalar, is_scalar, is_unreadable, is_void, kind_in, sort_of,
 };
-use crate::pairings::is_void;
 use crate::stops::{allowed, impossible, made};
 use cil_base::{Code, RuleStop, TypeId};
 use layout_lp64::LayoutStop;
@@ -21,7 +24,9 @@ pub(crate) struct Pair {
 }
 
 /// Whether one type is the other, but perhaps for the qualifiers of what they point to: such a conversion changes no value.
-fn is_alike(t: &Types, from: TypeId, to: TypeId) -> bool {
+fn is_alike(t: &Types, from: TypeId, to: TypeId) -> bool
+    ensures { (kind : IntKind) → shape t.now.nodes to.0 ≡ IntType kind → IsTrue result → from ≡ to }
+{
     if from == to {
         return true;
     }
@@ -38,7 +43,9 @@ pub(crate) fn converted(
     to: TypeId,
     e: TypedExp,
     t: &Types,
-) -> Result<TypedExp, LayoutStop> {
+) -> Result<TypedExp, LayoutStop>
+    ensures { (kind : IntKind) → shape t.now.nodes to.0 ≡ IntType kind → IfOk result (λ v. v.ty.of ≡ to) }
+{
     if is_alike(t, e.ty().of, to) {
         return Ok(e);
     }
@@ -59,8 +66,10 @@ pub(crate) fn both_converted(
 }
 
 /// An integer promoted (C11 6.3.1.1p2); an enumerated type computes in int (own).
-pub(crate) fn promoted(alloc: Global, e: TypedExp, t: &mut Types) -> Result<TypedExp, LayoutStop> {
-    let Some(kind) = arithmetic_kind(sort_of(t, e.ty().of)) else {
+pub(crate) fn promoted(alloc: Global, e: TypedExp, t: &mut Types) -> Result<TypedExp, LayoutStop>
+    ensures { MatchOption (kind_in t.old (shape t.old.nodes e.ty.of.0)) (Unit {0}) (λ kind. IfOk result (λ v. shape t.new.nodes v.ty.of.0 ≡ IntType (promoted kind))) }
+{
+    let Some(kind) = kind_in(t, e.ty().of) else {
         return Err(impossible());
     };
     let to = t.int(kind.promoted())?;
@@ -145,7 +154,7 @@ pub(crate) fn both_values(
 
 /// The constraint that the reading of an operand violates, if there is one.
 fn fault_value(e: &Operand, t: &Types) -> Option<Code>
-    ensures { IfSome result (λ code. of_value code ≡ true) }
+    ensures { result ≡ value_row t.now (shape t.now.nodes e.now.exp.ty.of.0) }
 {
     if is_unreadable(e, t) {
         Some(Code::Incomplete)
@@ -157,29 +166,22 @@ fn fault_value(e: &Operand, t: &Types) -> Option<Code>
 /// The value of an operand: what an lvalue holds, or the pointer to which an array or a function decays (C11 6.3.2.1p2 to p4).
 /// `Incomplete` comes where it has an incomplete struct, union or enum type.
 pub fn value(alloc: Global, e: Operand, t: &mut Types) -> Result<TypedExp, RuleStop>
-    ensures { IfErr result (IsRefusal of_value) }
+    ensures { Refuses (value_row t.old (shape t.old.nodes e.exp.ty.of.0)) result }
 {
     allowed(fault_value(&e, t))?;
     made(value_of(alloc, e.exp, t))
 }
 
 /// Whether a cast is outside C11 6.5.4p2.
-fn is_no_cast(to: TypeId, e: &Operand, t: &Types) -> bool {
-    !is_void(t, to) && !(is_scalar_type(t, to) && is_scalar(operand_sort(e, t)))
-}
-
-/// Whether a type is a scalar type (C11 6.2.5p21).
-fn is_scalar_type(t: &Types, of: TypeId) -> bool {
-    match t.class(of) {
-        Class::Int(_) | Class::Ptr(_) => true,
-        Class::Agg(..) => is_scalar(sort_of(t, of)),
-        Class::Void | Class::Array(..) | Class::Func { .. } => false,
-    }
+fn is_no_cast(to: TypeId, e: &Operand, t: &Types) -> bool
+    ensures { result ≡ (not (is_void (shape t.now.nodes to.0)) && not (is_scalar t.now (shape t.now.nodes to.0) && gives_scalar t.now (shape t.now.nodes e.now.exp.ty.of.0))) }
+{
+    !is_void(t, to) && !(is_scalar(t, to) && gives_scalar(t, e.exp.ty().of))
 }
 
 /// The first constraint that a cast violates, if there is one.
 fn fault_cast(to: TypeId, e: &Operand, t: &Types) -> Option<Code>
-    ensures { IfSome result (λ code. of_cast code ≡ true) }
+    ensures { result ≡ cast_row t.now (shape t.now.nodes to.0) (shape t.now.nodes e.now.exp.ty.of.0) }
 {
     if is_unreadable(e, t) {
         Some(Code::Incomplete)
@@ -193,7 +195,7 @@ fn fault_cast(to: TypeId, e: &Operand, t: &Types) -> Option<Code>
 /// `( to ) e` (C11 6.5.4). A cast to void is a node whatever its operand is, since no cast is an lvalue; any other is a node where it
 /// changes the type.
 pub fn cast(alloc: Global, to: TypeId, e: Operand, t: &mut Types) -> Result<TypedExp, RuleStop>
-    ensures { IfErr result (IsRefusal of_cast) }
+    ensures { Refuses (cast_row t.old (shape t.old.nodes to.0) (shape t.old.nodes e.exp.ty.of.0)) result }
 {
     allowed(fault_cast(to, &e, t))?;
     made(cast_node(alloc, to, e.exp, t))

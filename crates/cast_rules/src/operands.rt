@@ -1,3 +1,7 @@
+ghost use Rattle.std.specs.Prelude.{◌≡◌, Some};
+ghost use Rattle.type_graph.specs.Shapes.{shape};
+ghost use Rattle.cast_rules.specs.Rows.{kind_in, is_arithmetic, is_enum_kind, is_scalar, is_unreadable, is_void, gives_pointer, gives_scalar};
+
 use cil_base::{AggId, IntKind, TypeId};
 use type_graph::{AggKind, QualType};
 use typed_tree::TypedExp;
@@ -103,21 +107,86 @@ pub(crate) fn arithmetic_kind(s: Sort) -> Option<IntKind> {
     }
 }
 
-/// Whether an operand has arithmetic type (C11 6.2.5p18). Each is an integer type.
-pub(crate) fn is_arithmetic(s: Sort) -> bool {
-    arithmetic_kind(s).is_some()
-}
-
-/// Whether an operand has scalar type (C11 6.2.5p21).
-pub(crate) fn is_scalar(s: Sort) -> bool {
-    match s {
-        Sort::Integer(_) | Sort::Enumerated | Sort::Pointer(_) => true,
-        Sort::Void | Sort::Record(_) => false,
+/// The kind of which a value of a type is, where it is a number (C11 6.2.5p18); an enumerated type computes in int (own).
+pub(crate) fn kind_in(t: &Types, of: TypeId) -> Option<IntKind>
+    ensures { result ≡ kind_in t.now (shape t.now.nodes of.0) }
+{
+    match t.class(of) {
+        Class::Int(kind) => Some(kind),
+        Class::Agg(AggKind::Enum, _) => Some(IntKind::Int),
+        Class::Agg(AggKind::Struct, _)
+        | Class::Agg(AggKind::Union, _)
+        | Class::Void
+        | Class::Ptr(_)
+        | Class::Array(..)
+        | Class::Func { .. } => None,
     }
 }
 
+/// Whether a kind of aggregates is that of enums.
+fn is_enum(kind: AggKind) -> bool
+    ensures { result ≡ is_enum_kind (Some kind) }
+{
+    match kind {
+        AggKind::Struct | AggKind::Union => false,
+        AggKind::Enum => true,
+    }
+}
+
+/// Whether a type is `void`.
+pub(crate) fn is_void(t: &Types, of: TypeId) -> bool
+    ensures { result ≡ is_void (shape t.now.nodes of.0) }
+{
+    match t.class(of) {
+        Class::Void => true,
+        Class::Int(_) | Class::Ptr(_) | Class::Array(..) | Class::Func { .. } | Class::Agg(..) =>
+            false,
+    }
+}
+
+/// Whether a type is an arithmetic type (C11 6.2.5p18). Each is an integer type.
+pub(crate) fn is_arithmetic(t: &Types, of: TypeId) -> bool
+    ensures { result ≡ is_arithmetic t.now (shape t.now.nodes of.0) }
+{
+    match t.class(of) {
+        Class::Int(_) => true,
+        Class::Agg(kind, _) => is_enum(kind),
+        Class::Void | Class::Ptr(_) | Class::Array(..) | Class::Func { .. } => false,
+    }
+}
+
+/// Whether a type is a scalar type (C11 6.2.5p21).
+pub(crate) fn is_scalar(t: &Types, of: TypeId) -> bool
+    ensures { result ≡ is_scalar t.now (shape t.now.nodes of.0) }
+{
+    match t.class(of) {
+        Class::Int(_) | Class::Ptr(_) => true,
+        Class::Agg(kind, _) => is_enum(kind),
+        Class::Void | Class::Array(..) | Class::Func { .. } => false,
+    }
+}
+
+/// Whether the value of an operand of a type is a pointer.
+pub(crate) fn gives_pointer(t: &Types, of: TypeId) -> bool
+    ensures { result ≡ gives_pointer (shape t.now.nodes of.0) }
+{
+    match t.class(of) {
+        Class::Ptr(_) | Class::Array(..) | Class::Func { .. } => true,
+        Class::Void | Class::Int(_) | Class::Agg(..) => false,
+    }
+}
+
+/// Whether the value of an operand of a type has a scalar type.
+pub(crate) fn gives_scalar(t: &Types, of: TypeId) -> bool
+    ensures { result ≡ gives_scalar t.now (shape t.now.nodes of.0) }
+{
+    is_arithmetic(t, of) || gives_pointer(t, of)
+}
+
 /// Whether an operand is a struct, union or enum whose type is incomplete, so that it has no value (C11 6.3.2.1p2).
-pub(crate) fn is_unreadable(e: &Operand, t: &Types) -> bool {
+pub(crate) fn is_unreadable(e: &Operand, t: &Types) -> bool
+    ensures { result ≡ is_unreadable t.now (shape t.now.nodes e.now.exp.ty.of.0) }
+{
     let of = e.exp.ty().of;
     match t.class(of) {
         Class::Agg(..) => !t.is_complete(of),

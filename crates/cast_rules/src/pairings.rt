@@ -1,4 +1,4 @@
-use crate::operands::{Operand, Sort, arithmetic_kind, is_object, operand_sort};
+use crate::operands::{Operand, Sort, arithmetic_kind, is_object, is_void, operand_sort};
 use cil_base::{IntKind, TypeId};
 use layout_lp64::LayoutStop;
 use type_graph::{QualType, Quals};
@@ -51,15 +51,6 @@ fn sorts_paired(a: Sort, b: Sort) -> Pairing {
 /// What two operands are together.
 pub(crate) fn paired(a: &Operand, b: &Operand, t: &Types) -> Pairing {
     sorts_paired(operand_sort(a, t), operand_sort(b, t))
-}
-
-/// Whether a type is `void`.
-pub(crate) fn is_void(t: &Types, of: TypeId) -> bool {
-    match t.class(of) {
-        Class::Void => true,
-        Class::Int(_) | Class::Ptr(_) | Class::Array(..) | Class::Func { .. } | Class::Agg(..) =>
-            false,
-    }
 }
 
 /// Whether one of two pointers points to `void` and the other to an object type.

@@ -1,10 +1,16 @@
-ghost use Rattle.std.specs.Prelude.{◌≡◌, true, IfSome, IfErr};
-ghost use Rattle.cast_rules.specs.Refusals.{IsRefusal, none, of_address, of_operator};
+ghost use Rattle.std.specs.Prelude.{◌≡◌, true, IfSome, IfErr, List};
+ghost use Rattle.type_graph.specs.declared.nodes.Node.{Node};
+ghost use Rattle.type_graph.specs.Shapes.{shape};
+ghost use Rattle.typed_tree.specs.Places.{is_place};
+ghost use Rattle.typed_tree.specs.View.{typed_of};
+ghost use Rattle.cast_rules.specs.Exact.{Refuses};
+ghost use Rattle.cast_rules.specs.Rows.{address_row, indirect_row};
+ghost use Rattle.cast_rules.specs.Refusals.{IsRefusal, none, of_operator};
 
 use crate::arithmetic::indexed;
 use crate::conversions::{Pair, both_values, value_of};
 use crate::operands::{
-    Operand, Sort, is_incomplete, is_object, is_unreadable, operand_sort,
+    Operand, gives_pointer, is_incomplete, is_object, is_unreadable,
 };
 use crate::pairings::{Pairing, paired};
 use crate::stops::{allowed, impossible, made};
@@ -17,7 +23,7 @@ use unit_types::{Class, Types, joined, unqualified};
 
 /// The first constraint that the address of an operand violates, if there is one (C11 6.5.3.2p1).
 fn fault_address(e: &Operand) -> Option<Code>
-    ensures { IfSome result (λ code. of_address code ≡ true) }
+    ensures { (nodes : List Node) → result ≡ address_row (is_place (typed_of nodes e.now.exp)) e.now.register }
 {
     if !e.exp.is_place() {
         Some(Code::NotLvalue)
@@ -30,7 +36,7 @@ fn fault_address(e: &Operand) -> Option<Code>
 
 /// `& e` (C11 6.5.3.2), of an lvalue, a function, or what `*` gives.
 pub fn address(alloc: Global, e: Operand, t: &mut Types) -> Result<TypedExp, RuleStop>
-    ensures { IfErr result (IsRefusal of_address) }
+    ensures { Refuses (address_row (is_place (typed_of t.old.nodes e.exp)) e.register) result }
 {
     allowed(fault_address(&e))?;
     made(address_node(alloc, e.exp, t))
@@ -42,21 +48,13 @@ fn address_node(alloc: Global, e: TypedExp, t: &mut Types) -> Result<TypedExp, L
     Ok(typed_tree::address(alloc, pointer, e)?)
 }
 
-/// Whether an operand is no pointer.
-fn is_no_pointer(e: &Operand, t: &Types) -> bool {
-    match operand_sort(e, t) {
-        Sort::Pointer(_) => false,
-        Sort::Void | Sort::Integer(_) | Sort::Enumerated | Sort::Record(_) => true,
-    }
-}
-
 /// The first constraint that an indirection violates, if there is one (C11 6.5.3.2p2).
 fn fault_indirect(e: &Operand, t: &Types) -> Option<Code>
-    ensures { IfSome result (λ code. of_operator code ≡ true) }
+    ensures { result ≡ indirect_row t.now (shape t.now.nodes e.now.exp.ty.of.0) }
 {
     if is_unreadable(e, t) {
         Some(Code::Incomplete)
-    } else if is_no_pointer(e, t) {
+    } else if !gives_pointer(t, e.exp.ty().of) {
         Some(Code::Operand)
     } else {
         None
@@ -65,7 +63,7 @@ fn fault_indirect(e: &Operand, t: &Types) -> Option<Code>
 
 /// `* e` (C11 6.5.3.2): an lvalue, a function, or a void expression.
 pub fn indirect(alloc: Global, e: Operand, t: &mut Types) -> Result<TypedExp, RuleStop>
-    ensures { IfErr result (IsRefusal of_operator) }
+    ensures { Refuses (indirect_row t.old (shape t.old.nodes e.exp.ty.of.0)) result }
 {
     allowed(fault_indirect(&e, t))?;
     made(indirect_node(alloc, e.exp, t))

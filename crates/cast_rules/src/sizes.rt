@@ -1,5 +1,7 @@
-ghost use Rattle.std.specs.Prelude.{◌≡◌, true, IfErr};
-ghost use Rattle.cast_rules.specs.Refusals.{IsRefusal, of_operator};
+ghost use Rattle.std.specs.Prelude.{◌≡◌};
+ghost use Rattle.type_graph.specs.Shapes.{shape};
+ghost use Rattle.cast_rules.specs.Exact.{Refuses};
+ghost use Rattle.cast_rules.specs.Rows.{lacks_size, size_row};
 
 use crate::stops::{bad, made};
 use cil_base::{Code, RuleStop, TypeId};
@@ -10,7 +12,7 @@ use unit_types::{Class, Types};
 
 /// The constraint that the size or the alignment of a type violates which has none (C11 6.5.3.4p1).
 fn fault_size(t: &Types, of: TypeId) -> Code
-    ensures { of_operator result ≡ true }
+    ensures { result ≡ lacks_size (shape t.now.nodes of.0) }
 {
     match t.class(of) {
         Class::Func { .. } => Code::Operand,
@@ -28,7 +30,7 @@ fn size_constant(alloc: Global, n: u32, t: &mut Types) -> Result<TypedExp, Layou
 
 /// `sizeof` of a type, or of an expression of that type (C11 6.5.3.4p2).
 pub fn size_of(alloc: Global, of: TypeId, t: &mut Types) -> Result<TypedExp, RuleStop>
-    ensures { IfErr result (IsRefusal of_operator) }
+    ensures { Refuses (size_row t.old of.0) result }
 {
     match t.size(of) {
         Some(n) => made(size_constant(alloc, n, t)),
@@ -38,7 +40,7 @@ pub fn size_of(alloc: Global, of: TypeId, t: &mut Types) -> Result<TypedExp, Rul
 
 /// `_Alignof` of a type (C11 6.5.3.4p3).
 pub fn align_of(alloc: Global, of: TypeId, t: &mut Types) -> Result<TypedExp, RuleStop>
-    ensures { IfErr result (IsRefusal of_operator) }
+    ensures { Refuses (size_row t.old of.0) result }
 {
     match t.align(of) {
         Some(n) => made(size_constant(alloc, n, t)),

@@ -3,6 +3,7 @@ ghost use Rattle.cil_base.specs.declared.faults.Code.{Code};
 ghost use Rattle.cil_base.specs.declared.faults.Fault.TheVariants.{Constraint};
 ghost use Rattle.cil_base.specs.declared.faults.RuleStop.TheVariants as stop;
 ghost use Rattle.layout_lp64.specs.declared.layouts.LayoutStop.TheVariants.{Memory as WantOfMemory};
+ghost use Rattle.cast_rules.specs.Exact.{IsNoConstraint};
 ghost use Rattle.cast_rules.specs.Refusals.{IsRefusal};
 ghost use Rattle.cast_rules.specs.Stops.{refusal};
 
@@ -37,6 +38,7 @@ fn refusal(stop: LayoutStop) -> RuleStop
 /// What the making of a node or of a type gives, or its refusal.
 pub(crate) fn made<T>(r: Result<T, LayoutStop>) -> Result<T, RuleStop>
     ensures made { MatchResult r (λ x. result ≡ Ok x) (λ e. result ≡ Err (refusal e)) }
+    ensures unviolated { IfErr result IsNoConstraint }
     ensures refused { (codes : Code → Bool) → IfErr result (IsRefusal codes) }
 {
     match r {

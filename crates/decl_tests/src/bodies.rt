@@ -2,7 +2,8 @@ use crate::device::{A, B, F, PLAIN, RESERVED, Unit};
 use c_tree::StorageClass;
 use cil_base::{AggId, Code, EntityId, Fault, LocalId, RuleStop};
 use decl_types::{
-    Declaring, Form, Heading, Inline, MemberAt, PathStep, Prototype, array, function,
+    Declaring, Form, Heading, Inline, MemberAt, NewName, PathStep, Prototype, array,
+    function,
 };
 use std::process::Abort;
 use type_graph::{AggKind, QualType};
@@ -45,7 +46,7 @@ fn members_have_complete_types_and_names_of_their_own(rt: HostRuntime) -> Result
             5 => (B, ints, MemberAt::Last, refusal(Code::Incomplete)),
             _ => (RESERVED, int, MemberAt::Last, refusal(Code::Reserved)),
         };
-        assert!(rt; u.d.member(a, n, ty, at, &u.types) == expected);
+        assert!(rt; u.d.member(a, NewName::of(n, &u.names), ty, at, &u.types) == expected);
         if expected.is_ok() {
             assert!(rt; u.close(a).is_ok());
         }
@@ -173,9 +174,9 @@ fn a_body_without_members_is_refused(rt: HostRuntime) -> Result<(), RuleStop> {
 
 fn counts_on(rt: &impl Abort, u: &mut Unit) -> Result<(), RuleStop> {
     let a = u.open(AggKind::Enum, None)?;
-    u.d.enumerator(a, A, Some(-2), &mut u.types)?;
-    u.d.enumerator(a, B, None, &mut u.types)?;
-    u.d.enumerator(a, F, None, &mut u.types)?;
+    u.d.enumerator(a, NewName::of(A, &u.names), Some(-2), &mut u.types)?;
+    u.d.enumerator(a, NewName::of(B, &u.names), None, &mut u.types)?;
+    u.d.enumerator(a, NewName::of(F, &u.names), None, &mut u.types)?;
     u.close(a)?;
     for (n, v) in [(A, -2), (B, -1), (F, 0)] {
         match u.d.find(n) {
@@ -197,21 +198,21 @@ fn gives_numbers_back(rt: &impl Abort, u: &mut Unit) -> Result<(), RuleStop> {
     let parameter = Form::Parameter(PLAIN);
     u.d.enter()?;
     u.d.enter()?;
-    let inner = u.d.declare(A, int, HEADING, parameter, &mut u.types)?;
+    let inner = u.d.declare(NewName::of(A, &u.names), int, HEADING, parameter, &mut u.types)?;
     u.d.leave()?;
-    let first = u.d.declare(A, int, HEADING, parameter, &mut u.types)?;
-    let second = u.d.declare(B, int, HEADING, parameter, &mut u.types)?;
+    let first = u.d.declare(NewName::of(A, &u.names), int, HEADING, parameter, &mut u.types)?;
+    let second = u.d.declare(NewName::of(B, &u.names), int, HEADING, parameter, &mut u.types)?;
     assert!(rt; inner.what == Declaring::Local(LocalId(0)));
     assert!(rt; first.what == Declaring::Local(LocalId(0)));
     assert!(rt; second.what == Declaring::Local(LocalId(1)));
     let f = function(u.alloc, int, &[int, int], Prototype::Fixed, &mut u.types)?;
     let body = Form::Body(decl_types::BodyForm::Prototype);
-    u.d.declare(F, f, HEADING, body, &mut u.types)?;
+    u.d.declare(NewName::of(F, &u.names), f, HEADING, body, &mut u.types)?;
     u.d.enter()?;
     u.d.enter()?;
-    u.d.declare(A, int, HEADING, parameter, &mut u.types)?;
+    u.d.declare(NewName::of(A, &u.names), int, HEADING, parameter, &mut u.types)?;
     u.d.leave()?;
-    let object = u.d.declare(A, int, HEADING, Form::Plain, &mut u.types)?;
+    let object = u.d.declare(NewName::of(A, &u.names), int, HEADING, Form::Plain, &mut u.types)?;
     assert!(rt; object.what == Declaring::Local(LocalId(2)));
     assert!(rt; u.d.compound_literal()? == 0);
     u.d.leave()?;
@@ -240,7 +241,7 @@ fn bounds(
         storage,
         inline: Inline::No,
     };
-    let d = u.d.declare(A, ty, h, Form::Plain, &mut u.types)?;
+    let d = u.d.declare(NewName::of(A, &u.names), ty, h, Form::Plain, &mut u.types)?;
     let whole = match u.d.entity(EntityId(1)) {
         None => None,
         Some(e) => bound_of(&u.types, e.ty),
@@ -304,11 +305,11 @@ fn declares_by_place(u: &mut Unit) -> Result<(AggId, QualType), RuleStop> {
     };
     u.d.enter()?;
     let a = u.open(AggKind::Enum, None)?;
-    u.d.enumerator(a, B, None, &mut u.types)?;
+    u.d.enumerator(a, NewName::of(B, &u.names), None, &mut u.types)?;
     u.close(a)?;
     u.d.leave()?;
-    u.d.declare(A, int, hidden, Form::Plain, &mut u.types)?;
-    u.d.declare(A, int, hidden, Form::Plain, &mut u.types)?;
+    u.d.declare(NewName::of(A, &u.names), int, hidden, Form::Plain, &mut u.types)?;
+    u.d.declare(NewName::of(A, &u.names), int, hidden, Form::Plain, &mut u.types)?;
     Ok((a, int))
 }
 

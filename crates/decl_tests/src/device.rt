@@ -3,7 +3,7 @@ use cil_base::{
     Abi, AggId, Code, Fault, Feature, IntKind, NameId, NamePool, RuleStop, TypeId, What,
 };
 use decl_types::{
-    Behind, BodyForm, Declarer, Declaring, Form, Heading, Inline, MemberAt, PathStep, Position,
+    Behind, BodyForm, Declarer, Declaring, Form, Heading, Inline, MemberAt, NewName, PathStep, Position,
     Prototype, array, function, heading_of, pointer,
 };
 use std::alloc::Global;
@@ -152,7 +152,7 @@ impl Unit {
     /// Opens a body, with its tag where it has one.
     pub(crate) fn open(&mut self, kind: AggKind, tag: Option<NameId>) -> Result<AggId, RuleStop> {
         let words = body_words(self.alloc, kind, tag)?;
-        self.d.open_body(&words, &mut self.types)
+        self.d.open_body(&words, &self.names, &mut self.types)
     }
 
     /// Ends a body.
@@ -162,6 +162,7 @@ impl Unit {
 
     /// Adds a member in front of others.
     pub(crate) fn member(&mut self, a: AggId, n: NameId, ty: QualType) -> Result<(), RuleStop> {
+        let n = NewName::of(n, &self.names);
         self.d.member(a, n, ty, MemberAt::Inner, &self.types)
     }
 
@@ -194,14 +195,14 @@ impl Unit {
     /// The type `struct s`.
     fn tagged(&mut self, kind: AggKind, behind: Behind) -> Result<QualType, RuleStop> {
         let words = tag_words(self.alloc, kind)?;
-        self.d.words(&words, behind, &mut self.types)
+        self.d.words(&words, behind, &self.names, &mut self.types)
     }
 
     /// The type of the typedef name a.
     fn alias(&mut self) -> Result<QualType, RuleStop> {
         let mut words = Vec::new(self.alloc);
         words.push(Specifier::TypedefName(0, A))?;
-        self.d.words(&words, Behind::Declarators, &mut self.types)
+        self.d.words(&words, Behind::Declarators, &self.names, &mut self.types)
     }
 
     /// A type over `struct s`.
@@ -274,6 +275,7 @@ impl Unit {
     ) -> Result<(), RuleStop> {
         let h = self.heading(storage, form, inline)?;
         let ty = self.type_of(of)?;
+        let n = NewName::of(n, &self.names);
         self.d.declare(n, ty, h, form, &mut self.types)?;
         Ok(())
     }
@@ -286,6 +288,7 @@ impl Unit {
         value: Option<i128>,
     ) -> Result<(), RuleStop> {
         let a = self.open(AggKind::Enum, tag)?;
+        let n = NewName::of(n, &self.names);
         self.d.enumerator(a, n, value, &mut self.types)?;
         self.close(a)?;
         Ok(())

@@ -3,8 +3,8 @@ use c_tree::BasicType::{Bool, Char, Int, Long, Short, Signed, Unsigned, Void};
 use c_tree::{BasicType, Qualifier, Specifier, StorageClass};
 use cil_base::{Code, Fault, IntKind, RuleStop};
 use decl_types::{
-    Behind, Form, Heading, Inline, Position, Prototype, array, function, heading_of, is_constant,
-    pointer,
+    Behind, Form, Heading, Inline, NewName, Position, Prototype, array, function, heading_of,
+    is_constant, pointer,
 };
 use std::alloc::Global;
 use std::process::Abort;
@@ -109,7 +109,7 @@ fn names_types(rt: &impl Abort, u: &mut Unit) -> Result<(), RuleStop> {
             Some(kind) => integer(&mut u.types, kind),
         };
         let words = specifiers(u.alloc, row)?;
-        assert!(rt; u.d.words(&words, Behind::Declarators, &mut u.types) == told);
+        assert!(rt; u.d.words(&words, Behind::Declarators, &u.names, &mut u.types) == told);
     }
     Ok(())
 }
@@ -146,11 +146,11 @@ const TYPEDEF: Heading = Heading {
 /// A type with a qualifier, by a typedef name.
 fn with_qualifier(u: &mut Unit, ty: QualType, one: Qualifier) -> Result<QualType, RuleStop> {
     u.d.enter()?;
-    u.d.declare(A, ty, TYPEDEF, Form::Plain, &mut u.types)?;
+    u.d.declare(NewName::of(A, &u.names), ty, TYPEDEF, Form::Plain, &mut u.types)?;
     let mut words = Vec::new(u.alloc);
     words.push(Specifier::TypedefName(0, A))?;
     words.push(Specifier::Qualifier(0, one))?;
-    u.d.words(&words, Behind::Declarators, &mut u.types)
+    u.d.words(&words, Behind::Declarators, &u.names, &mut u.types)
 }
 
 /// Whether `restrict` stands on pointers to objects alone.

@@ -97,12 +97,29 @@ of_bound (Constraint Conflict) = true
 of_bound (Limit ObjectSize) = true
 of_bound _ = false
 
--- a compound literal in a function (own)
-abbrev pub of_literal : Fault → Bool
-of_literal (Limit Locals) = true
-of_literal _ = false
+-- an automatic object, or a compound literal in a function (own)
+abbrev pub of_local : Fault → Bool
+of_local (Limit Locals) = true
+of_local _ = false
 
--- the types that the end of a unit makes (6.9.2p2)
+-- an initialiser where none may stand (6.7.9p5)
+abbrev pub of_initialiser : Fault → Bool
+of_initialiser (Constraint Initialiser) = true
+of_initialiser _ = false
+
+-- qualifiers (6.7.3p2)
+abbrev pub of_qualifiers : Fault → Bool
+of_qualifiers (Constraint Restrict) = true
+of_qualifiers (Limit ObjectSize) = true
+of_qualifiers _ = false
+
+-- the type of a parameter (6.7.6.3p4, p7, p8)
+abbrev pub of_adjustment : Fault → Bool
+of_adjustment (Constraint Incomplete) = true
+of_adjustment (Limit ObjectSize) = true
+of_adjustment _ = false
+
+-- a type that is made of others (own)
 abbrev pub of_types : Fault → Bool
 of_types (Limit ObjectSize) = true
 of_types _ = false

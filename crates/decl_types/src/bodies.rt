@@ -4,6 +4,7 @@ ghost use Rattle.decl_types.specs.Refusals.{IsRefusal, of_anonymous, of_body, of
 
 use crate::declared::MemberAt;
 use crate::made_names::name_anonymous;
+use crate::new_names::NewName;
 use crate::stops::{bad, impossible, laid, narrow, never};
 use crate::types::{is_function, is_unbounded};
 use cil_base::{AggId, Code, IntKind, Memory, NameId, NamePool, RuleStop};
@@ -45,7 +46,7 @@ struct OpenBody {
     agg: AggId,
     kind: AggKind,
     /// Whether it has a tag.
-    tag: Option<NameId>,
+    tagged: bool,
     /// The qualifiers that stand beside the body.
     quals: Quals,
     members: Vec<Member>,
@@ -78,17 +79,16 @@ pub(crate) struct Bodies {
 pub(crate) struct Opening {
     pub(crate) agg: AggId,
     pub(crate) kind: AggKind,
-    pub(crate) tag: Option<NameId>,
+    pub(crate) tagged: bool,
     pub(crate) quals: Quals,
 }
 
-/// A member to add, and whether its name is reserved.
+/// A member to add.
 #[derive(Clone, Copy)]
 pub(crate) struct NewMember {
-    pub(crate) name: NameId,
+    pub(crate) name: NewName,
     pub(crate) ty: QualType,
     pub(crate) at: MemberAt,
-    pub(crate) reserved: bool,
 }
 
 /// Whether a body may have a flexible array as its next member (C11 6.7.2.1p18).
@@ -103,13 +103,13 @@ fn is_flexible(b: &OpenBody, m: NewMember, t: &Types) -> bool {
 fn member_code(b: &OpenBody, m: NewMember, t: &Types) -> Option<Code>
     ensures { IfSome result (λ code. of_member (Constraint code) ≡ true) }
 {
-    if b.offered.contains(&m.name) {
+    if b.offered.contains(&m.name.id()) {
         Some(Code::Redeclared)
     } else if is_function(t, m.ty.of) {
         Some(Code::FunctionType)
     } else if !t.is_complete(m.ty.of) && !is_flexible(b, m, t) {
         Some(Code::Incomplete)
-    } else if m.reserved {
+    } else if m.name.is_reserved() {
         Some(Code::Reserved)
     } else {
         None
@@ -154,7 +154,7 @@ impl Bodies {
         self.open.push(OpenBody {
             agg: o.agg,
             kind: o.kind,
-            tag: o.tag,
+            tagged: o.tagged,
             quals: o.quals,
             members: Vec::new(self.alloc),
             offered: IndexSet::new(self.alloc),
@@ -184,12 +184,12 @@ impl Bodies {
             return Err(bad(code));
         }
         let i = next_place(&b)?;
-        b.offered.insert(m.name)?;
-        b.members.push(Member::named(m.name, m.ty, 0))?;
+        b.offered.insert(m.name.id())?;
+        b.members.push(Member::named(m.name.id(), m.ty, 0))?;
         self.open.push(b)?;
         let field = Field {
             agg: a,
-            name: m.name,
+            name: m.name.id(),
         };
         self.fields.insert(field, i)?;
         Ok(())
@@ -273,11 +273,11 @@ impl Bodies {
         if b.members.is_empty() {
             return Err(bad(Code::Incomplete));
         }
-        let (tag, quals) = (b.tag, b.quals);
+        let (tagged, quals) = (b.tagged, b.quals);
         self.closed = None;
         let members = name_anonymous(self.alloc, b.members, names)?;
         laid(t.complete(a, Members::new(members)))?;
-        if tag.is_none() {
+        if !tagged {
             self.closed = Some(ClosedBody {
                 agg: a,
                 offered: b.offered,

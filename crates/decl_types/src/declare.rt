@@ -1,16 +1,16 @@
-ghost use Rattle.std.specs.Prelude.{◌≡◌, Ok, Err, Bool, true, IfErr, IfSome};
+ghost use Rattle.std.specs.Prelude.{◌≡◌, Ok, Err, true, IfErr, IfSome};
 ghost use Rattle.cil_base.specs.declared.faults.Code.TheVariants.{Initialiser};
 ghost use Rattle.cil_base.specs.declared.faults.Fault.TheVariants.{Constraint};
 ghost use Rattle.cil_base.specs.declared.faults.RuleStop.TheVariants as stop;
 ghost use Rattle.decl_types.specs.declared.declare.Start.TheVariants as begins;
-ghost use Rattle.cil_base.specs.declared.faults.Fault.{Fault};
-ghost use Rattle.decl_types.specs.Refusals.{IsRefusal, of_bound, of_declaration, of_parameter};
+ghost use Rattle.decl_types.specs.Refusals.{IsRefusal, of_bound, of_declaration, of_initialiser, of_parameter};
 
 use crate::declared::{BodyForm, Declared, Declaring, Form, Linkage};
 use crate::declarer::Declarer;
 use crate::entities::{DeclaredEntity, Defined};
 use crate::headings::Heading;
 use crate::linking::{Defines, Linking, inherited};
+use crate::new_names::NewName;
 use crate::numbers::Numbers;
 use crate::stops::{bad, laid, never, past};
 use crate::types::{composite, is_function, is_unbounded, is_void, parameter};
@@ -30,7 +30,7 @@ enum Start {
 /// A declarator in a declaration, outside parameters and function definitions.
 #[derive(Clone, Copy)]
 struct Item {
-    name: NameId,
+    name: NewName,
     ty: QualType,
     heading: Heading,
     start: Start,
@@ -41,7 +41,7 @@ struct Item {
 fn without_initialiser(start: Start, d: Declared) -> Result<Declared, RuleStop>
     ensures plain { start ≡ begins.Plain → result ≡ Ok d }
     ensures initialised { start ≡ begins.Initialised → result ≡ Err (stop.Bad (Constraint Initialiser)) }
-    ensures refused { (faults : Fault → Bool) → faults (Constraint Initialiser) ≡ true → IfErr result (IsRefusal faults) }
+    ensures refused { IfErr result (IsRefusal of_initialiser) }
 {
     match start {
         Start::Plain => Ok(d),
@@ -136,7 +136,7 @@ impl Declarer {
     /// A function with a body is declared at file scope, while the scope of its parameters is the only open one.
     pub fn declare(
         &mut self,
-        n: NameId,
+        n: NewName,
         ty: QualType,
         h: Heading,
         form: Form,
@@ -155,7 +155,7 @@ impl Declarer {
     /// Declares a name in a declaration.
     fn declare_item(
         &mut self,
-        name: NameId,
+        name: NewName,
         ty: QualType,
         heading: Heading,
         start: Start,
@@ -182,7 +182,7 @@ impl Declarer {
 
     /// Enters a declaration in the innermost scope.
     fn enter_name(&mut self, n: NameId, d: Declared) -> Result<Declared, RuleStop>
-        ensures { (faults : Fault → Bool) → IfErr result (IsRefusal faults) }
+        ensures { IfErr result (λ e. e ≡ stop.Memory) }
     {
         self.names.declare(n, d)?;
         Ok(d)
@@ -199,15 +199,15 @@ impl Declarer {
             register: false,
             depth: i.depth,
         };
-        if let Some(before) = self.find_here(i.name, i.depth) {
+        if let Some(before) = self.find_here(i.name.id(), i.depth) {
             if before != d {
                 return Err(bad(Code::Redeclared));
             }
         }
-        if self.is_reserved(i.name) {
+        if i.name.is_reserved() {
             return Err(bad(Code::Reserved));
         }
-        let d = self.enter_name(i.name, d)?;
+        let d = self.enter_name(i.name.id(), d)?;
         without_initialiser(i.start, d)
     }
 
@@ -215,7 +215,7 @@ impl Declarer {
     fn declare_function(&mut self, i: &Item, t: &mut Types) -> Result<Declared, RuleStop>
         ensures { IfErr result (IsRefusal of_declaration) }
     {
-        let prior = self.names.find(i.name);
+        let prior = self.names.find(i.name.id());
         let linkage = function_linkage(i.heading.storage, i.depth, prior)?;
         let l = Linking {
             name: i.name,
@@ -227,7 +227,7 @@ impl Declarer {
             inline: i.heading.inline,
         };
         let d = self.link(&l, t)?;
-        let d = self.enter_name(i.name, d)?;
+        let d = self.enter_name(i.name.id(), d)?;
         without_initialiser(i.start, d)
     }
 
@@ -235,7 +235,7 @@ impl Declarer {
     fn declare_object(&mut self, i: &Item, t: &mut Types) -> Result<Declared, RuleStop>
         ensures { IfErr result (IsRefusal of_declaration) }
     {
-        let prior = self.names.find(i.name);
+        let prior = self.names.find(i.name.id());
         match object_storage(i, prior) {
             Storage::Linked(linkage) => self.declare_linked(i, linkage, prior, t),
             Storage::StaticLocal => self.declare_static(i, t),
@@ -263,7 +263,7 @@ impl Declarer {
             inline: i.heading.inline,
         };
         let d = self.link(&l, t)?;
-        let d = self.enter_name(i.name, d)?;
+        let d = self.enter_name(i.name.id(), d)?;
         if i.depth > 0 {
             return without_initialiser(i.start, d);
         }
@@ -274,11 +274,11 @@ impl Declarer {
     fn block_code(&self, i: &Item, t: &Types) -> Option<Code>
         ensures { IfSome result (λ code. of_declaration (Constraint code) ≡ true) }
     {
-        if self.find_here(i.name, i.depth).is_some() {
+        if self.find_here(i.name.id(), i.depth).is_some() {
             Some(Code::Redeclared)
         } else if is_incomplete(i, t) {
             Some(Code::Incomplete)
-        } else if self.is_reserved(i.name) {
+        } else if i.name.is_reserved() {
             Some(Code::Reserved)
         } else {
             None
@@ -293,7 +293,7 @@ impl Declarer {
             return Err(bad(code));
         }
         let e = self.entities.add(DeclaredEntity {
-            name: i.name,
+            name: i.name.id(),
             kind: EntityKind::StaticLocal,
             ty: i.ty,
             bare: false,
@@ -301,7 +301,7 @@ impl Declarer {
             defined: Defined::Full,
         })?;
         self.enter_name(
-            i.name,
+            i.name.id(),
             Declared {
                 what: Declaring::Entity(e),
                 ty: i.ty,
@@ -320,11 +320,11 @@ impl Declarer {
             return Err(bad(code));
         }
         let l = self.numbers.add_object(TypedLocal {
-            name: i.name,
+            name: i.name.id(),
             ty: i.ty,
         })?;
         self.enter_name(
-            i.name,
+            i.name.id(),
             Declared {
                 what: Declaring::Local(l),
                 ty: i.ty,
@@ -336,14 +336,14 @@ impl Declarer {
     }
 
     /// The first constraint that a named parameter violates.
-    fn parameter_code(&self, n: NameId, ty: QualType, depth: u32, t: &Types) -> Option<Code>
+    fn parameter_code(&self, n: NewName, ty: QualType, depth: u32, t: &Types) -> Option<Code>
         ensures { IfSome result (λ code. of_declaration (Constraint code) ≡ true) }
     {
-        if self.find_here(n, depth).is_some() {
+        if self.find_here(n.id(), depth).is_some() {
             Some(Code::Redeclared)
         } else if is_void(t, ty.of) {
             Some(Code::Incomplete)
-        } else if self.is_reserved(n) {
+        } else if n.is_reserved() {
             Some(Code::Reserved)
         } else {
             None
@@ -353,7 +353,7 @@ impl Declarer {
     /// Declares a parameter (C11 6.7.6.3).
     fn declare_parameter(
         &mut self,
-        n: NameId,
+        n: NewName,
         ty: QualType,
         q: Quals,
         h: Heading,
@@ -366,9 +366,9 @@ impl Declarer {
             return Err(bad(code));
         }
         let ty = parameter(ty, q, t)?;
-        let l = self.numbers.add_parameter(TypedLocal { name: n, ty })?;
+        let l = self.numbers.add_parameter(TypedLocal { name: n.id(), ty })?;
         self.enter_name(
-            n,
+            n.id(),
             Declared {
                 what: Declaring::Local(l),
                 ty,
@@ -382,7 +382,7 @@ impl Declarer {
     /// Declares a function with a body at file scope, around the open scope of its parameters (C11 6.9.1).
     fn declare_definition(
         &mut self,
-        n: NameId,
+        n: NewName,
         ty: QualType,
         h: Heading,
         body: BodyForm,
@@ -397,7 +397,7 @@ impl Declarer {
             None => return Err(never()),
             Some(parameters) => parameters,
         };
-        let prior = self.names.find(n);
+        let prior = self.names.find(n.id());
         let linkage = function_linkage(h.storage, 0, prior)?;
         let l = Linking {
             name: n,
@@ -409,7 +409,7 @@ impl Declarer {
             inline: h.inline,
         };
         let d = self.link(&l, t)?;
-        let d = self.enter_name(n, d)?;
+        let d = self.enter_name(n.id(), d)?;
         self.numbers.begin_body()?;
         self.names.enter()?;
         for p in &parameters {

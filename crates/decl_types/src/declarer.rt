@@ -1,7 +1,7 @@
 ghost use Rattle.std.specs.Prelude.{◌≡◌, [], ◌∷◌, ◌++◌, OnOk, IfErr};
 ghost use Rattle.name_scopes.specs.Scopes.{found};
 ghost use Rattle.decl_types.specs.Scopes.{Leaves};
-ghost use Rattle.decl_types.specs.Refusals.{IsRefusal, of_literal};
+ghost use Rattle.decl_types.specs.Refusals.{IsRefusal, of_local};
 
 use crate::bodies::{Bodies, MemberPath};
 use crate::declared::{Declared, Declaring, Linkage, Tag};
@@ -10,7 +10,6 @@ use crate::numbers::{FunctionLocals, Numbers};
 use crate::stops::{impossible, laid};
 use crate::types::{Prototype, function, int, pointer};
 use cil_base::{AggId, EntityId, LocalId, Memory, NameId, NamePool, RuleStop};
-use indexmap::IndexSet;
 use name_scopes::Scopes;
 use std::alloc::Global;
 use type_graph::{QualType, Quals};
@@ -28,28 +27,10 @@ pub struct Declarer {
     pub(crate) entities: Entities,
     /// The enumerators, and what has internal linkage, by place.
     pub(crate) ordinary: Vec<Ordinary>,
-    /// The names that begin with `__builtin_`.
-    reserved: IndexSet<NameId>,
     pub(crate) memset: NameId,
     /// The base of the names of literals.
     literal: NameId,
     pub(crate) alloc: Global,
-}
-
-/// Whether a text begins with `__builtin_`.
-fn is_builtin(text: &[u8]) -> bool {
-    text.starts_with(b"__builtin_")
-}
-
-/// The names of a pool that begin with `__builtin_`.
-fn builtin_names(alloc: Global, names: &NamePool) -> Result<IndexSet<NameId>, Memory> {
-    let mut found = IndexSet::new(alloc);
-    for i in 0..names.len() {
-        if is_builtin(names.text(NameId(i))) {
-            found.insert(NameId(i))?;
-        }
-    }
-    Ok(found)
 }
 
 /// The type `void * ( void * , int , unsigned long )`.
@@ -64,7 +45,7 @@ fn memset_type(alloc: Global, t: &mut Types) -> Result<QualType, RuleStop> {
 }
 
 impl Declarer {
-    /// The declaration of `__builtin_memset`, which stands in front of every unit, with number 0. The names of the unit are in the pool already.
+    /// The declaration of `__builtin_memset`, which stands in front of every unit, with number 0.
     pub fn new(alloc: Global, names: &mut NamePool, t: &mut Types) -> Result<Declarer, RuleStop> {
         let memset = names.intern(b"__builtin_memset")?;
         let literal = names.bases()?.literal;
@@ -75,7 +56,6 @@ impl Declarer {
             bodies: Bodies::new(alloc),
             entities: Entities::new(alloc),
             ordinary: Vec::new(alloc),
-            reserved: builtin_names(alloc, names)?,
             memset,
             literal,
             alloc,
@@ -141,11 +121,6 @@ impl Declarer {
         self.numbers.is_outside()
     }
 
-    /// Whether a name begins with `__builtin_`, and may not be declared.
-    pub fn is_reserved(&self, n: NameId) -> bool {
-        self.reserved.contains(&n)
-    }
-
     /// The declaration of a name in the innermost scope.
     pub(crate) fn find_here(&self, n: NameId, depth: u32) -> Option<Declared> {
         match self.names.find(n) {
@@ -156,7 +131,7 @@ impl Declarer {
 
     /// A compound literal in a function, where it is evaluated: its number in the function (C11 6.5.2.5p5). The limit on locals, at its first token.
     pub fn compound_literal(&mut self) -> Result<u32, RuleStop>
-        ensures { IfErr result (IsRefusal of_literal) }
+        ensures { IfErr result (IsRefusal of_local) }
     {
         self.numbers.add_literal()
     }

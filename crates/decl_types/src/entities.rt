@@ -1,6 +1,5 @@
-ghost use Rattle.std.specs.Prelude.{Bool, IfErr};
-ghost use Rattle.cil_base.specs.declared.faults.Fault.{Fault};
-ghost use Rattle.decl_types.specs.Refusals.{IsRefusal};
+ghost use Rattle.std.specs.Prelude.{◌≡◌, IfErr};
+ghost use Rattle.cil_base.specs.declared.faults.RuleStop.TheVariants as stop;
 
 use crate::declared::Linkage;
 use crate::stops::{narrow, never};
@@ -135,7 +134,7 @@ impl Entities {
 
     /// Gives an entity another content.
     pub(crate) fn set(&mut self, e: EntityId, entity: DeclaredEntity) -> Result<(), RuleStop>
-        ensures { (faults : Fault → Bool) → IfErr result (IsRefusal faults) }
+        ensures { IfErr result (λ e. e ≡ stop.Memory) }
     {
         let i = e.0 as usize;
         if i >= self.list.len() {
@@ -147,7 +146,7 @@ impl Entities {
 
     /// Gives an entity another type, with its qualifiers.
     pub(crate) fn set_type(&mut self, e: EntityId, of: TypeId) -> Result<(), RuleStop>
-        ensures { (faults : Fault → Bool) → IfErr result (IsRefusal faults) }
+        ensures { IfErr result (λ e. e ≡ stop.Memory) }
     {
         let i = e.0 as usize;
         if i >= self.list.len() {

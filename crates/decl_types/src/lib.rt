@@ -17,6 +17,7 @@ mod entities;
 mod headings;
 mod linking;
 mod made_names;
+mod new_names;
 mod numbers;
 mod spelled;
 mod stops;
@@ -28,6 +29,7 @@ pub use declared::{Behind, BodyForm, Declared, Declaring, Form, Linkage, MemberA
 pub use declarer::Declarer;
 pub use entities::{Declarations, DeclaredEntity, Defined, LateFault};
 pub use headings::{Heading, Inline, Position, heading_of};
+pub use new_names::{NewName, is_reserved};
 pub use numbers::FunctionLocals;
 pub use spelled::qualifiers;
 pub use types::{Prototype, array, function, is_constant, parameter, pointer};

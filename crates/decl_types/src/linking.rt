@@ -1,16 +1,16 @@
-ghost use Rattle.std.specs.Prelude.{◌≡◌, Bool, true, IfErr, IfSome};
-ghost use Rattle.cil_base.specs.declared.faults.Fault.TheVariants.{Constraint, Excluded, Limit};
-ghost use Rattle.cil_base.specs.declared.faults.Fault.{Fault};
-ghost use Rattle.cil_base.specs.declared.faults.What.TheVariants.{ObjectSize};
-ghost use Rattle.decl_types.specs.Refusals.{IsRefusal, of_declaration};
+ghost use Rattle.std.specs.Prelude.{◌≡◌, true, IfErr, IfSome};
+ghost use Rattle.cil_base.specs.declared.faults.Fault.TheVariants.{Constraint, Excluded};
+ghost use Rattle.cil_base.specs.declared.faults.RuleStop.TheVariants as stop;
+ghost use Rattle.decl_types.specs.Refusals.{IsRefusal, of_declaration, of_types};
 
 use crate::declared::{BodyForm, Declared, Declaring, Linkage};
 use crate::declarer::Declarer;
 use crate::entities::{DeclaredEntity, Defined, kind_of};
 use crate::headings::Inline;
+use crate::new_names::NewName;
 use crate::stops::{bad, excluded};
 use crate::types::{are_compatible, composite, is_function, is_unbounded, is_void};
-use cil_base::{Code, EntityId, Feature, NameId, RuleStop};
+use cil_base::{Code, EntityId, Feature, RuleStop};
 use type_graph::QualType;
 use typed_tree::{EntityKind, Ordinary};
 use unit_types::{Class, Types};
@@ -18,7 +18,7 @@ use unit_types::{Class, Types};
 /// A declaration of an object or function with linkage (C11 6.2.2).
 #[derive(Clone, Copy)]
 pub(crate) struct Linking {
-    pub(crate) name: NameId,
+    pub(crate) name: NewName,
     pub(crate) ty: QualType,
     pub(crate) linkage: Linkage,
     /// The declaration of the name that was visible before.
@@ -176,8 +176,8 @@ fn defined(before: Defined, l: &Linking) -> Defined {
 impl Declarer {
     /// Whether a name that begins with `__builtin_` is declared otherwise than as the function `__builtin_memset` at file scope without a body.
     fn is_misnamed(&self, l: &Linking, t: &Types) -> bool {
-        self.is_reserved(l.name)
-            && !(l.name == self.memset && l.depth == 0 && !is_full(l) && is_function(t, l.ty.of))
+        l.name.is_reserved()
+            && !(l.name.id() == self.memset && l.depth == 0 && !is_full(l) && is_function(t, l.ty.of))
     }
 
     /// The first constraint that a declaration violates.
@@ -212,11 +212,11 @@ impl Declarer {
 
     /// The entity of a name that the unit declares for the first time.
     fn first_declared(&mut self, l: &Linking) -> Result<EntityId, RuleStop>
-        ensures { (faults : Fault → Bool) → IfErr result (IsRefusal faults) }
+        ensures { IfErr result (λ e. e ≡ stop.Memory) }
     {
         let kind = kind_of(l.linkage);
         let e = self.entities.add_linked(DeclaredEntity {
-            name: l.name,
+            name: l.name.id(),
             kind,
             ty: l.ty,
             bare: is_bare(l),
@@ -237,7 +237,7 @@ impl Declarer {
         before: DeclaredEntity,
         t: &mut Types,
     ) -> Result<EntityId, RuleStop>
-        ensures { (faults : Fault → Bool) → faults (Limit ObjectSize) ≡ true → IfErr result (IsRefusal faults) }
+        ensures { IfErr result (IsRefusal of_types) }
     {
         let of = composite(t, before.ty.of, l.ty.of)?;
         self.entities.set(
@@ -261,7 +261,7 @@ impl Declarer {
     pub(crate) fn link(&mut self, l: &Linking, t: &mut Types) -> Result<Declared, RuleStop>
         ensures { IfErr result (IsRefusal of_declaration) }
     {
-        let known = self.entities.linked(l.name);
+        let known = self.entities.linked(l.name.id());
         if let Some(code) = self.linking_code(l, known, t) {
             return Err(bad(code));
         }
@@ -285,7 +285,7 @@ impl Declarer {
 
 /// The type that is visible behind a declaration: the composite with the one that was visible before, where that has linkage (C11 6.2.7p4).
 fn visible_type(l: &Linking, t: &mut Types) -> Result<QualType, RuleStop>
-    ensures { (faults : Fault → Bool) → faults (Limit ObjectSize) ≡ true → IfErr result (IsRefusal faults) }
+    ensures { IfErr result (IsRefusal of_types) }
 {
     match l.prior {
         None => Ok(l.ty),

@@ -1,8 +1,5 @@
-ghost use Rattle.std.specs.Prelude.{◌≡◌, Bool, true, IfErr};
-ghost use Rattle.cil_base.specs.declared.faults.Fault.TheVariants.{Limit};
-ghost use Rattle.cil_base.specs.declared.faults.Fault.{Fault};
-ghost use Rattle.cil_base.specs.declared.faults.What.TheVariants.{Locals};
-ghost use Rattle.decl_types.specs.Refusals.{IsRefusal, of_literal};
+ghost use Rattle.std.specs.Prelude.{IfErr};
+ghost use Rattle.decl_types.specs.Refusals.{IsRefusal, of_local};
 
 use crate::stops::{impossible, narrow, past};
 use cil_base::{LocalId, Memory, RuleStop, What};
@@ -142,7 +139,7 @@ impl Numbers {
 
     /// An automatic object.
     pub(crate) fn add_object(&mut self, local: TypedLocal) -> Result<LocalId, RuleStop>
-        ensures { (faults : Fault → Bool) → faults (Limit Locals) ≡ true → IfErr result (IsRefusal faults) }
+        ensures { IfErr result (IsRefusal of_local) }
     {
         if self.is_full() {
             return Err(past(What::Locals));
@@ -153,7 +150,7 @@ impl Numbers {
 
     /// A compound literal.
     pub(crate) fn add_literal(&mut self) -> Result<u32, RuleStop>
-        ensures { IfErr result (IsRefusal of_literal) }
+        ensures { IfErr result (IsRefusal of_local) }
     {
         if self.is_full() {
             return Err(past(What::Locals));

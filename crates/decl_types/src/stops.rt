@@ -1,10 +1,8 @@
-ghost use Rattle.std.specs.Prelude.{◌≡◌, MatchResult, IfOk, Ok, Err, Bool, true, IfErr};
+ghost use Rattle.std.specs.Prelude.{◌≡◌, MatchResult, IfOk, Ok, Err, IfErr};
 ghost use Rattle.cil_base.specs.declared.faults.Fault.TheVariants.{Constraint, Excluded, Limit};
 ghost use Rattle.cil_base.specs.declared.faults.RuleStop.TheVariants as stop;
 ghost use Rattle.decl_types.specs.Stops.{refusal};
-ghost use Rattle.cil_base.specs.declared.faults.Fault.{Fault};
-ghost use Rattle.cil_base.specs.declared.faults.What.TheVariants.{ObjectSize};
-ghost use Rattle.decl_types.specs.Refusals.{IsRefusal};
+ghost use Rattle.decl_types.specs.Refusals.{IsRefusal, of_types};
 
 use cil_base::{Code, Fault, Feature, Memory, RuleStop, What};
 use layout_lp64::LayoutStop;
@@ -55,7 +53,7 @@ fn refusal(stop: LayoutStop) -> RuleStop
 /// Hands on what the types of the unit answer.
 pub(crate) fn laid<T>(r: Result<T, LayoutStop>) -> Result<T, RuleStop>
     ensures is { MatchResult r (λ x. result ≡ Ok x) (λ e. result ≡ Err (refusal e)) }
-    ensures refused { (faults : Fault → Bool) → faults (Limit ObjectSize) ≡ true → IfErr result (IsRefusal faults) }
+    ensures refused { IfErr result (IsRefusal of_types) }
 {
     match r {
         Ok(x) => Ok(x),

@@ -5,6 +5,7 @@ use crate::basics::BasicMeaning;
 use crate::bodies::{NewMember, Opening};
 use crate::declared::{Behind, Declared, Declaring, Linkage, MemberAt, Tag, TagBody};
 use crate::declarer::Declarer;
+use crate::new_names::NewName;
 use crate::spelled::{Meaning, Named, spelled_by};
 use crate::stops::{bad, laid, never};
 use crate::types::{int, qualified};
@@ -28,6 +29,14 @@ fn basic_type(meaning: BasicMeaning, t: &mut Types) -> Result<QualType, RuleStop
 /// Whether specifiers are a struct or union with its tag alone, in front of a semicolon (C11 6.7.2.3p7).
 fn is_alone(s: &[Specifier], behind: Behind, kind: AggKind) -> bool {
     s.len() == 1 && behind == Behind::Nothing && kind != AggKind::Enum
+}
+
+/// The tag of a body.
+fn new_tag(tag: Option<NameId>, names: &NamePool) -> Option<NewName> {
+    match tag {
+        None => None,
+        Some(n) => Some(NewName::of(n, names)),
+    }
 }
 
 impl Declarer {
@@ -57,20 +66,20 @@ impl Declarer {
     /// Declares a tag in the innermost scope, which begins here (C11 6.2.1p7).
     fn declare_tag(
         &mut self,
-        n: NameId,
+        n: NewName,
         kind: AggKind,
         body: TagBody,
         t: &mut Types,
     ) -> Result<AggId, RuleStop>
         ensures { IfErr result (IsRefusal of_specifiers) }
     {
-        if self.is_reserved(n) {
+        if n.is_reserved() {
             return Err(bad(Code::Reserved));
         }
         let depth = self.numbers.depth()?;
-        let agg = laid(t.add_agg(kind, Some(n)))?;
+        let agg = laid(t.add_agg(kind, Some(n.id())))?;
         self.tags.declare(
-            n,
+            n.id(),
             Tag {
                 agg,
                 kind,
@@ -85,7 +94,7 @@ impl Declarer {
     fn tagged(
         &mut self,
         kind: AggKind,
-        n: NameId,
+        n: NewName,
         visible: Option<Tag>,
         t: &mut Types,
     ) -> Result<AggId, RuleStop>
@@ -111,7 +120,7 @@ impl Declarer {
     fn tag_type(
         &mut self,
         kind: AggKind,
-        n: NameId,
+        n: NewName,
         alone: bool,
         t: &mut Types,
     ) -> Result<QualType, RuleStop>
@@ -119,9 +128,9 @@ impl Declarer {
     {
         let visible = if alone {
             let depth = self.numbers.depth()?;
-            self.tag_here(n, depth)
+            self.tag_here(n.id(), depth)
         } else {
-            self.tags.find(n)
+            self.tags.find(n.id())
         };
         let a = self.tagged(kind, n, visible, t)?;
         let of = laid(t.aggregate(a))?;
@@ -136,6 +145,7 @@ impl Declarer {
         &mut self,
         s: &[Specifier],
         behind: Behind,
+        names: &NamePool,
         t: &mut Types,
     ) -> Result<QualType, RuleStop>
         ensures { IfErr result (IsRefusal of_specifiers) }
@@ -145,7 +155,7 @@ impl Declarer {
             Meaning::Basic(basic) => basic_type(basic, t)?,
             Meaning::Named(Named::Typedef(n)) => self.typedef_type(n)?,
             Meaning::Named(Named::Tag(kind, n)) => {
-                self.tag_type(kind, n, is_alone(s, behind, kind), t)?
+                self.tag_type(kind, NewName::of(n, names), is_alone(s, behind, kind), t)?
             }
             Meaning::Named(Named::Body(..)) => return Err(never()),
         };
@@ -153,18 +163,18 @@ impl Declarer {
     }
 
     /// The aggregate of a tag with a body (C11 6.7.2.3p6): one that is declared in the innermost scope without a body, else a new one.
-    fn bodied(&mut self, kind: AggKind, n: NameId, t: &mut Types) -> Result<AggId, RuleStop>
+    fn bodied(&mut self, kind: AggKind, n: NewName, t: &mut Types) -> Result<AggId, RuleStop>
         ensures { IfErr result (IsRefusal of_specifiers) }
     {
         let depth = self.numbers.depth()?;
-        match self.tag_here(n, depth) {
+        match self.tag_here(n.id(), depth) {
             None => self.declare_tag(n, kind, TagBody::Begun, t),
             Some(tag) => {
                 if tag.kind != kind || tag.body == TagBody::Begun {
                     return Err(bad(Code::Tag));
                 }
                 self.tags.declare(
-                    n,
+                    n.id(),
                     Tag {
                         agg: tag.agg,
                         kind,
@@ -180,12 +190,15 @@ impl Declarer {
     /// The aggregate of specifiers with a body, whose tag is in scope from here on (C11 6.2.1p7). It is open until `close_body`.
     ///
     /// `Specifiers`, `Tag`, `Reserved` and `Restrict` as by `words`; `Tag` also where the tag has a body already.
-    pub fn open_body(&mut self, s: &[Specifier], t: &mut Types) -> Result<AggId, RuleStop>
+    pub fn open_body(&mut self, s: &[Specifier], names: &NamePool, t: &mut Types) -> Result<AggId, RuleStop>
         ensures { IfErr result (IsRefusal of_specifiers) }
     {
         let spelled = spelled_by(s)?;
         match spelled.meaning {
-            Meaning::Named(Named::Body(kind, tag)) => self.open_named(kind, tag, spelled.quals, t),
+            Meaning::Named(Named::Body(kind, tag)) => {
+                let tag = new_tag(tag, names);
+                self.open_named(kind, tag, spelled.quals, t)
+            }
             Meaning::Named(Named::Typedef(_) | Named::Tag(..)) | Meaning::Basic(_) => {
                 Err(never())
             }
@@ -196,7 +209,7 @@ impl Declarer {
     fn open_named(
         &mut self,
         kind: AggKind,
-        tag: Option<NameId>,
+        tag: Option<NewName>,
         quals: Quals,
         t: &mut Types,
     ) -> Result<AggId, RuleStop>
@@ -212,7 +225,7 @@ impl Declarer {
         self.bodies.open(Opening {
             agg,
             kind,
-            tag,
+            tagged: tag.is_some(),
             quals,
         })?;
         Ok(agg)
@@ -224,21 +237,19 @@ impl Declarer {
     pub fn member(
         &mut self,
         a: AggId,
-        n: NameId,
+        n: NewName,
         ty: QualType,
         at: MemberAt,
         t: &Types,
     ) -> Result<(), RuleStop>
         ensures { IfErr result (IsRefusal of_member) }
     {
-        let reserved = self.is_reserved(n);
         self.bodies.member(
             a,
             NewMember {
                 name: n,
                 ty,
                 at,
-                reserved,
             },
             t,
         )
@@ -264,7 +275,7 @@ impl Declarer {
     pub fn enumerator(
         &mut self,
         a: AggId,
-        n: NameId,
+        n: NewName,
         value: Option<i128>,
         t: &mut Types,
     ) -> Result<(), RuleStop>
@@ -272,20 +283,20 @@ impl Declarer {
     {
         let depth = self.numbers.depth()?;
         let (v, index) = self.bodies.next_enumerator(a, value)?;
-        if self.find_here(n, depth).is_some() {
+        if self.find_here(n.id(), depth).is_some() {
             return Err(bad(Code::Redeclared));
         }
         if !IntKind::Int.fits(v) {
             return Err(bad(Code::EnumRange));
         }
-        if self.is_reserved(n) {
+        if n.is_reserved() {
             return Err(bad(Code::Reserved));
         }
         let ty = int(t)?;
-        self.bodies.enumerator(a, Member::named(n, ty, v as i32))?;
+        self.bodies.enumerator(a, Member::named(n.id(), ty, v as i32))?;
         self.ordinary.push(Ordinary::Enumerator(a, index))?;
         self.names.declare(
-            n,
+            n.id(),
             Declared {
                 what: Declaring::Enumerator(v as i32),
                 ty,

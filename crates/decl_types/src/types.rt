@@ -1,9 +1,6 @@
-ghost use Rattle.std.specs.Prelude.{◌≡◌, Bool, true, IfErr};
-ghost use Rattle.cil_base.specs.declared.faults.Code.TheVariants.{Restrict, Incomplete};
-ghost use Rattle.cil_base.specs.declared.faults.Fault.TheVariants.{Constraint, Limit};
-ghost use Rattle.cil_base.specs.declared.faults.Fault.{Fault};
-ghost use Rattle.cil_base.specs.declared.faults.What.TheVariants.{ObjectSize};
-ghost use Rattle.decl_types.specs.Refusals.{IsRefusal, of_array, of_function};
+ghost use Rattle.std.specs.Prelude.{◌≡◌, IfErr};
+ghost use Rattle.cil_base.specs.declared.faults.RuleStop.TheVariants as stop;
+ghost use Rattle.decl_types.specs.Refusals.{IsRefusal, of_adjustment, of_array, of_function, of_qualifiers, of_types};
 
 use crate::stops::{bad, laid, past};
 use cil_base::{Code, IntKind, RuleStop, TypeId, What};
@@ -72,7 +69,7 @@ fn is_restrictable(ty: TypeId, t: &Types) -> bool {
 
 /// A type with qualifiers more (C11 6.7.3).
 pub(crate) fn qualified(q: Quals, ty: QualType, t: &mut Types) -> Result<QualType, RuleStop>
-    ensures { (faults : Fault → Bool) → faults (Constraint Restrict) ≡ true → faults (Limit ObjectSize) ≡ true → IfErr result (IsRefusal faults) }
+    ensures { IfErr result (IsRefusal of_qualifiers) }
 {
     if q.restricted && !is_restrictable(ty.of, t) {
         return Err(bad(Code::Restrict));
@@ -82,7 +79,7 @@ pub(crate) fn qualified(q: Quals, ty: QualType, t: &mut Types) -> Result<QualTyp
 
 /// The type int.
 pub(crate) fn int(t: &mut Types) -> Result<QualType, RuleStop>
-    ensures { (faults : Fault → Bool) → faults (Limit ObjectSize) ≡ true → IfErr result (IsRefusal faults) }
+    ensures { IfErr result (IsRefusal of_types) }
 {
     let of = laid(t.int(IntKind::Int))?;
     Ok(unqualified(of))
@@ -90,7 +87,7 @@ pub(crate) fn int(t: &mut Types) -> Result<QualType, RuleStop>
 
 /// The composite of two types, the first of which was declared earlier (C11 6.2.7p3).
 pub(crate) fn composite(t: &mut Types, a: TypeId, b: TypeId) -> Result<TypeId, RuleStop>
-    ensures { (faults : Fault → Bool) → faults (Limit ObjectSize) ≡ true → IfErr result (IsRefusal faults) }
+    ensures { IfErr result (IsRefusal of_types) }
 {
     laid(t.composite(a, b))
 }
@@ -102,7 +99,7 @@ pub(crate) fn are_compatible(t: &Types, a: QualType, b: QualType) -> bool {
 
 /// A pointer with qualifiers of its own (C11 6.7.6.1). `Restrict` where it points to a function and is restrict-qualified.
 pub fn pointer(to: QualType, q: Quals, t: &mut Types) -> Result<QualType, RuleStop>
-    ensures { (faults : Fault → Bool) → faults (Constraint Restrict) ≡ true → faults (Limit ObjectSize) ≡ true → IfErr result (IsRefusal faults) }
+    ensures { IfErr result (IsRefusal of_qualifiers) }
 {
     if q.restricted && is_function(t, to.of) {
         return Err(bad(Code::Restrict));
@@ -112,7 +109,7 @@ pub fn pointer(to: QualType, q: Quals, t: &mut Types) -> Result<QualType, RuleSt
 
 /// A pointer with qualifiers of its own, to what may be pointed to so.
 fn pointed(to: QualType, q: Quals, t: &mut Types) -> Result<QualType, RuleStop>
-    ensures { (faults : Fault → Bool) → faults (Limit ObjectSize) ≡ true → IfErr result (IsRefusal faults) }
+    ensures { IfErr result (IsRefusal of_types) }
 {
     let of = laid(t.pointer(to))?;
     Ok(QualType { quals: q, of })
@@ -170,7 +167,7 @@ pub enum Prototype {
 
 /// The types of parameters, without their qualifiers.
 fn parameter_types(alloc: Global, params: &[QualType]) -> Result<Vec<TypeId>, RuleStop>
-    ensures { (faults : Fault → Bool) → IfErr result (IsRefusal faults) }
+    ensures { IfErr result (λ e. e ≡ stop.Memory) }
 {
     let mut types = Vec::new(alloc);
     for p in params {
@@ -203,7 +200,7 @@ pub fn function(
 /// The type of a parameter that is declared with a type: a pointer for an array, with the qualifiers between its brackets, and for a function
 /// (C11 6.7.6.3p7, p8). `Incomplete` for void.
 pub fn parameter(ty: QualType, q: Quals, t: &mut Types) -> Result<QualType, RuleStop>
-    ensures { (faults : Fault → Bool) → faults (Constraint Incomplete) ≡ true → faults (Limit ObjectSize) ≡ true → IfErr result (IsRefusal faults) }
+    ensures { IfErr result (IsRefusal of_adjustment) }
 {
     match t.class(ty.of) {
         Class::Void => Err(bad(Code::Incomplete)),

@@ -4,7 +4,7 @@ use crate::tokens::{specifiers_at, tag_at};
 use crate::walker::Walker;
 use c_tree::{MemberDeclaration, MemberDeclarator, Parameter, Qualifier, Specifier};
 use cil_base::{AggId, Code, Fault, NameId, RuleStop};
-use decl_types::{Behind, Declared, Form, Heading, MemberAt};
+use decl_types::{Behind, Declared, Form, Heading, MemberAt, NewName};
 use type_graph::{QualType, Quals};
 use unit_types::{Class, PLAIN};
 
@@ -42,12 +42,12 @@ fn placed_in<T>(ss: &[Specifier], r: Result<T, RuleStop>) -> Result<T, WalkStop>
 
 /// The type of specifiers without a body (C11 6.7.2).
 pub fn worded(w: &mut Walker, ss: &[Specifier], behind: Behind) -> Result<QualType, WalkStop> {
-    placed_in(ss, w.declarer.words(ss, behind, &mut w.types))
+    placed_in(ss, w.declarer.words(ss, behind, &w.names, &mut w.types))
 }
 
 /// The struct, union or enum of specifiers with a body, before its body (C11 6.7.2.1, 6.7.2.2).
 pub fn opened(w: &mut Walker, ss: &[Specifier]) -> Result<AggId, WalkStop> {
-    placed_in(ss, w.declarer.open_body(ss, &mut w.types))
+    placed_in(ss, w.declarer.open_body(ss, &w.names, &mut w.types))
 }
 
 /// The type of a struct, union or enum behind its body, whose specifier begins with a token.
@@ -87,7 +87,8 @@ pub fn add_member(
     } else {
         MemberAt::Inner
     };
-    placed(n.at, w.declarer.member(a, n.name, ty, at, &w.types))
+    let name = NewName::of(n.name, &w.names);
+    placed(n.at, w.declarer.member(a, name, ty, at, &w.types))
 }
 
 /// The body of a struct or union without a tag among specifiers (C11 6.7.2.1p13).
@@ -210,6 +211,7 @@ pub fn declare(
     heading: Heading,
     form: Form,
 ) -> Result<Declared, WalkStop> {
+    let n = NewName::of(n, &w.names);
     placed_among(
         places,
         w.declarer.declare(n, ty, heading, form, &mut w.types),
