@@ -59,10 +59,10 @@ impl Body {
     /// A case label with its value as it is written, whose token is given (C11 6.8.1p2, 6.8.4.2p3): the kind and the value.
     pub(crate) fn case(&mut self, at: u32, v: i128) -> Result<(IntKind, i128), WalkStop> {
         match self.switches.last_mut() {
-            Some(switch) => {
-                let value = switch.case(at, v)?;
-                Ok((switch.kind, value))
-            }
+            Some(switch) => match switch.case(v)? {
+                Some(value) => Ok((switch.kind, value)),
+                None => Err(violated(at, Code::Case)),
+            },
             None => Err(violated(at, Code::Outside)),
         }
     }
@@ -70,7 +70,13 @@ impl Body {
     /// A default label, whose token is given (C11 6.8.1p2, 6.8.4.2p3).
     pub(crate) fn fall_back(&mut self, at: u32) -> Result<(), WalkStop> {
         match self.switches.last_mut() {
-            Some(switch) => switch.fall_back(at),
+            Some(switch) => {
+                if switch.fall_back() {
+                    Ok(())
+                } else {
+                    Err(violated(at, Code::Case))
+                }
+            }
             None => Err(violated(at, Code::Outside)),
         }
     }

@@ -1,7 +1,9 @@
-use cil_base::{Code, IntKind, wrap};
+ghost use Rattle.std.specs.Prelude.{◌≡◌, ◌++◌, [], ◌∷◌, IfOk, IfSome};
+ghost use Rattle.cast_insert.specs.Cases.{case_value};
+
+use cil_base::{IntKind, Memory, wrap};
 use indexmap::IndexSet;
 use std::alloc::Global;
-use typed_parts::{WalkStop, violated};
 
 /// Whether a switch has a default.
 #[derive(Clone, Copy, Debug, PartialEq, Eq)]
@@ -29,22 +31,20 @@ impl Switch {
         }
     }
 
-    /// The value of a case label, converted to the switch's kind; no two are equal (C11 6.8.4.2p3, p5).
-    pub(crate) fn case(&mut self, at: u32, v: i128) -> Result<i128, WalkStop> {
+    /// The value of a case label, converted to the switch's kind; none where a label before has it (C11 6.8.4.2p3, p5).
+    pub(crate) fn case(&mut self, v: i128) -> Result<Option<i128>, Memory>
+        ensures value { IfOk result (λ n. n ≡ case_value self.old.kind self.old.values.keys v) }
+        ensures noted { IfOk result (λ n. IfSome n (λ value. self.new.values.keys ≡ self.old.values.keys ++ value ∷ [])) }
+    {
         let value = wrap(self.kind, v);
-        if self.values.contains(&value) {
-            return Err(violated(at, Code::Case));
-        }
-        self.values.insert(value)?;
-        Ok(value)
+        let (_place, is_new) = self.values.insert_full(value)?;
+        if is_new { Ok(Some(value)) } else { Ok(None) }
     }
 
-    /// A default label: there is one at most (C11 6.8.4.2p3).
-    pub(crate) fn fall_back(&mut self, at: u32) -> Result<(), WalkStop> {
-        if self.fallback == Fallback::Given {
-            return Err(violated(at, Code::Case));
-        }
+    /// Notes a default label. It answers whether it was the first (C11 6.8.4.2p3).
+    pub(crate) fn fall_back(&mut self) -> bool {
+        let first = self.fallback == Fallback::Missing;
         self.fallback = Fallback::Given;
-        Ok(())
+        first
     }
 }

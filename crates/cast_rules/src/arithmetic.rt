@@ -105,6 +105,7 @@ fn computed(alloc: Global, op: UnOp, e: TypedExp, t: &mut Types) -> Result<Typed
 }
 
 /// `! e` of a value: an int (C11 6.5.3.3p5).
+#[tactic(auto, using(crate::proofs::BuiltTypes::shape_built))]
 fn negated(alloc: Global, e: TypedExp, t: &mut Types) -> Result<TypedExp, LayoutStop>
     ensures { IfOk result (λ v. shape t.new.nodes v.ty.of.0 ≡ IntType Int) }
 {
@@ -286,6 +287,7 @@ fn lessened(
 }
 
 /// An operator that computes in the common type of its operands (C11 6.3.1.8p1).
+#[tactic(auto, using(crate::proofs::BuiltTypes::shape_built))]
 fn calculated(
     alloc: Global,
     op: BinOp,
@@ -333,6 +335,7 @@ fn met(meeting: Option<Meeting>, t: &mut Types) -> Result<TypeId, LayoutStop> {
 }
 
 /// A comparison in a type: an int.
+#[tactic(auto, using(crate::proofs::BuiltTypes::shape_built))]
 fn compared(
     alloc: Global,
     op: BinOp,
@@ -449,10 +452,11 @@ fn logical_node(
 }
 
 /// Two values with `&&` or `||` between them: an int (C11 6.5.13p3, 6.5.14p3).
+#[tactic(auto, using(crate::proofs::BuiltTypes::shape_built))]
 fn joined(alloc: Global, op: Logic, pair: Pair, t: &mut Types) -> Result<TypedExp, LayoutStop>
     ensures { IfOk result (λ v. shape t.new.nodes v.ty.of.0 ≡ IntType Int) }
 {
     let Pair { left, right } = pair;
-    let int = t.int(IntKind::Int)?;
-    Ok(typed_tree::logical(alloc, int, op, left, right)?)
+    let of = t.int(IntKind::Int)?;
+    Ok(typed_tree::logical(alloc, of, op, left, right)?)
 }

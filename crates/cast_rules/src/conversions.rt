@@ -25,7 +25,7 @@ pub(crate) struct Pair {
 
 /// Whether one type is the other, but perhaps for the qualifiers of what they point to: such a conversion changes no value.
 fn is_alike(t: &Types, from: TypeId, to: TypeId) -> bool
-    ensures { (kind : IntKind) → shape t.now.nodes to.0 ≡ IntType kind → IsTrue result → from ≡ to }
+    ensures { (kind : IntKind) → shape t.now.nodes to.0 ≡ IntType kind → IsTrue result → from.0 ≡ to.0 }
 {
     if from == to {
         return true;
@@ -38,13 +38,14 @@ fn is_alike(t: &Types, from: TypeId, to: TypeId) -> bool
 
 /// A value converted to a type as C does it unasked (C11 6.3): there is a node where the type changes, the qualifiers of what a pointer
 /// points to aside.
+#[tactic(auto, using(crate::proofs::BuiltTypes::shape_built))]
 pub(crate) fn converted(
     alloc: Global,
     to: TypeId,
     e: TypedExp,
     t: &Types,
 ) -> Result<TypedExp, LayoutStop>
-    ensures { (kind : IntKind) → shape t.now.nodes to.0 ≡ IntType kind → IfOk result (λ v. v.ty.of ≡ to) }
+    ensures { (kind : IntKind) → shape t.now.nodes to.0 ≡ IntType kind → IfOk result (λ v. shape t.now.nodes v.ty.of.0 ≡ IntType kind) }
 {
     if is_alike(t, e.ty().of, to) {
         return Ok(e);
