@@ -8,8 +8,8 @@ use decl_types::{
 use init_parts::{Filled, Storage};
 use type_graph::QualType;
 use typed_parts::{
-    DeclaredName, Places, Role, WalkStop, Walker, built, declare, impossible, named,
-    placed, specifiers_at,
+    DeclaredName, Places, Role, WalkStop, Walker, built, declare, impossible, named, placed,
+    specifiers_at,
 };
 use typed_tree::{Definition, TypedStmt};
 use unit_types::{Class, Types};

@@ -7,9 +7,7 @@ use cast_exprs::expr;
 use cast_rules::{Operand, scalar_test, switch_value, value};
 use cil_base::{Code, IntKind};
 use decl_types::Position;
-use typed_parts::{
-    WalkStop, Walker, constant_value, convert, impossible, placed, violated,
-};
+use typed_parts::{WalkStop, Walker, constant_value, convert, impossible, placed, violated};
 use typed_tree::{
     TypedExp, TypedStmt, break_jump, case_label, continue_jump, default_label, do_loop, evaluation,
     for_loop, goto, return_jump, switch, while_loop,

@@ -2,8 +2,7 @@ use crate::device::{A, B, F, PLAIN, RESERVED, Unit};
 use c_tree::StorageClass;
 use cil_base::{AggId, Code, EntityId, Fault, LocalId, RuleStop};
 use decl_types::{
-    Declaring, Form, Heading, Inline, MemberAt, NewName, PathStep, Prototype, array,
-    function,
+    Declaring, Form, Heading, Inline, MemberAt, NewName, PathStep, Prototype, array, function,
 };
 use std::process::Abort;
 use type_graph::{AggKind, QualType};
@@ -198,10 +197,28 @@ fn gives_numbers_back(rt: &impl Abort, u: &mut Unit) -> Result<(), RuleStop> {
     let parameter = Form::Parameter(PLAIN);
     u.d.enter()?;
     u.d.enter()?;
-    let inner = u.d.declare(NewName::of(A, &u.names), int, HEADING, parameter, &mut u.types)?;
+    let inner = u.d.declare(
+        NewName::of(A, &u.names),
+        int,
+        HEADING,
+        parameter,
+        &mut u.types,
+    )?;
     u.d.leave()?;
-    let first = u.d.declare(NewName::of(A, &u.names), int, HEADING, parameter, &mut u.types)?;
-    let second = u.d.declare(NewName::of(B, &u.names), int, HEADING, parameter, &mut u.types)?;
+    let first = u.d.declare(
+        NewName::of(A, &u.names),
+        int,
+        HEADING,
+        parameter,
+        &mut u.types,
+    )?;
+    let second = u.d.declare(
+        NewName::of(B, &u.names),
+        int,
+        HEADING,
+        parameter,
+        &mut u.types,
+    )?;
     assert!(rt; inner.what == Declaring::Local(LocalId(0)));
     assert!(rt; first.what == Declaring::Local(LocalId(0)));
     assert!(rt; second.what == Declaring::Local(LocalId(1)));
@@ -210,9 +227,21 @@ fn gives_numbers_back(rt: &impl Abort, u: &mut Unit) -> Result<(), RuleStop> {
     u.d.declare(NewName::of(F, &u.names), f, HEADING, body, &mut u.types)?;
     u.d.enter()?;
     u.d.enter()?;
-    u.d.declare(NewName::of(A, &u.names), int, HEADING, parameter, &mut u.types)?;
+    u.d.declare(
+        NewName::of(A, &u.names),
+        int,
+        HEADING,
+        parameter,
+        &mut u.types,
+    )?;
     u.d.leave()?;
-    let object = u.d.declare(NewName::of(A, &u.names), int, HEADING, Form::Plain, &mut u.types)?;
+    let object = u.d.declare(
+        NewName::of(A, &u.names),
+        int,
+        HEADING,
+        Form::Plain,
+        &mut u.types,
+    )?;
     assert!(rt; object.what == Declaring::Local(LocalId(2)));
     assert!(rt; u.d.compound_literal()? == 0);
     u.d.leave()?;
@@ -241,7 +270,9 @@ fn bounds(
         storage,
         inline: Inline::No,
     };
-    let d = u.d.declare(NewName::of(A, &u.names), ty, h, Form::Plain, &mut u.types)?;
+    let d = u
+        .d
+        .declare(NewName::of(A, &u.names), ty, h, Form::Plain, &mut u.types)?;
     let whole = match u.d.entity(EntityId(1)) {
         None => None,
         Some(e) => bound_of(&u.types, e.ty),
@@ -308,8 +339,20 @@ fn declares_by_place(u: &mut Unit) -> Result<(AggId, QualType), RuleStop> {
     u.d.enumerator(a, NewName::of(B, &u.names), None, &mut u.types)?;
     u.close(a)?;
     u.d.leave()?;
-    u.d.declare(NewName::of(A, &u.names), int, hidden, Form::Plain, &mut u.types)?;
-    u.d.declare(NewName::of(A, &u.names), int, hidden, Form::Plain, &mut u.types)?;
+    u.d.declare(
+        NewName::of(A, &u.names),
+        int,
+        hidden,
+        Form::Plain,
+        &mut u.types,
+    )?;
+    u.d.declare(
+        NewName::of(A, &u.names),
+        int,
+        hidden,
+        Form::Plain,
+        &mut u.types,
+    )?;
     Ok((a, int))
 }
 

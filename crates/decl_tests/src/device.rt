@@ -3,8 +3,8 @@ use cil_base::{
     Abi, AggId, Code, Fault, Feature, IntKind, NameId, NamePool, RuleStop, TypeId, What,
 };
 use decl_types::{
-    Behind, BodyForm, Declarer, Declaring, Form, Heading, Inline, MemberAt, NewName, PathStep, Position,
-    Prototype, array, function, heading_of, pointer,
+    Behind, BodyForm, Declarer, Declaring, Form, Heading, Inline, MemberAt, NewName, PathStep,
+    Position, Prototype, array, function, heading_of, pointer,
 };
 use std::alloc::Global;
 use type_graph::{AggKind, QualType, Quals};
@@ -202,7 +202,8 @@ impl Unit {
     fn alias(&mut self) -> Result<QualType, RuleStop> {
         let mut words = Vec::new(self.alloc);
         words.push(Specifier::TypedefName(0, A))?;
-        self.d.words(&words, Behind::Declarators, &self.names, &mut self.types)
+        self.d
+            .words(&words, Behind::Declarators, &self.names, &mut self.types)
     }
 
     /// A type over `struct s`.

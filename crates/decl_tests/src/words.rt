@@ -109,7 +109,10 @@ fn names_types(rt: &impl Abort, u: &mut Unit) -> Result<(), RuleStop> {
             Some(kind) => integer(&mut u.types, kind),
         };
         let words = specifiers(u.alloc, row)?;
-        assert!(rt; u.d.words(&words, Behind::Declarators, &u.names, &mut u.types) == told);
+        assert!(rt;
+            u.d.words(&words, Behind::Declarators, &u.names, &mut u.types)
+                == told
+        );
     }
     Ok(())
 }
@@ -146,7 +149,13 @@ const TYPEDEF: Heading = Heading {
 /// A type with a qualifier, by a typedef name.
 fn with_qualifier(u: &mut Unit, ty: QualType, one: Qualifier) -> Result<QualType, RuleStop> {
     u.d.enter()?;
-    u.d.declare(NewName::of(A, &u.names), ty, TYPEDEF, Form::Plain, &mut u.types)?;
+    u.d.declare(
+        NewName::of(A, &u.names),
+        ty,
+        TYPEDEF,
+        Form::Plain,
+        &mut u.types,
+    )?;
     let mut words = Vec::new(u.alloc);
     words.push(Specifier::TypedefName(0, A))?;
     words.push(Specifier::Qualifier(0, one))?;

@@ -177,7 +177,10 @@ impl Declarer {
     /// Whether a name that begins with `__builtin_` is declared otherwise than as the function `__builtin_memset` at file scope without a body.
     fn is_misnamed(&self, l: &Linking, t: &Types) -> bool {
         l.name.is_reserved()
-            && !(l.name.id() == self.memset && l.depth == 0 && !is_full(l) && is_function(t, l.ty.of))
+            && !(l.name.id() == self.memset
+                && l.depth == 0
+                && !is_full(l)
+                && is_function(t, l.ty.of))
     }
 
     /// The first constraint that a declaration violates.

@@ -190,7 +190,12 @@ impl Declarer {
     /// The aggregate of specifiers with a body, whose tag is in scope from here on (C11 6.2.1p7). It is open until `close_body`.
     ///
     /// `Specifiers`, `Tag`, `Reserved` and `Restrict` as by `words`; `Tag` also where the tag has a body already.
-    pub fn open_body(&mut self, s: &[Specifier], names: &NamePool, t: &mut Types) -> Result<AggId, RuleStop>
+    pub fn open_body(
+        &mut self,
+        s: &[Specifier],
+        names: &NamePool,
+        t: &mut Types,
+    ) -> Result<AggId, RuleStop>
         ensures { IfErr result (IsRefusal of_specifiers) }
     {
         let spelled = spelled_by(s)?;
@@ -244,15 +249,7 @@ impl Declarer {
     ) -> Result<(), RuleStop>
         ensures { IfErr result (IsRefusal of_member) }
     {
-        self.bodies.member(
-            a,
-            NewMember {
-                name: n,
-                ty,
-                at,
-            },
-            t,
-        )
+        self.bodies.member(a, NewMember { name: n, ty, at }, t)
     }
 
     /// Adds an anonymous struct or union to an open one (C11 6.7.2.1p13), with the type that `close_body` gave just before for a body without a tag.
@@ -293,7 +290,8 @@ impl Declarer {
             return Err(bad(Code::Reserved));
         }
         let ty = int(t)?;
-        self.bodies.enumerator(a, Member::named(n.id(), ty, v as i32))?;
+        self.bodies
+            .enumerator(a, Member::named(n.id(), ty, v as i32))?;
         self.ordinary.push(Ordinary::Enumerator(a, index))?;
         self.names.declare(
             n.id(),
