@@ -1,3 +1,5 @@
 pub mod BodyLaws
 pub mod Kept
+pub mod MapLaws
+pub mod Replaced
 pub mod RetypedLaws

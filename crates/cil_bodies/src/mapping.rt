@@ -1,3 +1,5 @@
+ghost use Rattle.std.specs.Prelude.{◌≡◌, Some, slice_get, IfOk};
+
 use cil_base::{EntityId, Memory, TypeId};
 
 /// What an object or function of a unit is in a program.
@@ -20,7 +22,9 @@ pub struct Mapping<'a> {
 
 impl Mapping<'_> {
     /// What a type is. Of one that is not there it answers Memory.
-    pub fn ty(&self, t: TypeId) -> Result<TypeId, Memory> {
+    pub fn ty(&self, t: TypeId) -> Result<TypeId, Memory>
+        ensures { IfOk result (λ u. slice_get self.now.types.now t.0 ≡ Some u) }
+    {
         match self.types.get(t.0 as usize) {
             Some(found) => Ok(*found),
             None => Err(impossible()),
@@ -28,7 +32,9 @@ impl Mapping<'_> {
     }
 
     /// What an object or function is. Of one that is not there it answers Memory.
-    pub fn entity(&self, e: EntityId) -> Result<Use, Memory> {
+    pub fn entity(&self, e: EntityId) -> Result<Use, Memory>
+        ensures { IfOk result (λ u. slice_get self.now.uses.now e.0 ≡ Some u) }
+    {
         match self.uses.get(e.0 as usize) {
             Some(found) => Ok(*found),
             None => Err(impossible()),
