@@ -1,4 +1,4 @@
-ghost use Rattle.std.specs.Prelude.{IfOk, OnOk};
+ghost use Rattle.std.specs.Prelude.{OnOk};
 ghost use Rattle.cil_bodies.specs.Maps.{MapsBody, MapsConstant, MapsDefinition, MapsItem, MapsItems, MapsLocal, MapsLocals};
 
 use crate::mapping::Mapping;
@@ -7,12 +7,21 @@ use cil_base::{Constant, Memory};
 use cil_tree::{Body, GlobalDef, ImageItem, Local};
 use std::alloc::Global;
 
+/// Maps the type of a local.
+#[tactic(auto, using(crate::proofs::DefinitionLaws::local_maps))]
+fn map_local(local: &mut Local, m: &Mapping<'_>) -> Result<(), Memory>
+    ensures { OnOk result (MapsLocal m.now local.old local.new) }
+{
+    local.ty = m.ty(local.ty)?;
+    Ok(())
+}
+
 /// Maps the types of locals.
 fn map_locals(locals: &mut Vec<Local>, m: &Mapping<'_>) -> Result<(), Memory>
     ensures { OnOk result (MapsLocals m.now locals.old.items locals.new.items) }
 {
     for i in 0..locals.len() {
-        locals[i].ty = m.ty(locals[i].ty)?;
+        map_local(&mut locals[i], m)?;
     }
     Ok(())
 }
@@ -26,14 +35,29 @@ pub fn map_body(alloc: Global, body: &mut Body, m: &Mapping<'_>) -> Result<(), M
 }
 
 /// Maps a constant.
-fn mapped_constant(value: Constant, m: &Mapping<'_>) -> Result<Constant, Memory>
-    ensures { IfOk result (MapsConstant m.now value) }
+#[tactic(auto, using(crate::proofs::DefinitionLaws::object_maps, crate::proofs::DefinitionLaws::function_maps))]
+fn map_constant(value: &mut Constant, m: &Mapping<'_>) -> Result<(), Memory>
+    ensures { OnOk result (MapsConstant m.now value.old value.new) }
 {
     match value {
-        Constant::Int(kind, n) => Ok(Constant::Int(kind, n)),
-        Constant::Address(e, offset) => Ok(Constant::Address(m.entity(e)?.entity, offset)),
-        Constant::Function(e) => Ok(Constant::Function(m.entity(e)?.entity)),
+        Constant::Int(..) => Ok(()),
+        Constant::Address(e, _) => {
+            *e = m.entity(*e)?.entity;
+            Ok(())
+        }
+        Constant::Function(e) => {
+            *e = m.entity(*e)?.entity;
+            Ok(())
+        }
     }
+}
+
+/// Maps a scalar of an initialised object.
+#[tactic(auto, using(crate::proofs::DefinitionLaws::item_maps))]
+fn map_item(item: &mut ImageItem, m: &Mapping<'_>) -> Result<(), Memory>
+    ensures { OnOk result (MapsItem m.now item.old item.new) }
+{
+    map_constant(&mut item.value, m)
 }
 
 /// Maps the scalars of an initialised object.
@@ -41,7 +65,7 @@ fn map_image(items: &mut Vec<ImageItem>, m: &Mapping<'_>) -> Result<(), Memory>
     ensures { OnOk result (MapsItems m.now items.old.items items.new.items) }
 {
     for i in 0..items.len() {
-        items[i].value = mapped_constant(items[i].value, m)?;
+        map_item(&mut items[i], m)?;
     }
     Ok(())
 }

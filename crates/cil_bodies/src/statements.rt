@@ -104,7 +104,8 @@ fn map_stmt(alloc: Global, s: &mut Stmt, m: &Mapping<'_>) -> Result<(), Memory>
             map_exp(alloc, value, m)?;
             map_stmts(alloc, body, m)
         }
-        Stmt::Loop(body) | Stmt::Block(body) => map_stmts(alloc, body, m),
+        Stmt::Loop(body) => map_stmts(alloc, body, m),
+        Stmt::Block(body) => map_stmts(alloc, body, m),
         Stmt::Return(value) => map_return(alloc, value, m),
         Stmt::Label(_) | Stmt::Case(..) | Stmt::Default | Stmt::Goto(_) | Stmt::Break => Ok(()),
     }
