@@ -11,6 +11,7 @@
 mod bodies;
 mod definitions;
 mod expressions;
+mod laws;
 mod mapping;
 mod retyping;
 mod statements;
@@ -18,6 +19,7 @@ mod statements;
 pub use bodies::new_body;
 pub use definitions::{map_body, map_definition};
 pub use expressions::{map_exp, map_place};
+pub use laws::grown_types_keep_trees;
 pub use mapping::{Mapping, Use};
 pub use retyping::{retyped, retyped_pointer};
 pub use statements::map_stmts;
