@@ -1,4 +1,6 @@
-ghost use Rattle.std.specs.Prelude.{◌≡◌, Some, slice_get, IfOk};
+ghost use Rattle.std.specs.Prelude.{◌≡◌, Some, Ok, slice_get, IfOk};
+ghost use Rattle.cil_base.specs.declared.numbers.TypeId.{TypeId};
+ghost use Rattle.cil_bodies.specs.declared.mapping.Use.{Use};
 
 use cil_base::{EntityId, Memory, TypeId};
 
@@ -23,7 +25,8 @@ pub struct Mapping<'a> {
 impl Mapping<'_> {
     /// What a type is. Of one that is not there it answers Memory.
     pub fn ty(&self, t: TypeId) -> Result<TypeId, Memory>
-        ensures { IfOk result (λ u. slice_get self.now.types.now t.0 ≡ Some u) }
+        ensures is { IfOk result (λ u. slice_get self.now.types.now t.0 ≡ Some u) }
+        ensures there { (u : TypeId) → slice_get self.now.types.now t.0 ≡ Some u → result ≡ Ok u }
     {
         match self.types.get(t.0 as usize) {
             Some(found) => Ok(*found),
@@ -33,7 +36,8 @@ impl Mapping<'_> {
 
     /// What an object or function is. Of one that is not there it answers Memory.
     pub fn entity(&self, e: EntityId) -> Result<Use, Memory>
-        ensures { IfOk result (λ u. slice_get self.now.uses.now e.0 ≡ Some u) }
+        ensures is { IfOk result (λ u. slice_get self.now.uses.now e.0 ≡ Some u) }
+        ensures there { (u : Use) → slice_get self.now.uses.now e.0 ≡ Some u → result ≡ Ok u }
     {
         match self.uses.get(e.0 as usize) {
             Some(found) => Ok(*found),
