@@ -1,5 +1,5 @@
 -- Device: names of locals, one by one.
-use Rattle.std.proofs.Common.{◌≡◌, ℕ, zero, suc, ◌+◌, ◌<◌, ◌≤◌, List, [], ◌∷◌, ◌++◌, length, take, get_or, refl, sym, ap, ◌∙◌, add-one, subst, arith, append-nil}
+use Rattle.std.proofs.Common.{◌≡◌, ℕ, zero, suc, ◌+◌, ◌<◌, ◌≤◌, List, [], ◌∷◌, ◌++◌, length, take, get_or, refl, sym, ap, ◌∙◌, add-one, arith}
 use Rattle.cil_base.specs.declared.numbers.NameId.{NameId}
 use Rattle.cil_tree.specs.declared.globals.Local.{Local}
 use Rattle.cil_bodies.specs.Bodies.{names_of}

@@ -1,11 +1,10 @@
 -- Device: a tree whose types stand in a graph is seen the same in a graph that grew from it.
-use Rattle.std.proofs.Common.{◌≡◌, ℕ, suc, ◌<◌, ◌≤◌, max, Bool, true, false, cond, List, [], ◌∷◌, ◌++◌, Option, Some, None, length, map, nat_lt, refl, sym, ap, ◌∙◌, arith, length-append}
+use Rattle.std.proofs.Common.{◌≡◌, ℕ, suc, ◌<◌, ◌≤◌, max, true, cond, List, [], ◌∷◌, Option, Some, None, length, map, nat_lt, refl, sym, ap, ◌∙◌, arith, length-append}
 use Rattle.std.proofs.Math.Nat.{le-max_left, le-max_right, le_trans}
 use Rattle.std.specs.Option.{option_map}
 use Rattle.cil_base.specs.declared.numbers.TypeId.{TypeId}
 use Rattle.type_graph.specs.Arena.{Graph}
 use Rattle.type_graph.specs.Growth.{Grows}
-use Rattle.type_graph.specs.Shapes.{shape}
 use Rattle.type_graph.proofs.ShapeLaws.{kept as shape_kept}
 use Rattle.cil_tree.specs.declared.expressions.Exp.{Exp, Const, Lval', Un', Bin', Cast', AddrOf', StartOf', Row_of-Offset, end_of-Offset, more_of-Offset}
 use Rattle.cil_tree.specs.declared.expressions.Host.{Host, Global, Var, At'}

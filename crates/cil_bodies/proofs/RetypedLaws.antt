@@ -1,8 +1,7 @@
 -- Device: nodes of a use at another type, put together.
-use Rattle.std.proofs.Common.{◌≡◌, ℕ, List, [], refl, sym, ap, ◌∙◌}
+use Rattle.std.proofs.Common.{◌≡◌, ℕ, [], ap, ◌∙◌}
 use Rattle.cil_base.specs.declared.numbers.EntityId.{EntityId}
 use Rattle.cil_base.specs.declared.numbers.TypeId.{TypeId}
-use Rattle.type_graph.specs.declared.nodes.Node.{Node}
 use Rattle.cil_tree.specs.declared.expressions.Exp.{Exp as SeenExp}
 use Rattle.cil_tree.specs.declared.expressions.Host.{Host as SeenHost, Global}
 use Rattle.cil_tree.specs.declared.expressions.Lval.{Lval as SeenLval}

@@ -1,11 +1,8 @@
 -- Definition: a body that has its parameters, and no other local, no label and no statement (C11 6.9.1). The parameters are the first locals, under their names.
-use Rattle.std.specs.Prelude.{◌≡◌, ℕ, List, [], ◌∷◌, map}
+use Rattle.std.specs.Prelude.{◌≡◌, List, [], ◌∷◌}
 use Rattle.cil_base.specs.declared.numbers.NameId.{NameId}
-use Rattle.type_graph.specs.declared.nodes.Node.{Node}
 use Rattle.cil_tree.specs.declared.globals.Body.{Body as SeenBody}
 use Rattle.cil_tree.specs.declared.globals.Local.{Local as SeenLocal}
-use Rattle.cil_tree.specs.Tree.{Done}
-use Rattle.cil_tree.specs.View.{body_of, local_of, text_at}
 
 abbrev pub names_of : List SeenLocal → List NameId
 names_of [] = []

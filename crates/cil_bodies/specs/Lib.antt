@@ -1,3 +1,5 @@
 pub mod Bodies
+pub mod Mapped
+pub mod Maps
 pub mod Retyped
 pub mod Top

@@ -1,8 +1,9 @@
 //! Bodies of CIL's functions as wholes: a new one, a use of an object or function at another type, and a body whose numbers of types, objects
 //! and functions are put for others.
 //!
-//! Its public contract says what tree a new body, and a use at another type, stands for. A law: a tree whose types stand in a graph is seen the
-//! same in a graph that grew from it. Of the numbers that are put for others it says nothing yet but that the call ends.
+//! Its public contract says what tree a new body, and a use at another type, stands for, and what tree is left where numbers are put for
+//! others: that of the tree before, with what a mapping has for each type, object and function. A law: a tree whose types stand in a graph is
+//! seen the same in a graph that grew from it.
 //!
 //! The trees are those of C11 6.5, 6.8 and 6.9.1.
 #![tactic(auto)]
@@ -10,6 +11,7 @@
 mod bodies;
 mod definitions;
 mod expressions;
+mod laws;
 mod mapping;
 mod retyping;
 mod statements;
@@ -17,6 +19,7 @@ mod statements;
 pub use bodies::new_body;
 pub use definitions::{map_body, map_definition};
 pub use expressions::{map_exp, map_place};
+pub use laws::grown_types_keep_trees;
 pub use mapping::{Mapping, Use};
 pub use retyping::{retyped, retyped_pointer};
 pub use statements::map_stmts;

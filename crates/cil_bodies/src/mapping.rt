@@ -1,3 +1,7 @@
+ghost use Rattle.std.specs.Prelude.{◌≡◌, Some, Ok, slice_get, IfOk};
+ghost use Rattle.cil_base.specs.declared.numbers.TypeId.{TypeId};
+ghost use Rattle.cil_bodies.specs.declared.mapping.Use.{Use};
+
 use cil_base::{EntityId, Memory, TypeId};
 
 /// What an object or function of a unit is in a program.
@@ -20,7 +24,10 @@ pub struct Mapping<'a> {
 
 impl Mapping<'_> {
     /// What a type is. Of one that is not there it answers Memory.
-    pub fn ty(&self, t: TypeId) -> Result<TypeId, Memory> {
+    pub fn ty(&self, t: TypeId) -> Result<TypeId, Memory>
+        ensures is { IfOk result (λ u. slice_get self.now.types.now t.0 ≡ Some u) }
+        ensures there { (u : TypeId) → slice_get self.now.types.now t.0 ≡ Some u → result ≡ Ok u }
+    {
         match self.types.get(t.0 as usize) {
             Some(found) => Ok(*found),
             None => Err(impossible()),
@@ -28,7 +35,10 @@ impl Mapping<'_> {
     }
 
     /// What an object or function is. Of one that is not there it answers Memory.
-    pub fn entity(&self, e: EntityId) -> Result<Use, Memory> {
+    pub fn entity(&self, e: EntityId) -> Result<Use, Memory>
+        ensures is { IfOk result (λ u. slice_get self.now.uses.now e.0 ≡ Some u) }
+        ensures there { (u : Use) → slice_get self.now.uses.now e.0 ≡ Some u → result ≡ Ok u }
+    {
         match self.uses.get(e.0 as usize) {
             Some(found) => Ok(*found),
             None => Err(impossible()),

@@ -1,5 +1,5 @@
 -- Device: const members stay what they are while an arena grows.
-use Rattle.std.proofs.Common.{◌≡◌, ℕ, zero, suc, ◌+◌, ◌<◌, ◌≤◌, nat_lt, get_or, Bool, true, false, cond, ◌&&◌, ◌||◌, not, List, [], ◌∷◌, ◌++◌, length, slice_get, Option, Some, None, ◌⊎◌, inl, inr, ◌↔◌, IsTrue, refl, sym, ap, ◌∙◌, subst, eqb, eqb-true, eq-eqb, true≢false, ltb-false, arith}
+use Rattle.std.proofs.Common.{◌≡◌, ℕ, zero, suc, ◌+◌, ◌<◌, ◌≤◌, nat_lt, get_or, Bool, true, false, cond, ◌&&◌, ◌||◌, not, List, [], ◌∷◌, ◌++◌, length, slice_get, Some, None, ◌⊎◌, inl, inr, ◌↔◌, IsTrue, refl, sym, ap, ◌∙◌, subst, eqb, eqb-true, eq-eqb, true≢false, ltb-false, arith}
 use borrow.Author.Tests.{ltb-true}
 use Rattle.std.proofs.Math.ListN.{set}
 use Rattle.std.specs.Option.{option_and_then, is_some}

@@ -1,5 +1,5 @@
 -- Device: lists of members, one by one.
-use Rattle.std.proofs.Common.{◌≡◌, ◌≢◌, ℕ, zero, suc, ◌+◌, ◌<◌, ◌≤◌, Bool, true, false, ◌&&◌, ◌||◌, nat_lt, nat_eq, List, [], ◌∷◌, length, drop, get_or, add-one, lt-ltb, eqb-true, eq-eqb, true≢false, refl, sym, ap, ◌∙◌, subst, arith}
+use Rattle.std.proofs.Common.{◌≡◌, ◌≢◌, ℕ, zero, suc, ◌+◌, ◌<◌, ◌≤◌, Bool, true, false, ◌&&◌, ◌||◌, nat_lt, nat_eq, List, [], ◌∷◌, length, drop, get_or, add-one, lt-ltb, eqb-true, eq-eqb, true≢false, refl, sym, ap, ◌∙◌, arith}
 use Rattle.type_graph.specs.declared.aggregates.AggKind.{AggKind}
 use Rattle.type_graph.specs.declared.aggregates.Member.{Member}
 use Rattle.type_graph.specs.Shapes.{shape}
@@ -61,20 +61,23 @@ none_left g kind behind (m ∷ ms) (suc i) h = none_left g kind behind ms i (ome
 pub fit_ends : (g : Graph) (kind : AggKind) (ms : List Member) (i : ℕ) → length ms ≤ i → members_fit g kind (nat_lt 0 i) (drop i ms) ≡ members_fit g kind false ms → true ≡ members_fit g kind false ms
 fit_ends g kind ms i h inv = sym (none_left g kind (nat_lt 0 i) ms i h) ∙ inv
 
-pub normal_next : (g : Graph) (ms : List Member) (i : ℕ) (d : Member) → i < length ms → is_normal (get_or ms i d).ty.quals (shape g.nodes (get_or ms i d).ty.of.0) ≡ true
-    → (normal_members g (drop i ms) ≡ true → normal_members g ms ≡ true) → normal_members g (drop (i + 1) ms) ≡ true → normal_members g ms ≡ true
-normal_next g ms i d h is all rest = all (at ms i d h is (subst (λ k. normal_members g (drop k ms) ≡ true) (add-one i) rest))
-  where
-    at : (ms : List Member) (i : ℕ) (d : Member) → i < length ms → normal_member g (get_or ms i d) ≡ true → normal_members g (drop (suc i) ms) ≡ true → normal_members g (drop i ms) ≡ true
-    at [] i d h is rest = absurd (omega arith)
-    at (m ∷ ms) zero d h is rest = ap (λ b. b && normal_members g ms) is ∙ rest
-    at (m ∷ ms) (suc i) d h is rest = at ms i d (omega arith) is rest
+normal_at : (g : Graph) (ms : List Member) (i : ℕ) (d : Member) → i < length ms → normal_members g (drop i ms) ≡ (normal_member g (get_or ms i d) && normal_members g (drop (suc i) ms))
+normal_at g [] i d h = absurd (omega arith)
+normal_at g (m ∷ ms) zero d h = refl
+normal_at g (m ∷ ms) (suc i) d h = normal_at g ms i d (omega arith)
 
-pub normal_ends : (g : Graph) (ms : List Member) (i : ℕ) → length ms ≤ i → (normal_members g (drop i ms) ≡ true → normal_members g ms ≡ true) → normal_members g ms ≡ true
-normal_ends g ms i h all = all (at ms i h)
-  where
-    at : (ms : List Member) (i : ℕ) → length ms ≤ i → normal_members g (drop i ms) ≡ true
-    at [] zero h = refl
-    at [] (suc i) h = refl
-    at (m ∷ ms) zero h = absurd (omega arith)
-    at (m ∷ ms) (suc i) h = at ms i (omega arith)
+pub normal_stops : (g : Graph) (ms : List Member) (i : ℕ) (d : Member) → i < length ms → is_normal (get_or ms i d).ty.quals (shape g.nodes (get_or ms i d).ty.of.0) ≡ false → normal_members g (drop i ms) ≡ normal_members g ms → false ≡ normal_members g ms
+normal_stops g ms i d h is same = sym (normal_at g ms i d h ∙ ap (λ b. b && normal_members g (drop (suc i) ms)) is) ∙ same
+
+pub normal_next : (g : Graph) (ms : List Member) (i : ℕ) (d : Member) → i < length ms → is_normal (get_or ms i d).ty.quals (shape g.nodes (get_or ms i d).ty.of.0) ≡ true → normal_members g (drop i ms) ≡ normal_members g ms
+    → normal_members g (drop (i + 1) ms) ≡ normal_members g ms
+normal_next g ms i d h is same = ap (λ k. normal_members g (drop k ms)) (add-one i) ∙ sym (normal_at g ms i d h ∙ ap (λ b. b && normal_members g (drop (suc i) ms)) is) ∙ same
+
+no_more : (g : Graph) (ms : List Member) (i : ℕ) → length ms ≤ i → normal_members g (drop i ms) ≡ true
+no_more g [] zero h = refl
+no_more g [] (suc i) h = refl
+no_more g (m ∷ ms) zero h = absurd (omega arith)
+no_more g (m ∷ ms) (suc i) h = no_more g ms i (omega arith)
+
+pub normal_ends : (g : Graph) (ms : List Member) (i : ℕ) → length ms ≤ i → normal_members g (drop i ms) ≡ normal_members g ms → true ≡ normal_members g ms
+normal_ends g ms i h same = sym (no_more g ms i h) ∙ same

@@ -19,3 +19,11 @@ each_end n i ts h all = all (at n i ts h)
     at n (suc i) [] h = tt
     at n zero (t ∷ ts) h = absurd (omega arith)
     at n (suc i) (t ∷ ts) h = at n i ts (omega arith)
+
+each_at : (n i : ℕ) (ts : List TypeId) (d : TypeId) → i < length ts → EachType n ts → (get_or ts i d).0 < n
+each_at n i [] d less each = absurd (omega arith)
+each_at n zero (t ∷ ts) d less each = each.0
+each_at n (suc i) (t ∷ ts) d less each = each_at n i ts d (omega arith) each.1
+
+pub each_not : (n i : ℕ) (ts : List TypeId) (d : TypeId) → i < length ts → n ≤ (get_or ts i d).0 → EachType n ts → ⊥
+each_not n i ts d less past each = absurd (omega (arith, each_at n i ts d less each, past))

@@ -26,12 +26,21 @@ fn bears(g: &TypeGraph, t: TypeId) -> bool
     }
 }
 
+/// Whether a qualified type is no qualified array or function; one that is not there is none.
+#[tactic(auto, using(type_graph::proofs::ShapeLaws::shape_past))]
+fn has_normal_form(g: &TypeGraph, q: QualType) -> bool
+    ensures { result ≡ is_normal q.quals (shape g.now.nodes q.of.0) }
+{
+    is_plain(q.quals) || q.of.0 >= g.len() || bears(g, q.of)
+}
+
 /// Whether a qualified type is there, and is no qualified array or function.
 pub(crate) fn is_normal(g: &TypeGraph, q: QualType) -> bool
     ensures there { IsTrue result → q.of.0 < length g.now.nodes }
     ensures normal { IsTrue result → is_normal q.quals (shape g.now.nodes q.of.0) ≡ true }
+    ensures whole { q.of.0 < length g.now.nodes → is_normal q.quals (shape g.now.nodes q.of.0) ≡ true → IsTrue result }
 {
-    q.of.0 < g.len() && (is_plain(q.quals) || bears(g, q.of))
+    q.of.0 < g.len() && has_normal_form(g, q)
 }
 
 /// Whether the qualified type that a type names is in normal form.
@@ -114,13 +123,13 @@ pub fn members_fit(g: &TypeGraph, kind: AggKind, members: &[Member]) -> bool
     true
 }
 
-/// Whether no member has a qualified array or function type, or one that is not there.
-#[tactic(auto, using(crate::proofs::MemberLists::normal_next, crate::proofs::MemberLists::normal_ends))]
+/// Whether no member has a qualified array or function type.
+#[tactic(auto, using(crate::proofs::MemberLists::normal_stops, crate::proofs::MemberLists::normal_next, crate::proofs::MemberLists::normal_ends))]
 fn are_normal(g: &TypeGraph, members: &[Member]) -> bool
-    ensures { IsTrue result → normal_members g.now members.now ≡ true }
+    ensures { result ≡ normal_members g.now members.now }
 {
     for i in 0..members.len() {
-        if !is_normal(g, members[i].ty) {
+        if !has_normal_form(g, members[i].ty) {
             return false;
         }
     }
@@ -133,6 +142,7 @@ pub fn can_complete(g: &TypeGraph, a: AggId, members: &[Member]) -> bool
     ensures incomplete { IsTrue result → members_of g.now.aggs a.0 ≡ None }
     ensures fit { IsTrue result → (x : Aggregate) → slice_get g.now.aggs a.0 ≡ Some x → members_fit g.now x.kind false members.now ≡ true }
     ensures normal { IsTrue result → normal_members g.now members.now ≡ true }
+    ensures whole { (x : Aggregate) → slice_get g.now.aggs a.0 ≡ Some x → x.members ≡ None → members_fit g.now x.kind false members.now ≡ true → normal_members g.now members.now ≡ true → IsTrue result }
 {
     if a.0 >= g.agg_count() || g.agg(a).members.is_some() {
         return false;

@@ -397,9 +397,10 @@ fn impossible() -> LayoutStop
 }
 
 /// Whether types are there.
-#[tactic(auto, using(crate::proofs::TypeLists::each_next, crate::proofs::TypeLists::each_end))]
+#[tactic(auto, using(crate::proofs::TypeLists::each_next, crate::proofs::TypeLists::each_end, crate::proofs::TypeLists::each_not))]
 fn are_there(g: &TypeGraph, types: &[TypeId]) -> bool
-    ensures { IsTrue result → EachType (length g.now.nodes) types.now }
+    ensures each { IsTrue result → EachType (length g.now.nodes) types.now }
+    ensures whole { EachType (length g.now.nodes) types.now → IsTrue result }
 {
     for t in types {
         if t.0 >= g.len() {
