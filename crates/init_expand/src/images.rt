@@ -262,7 +262,7 @@ fn element_kind(o: Object, path: &Path) -> Option<IntKind> {
 }
 
 /// What a step gives the elements of an array.
-fn characters<'a>(
+fn characters_of<'a>(
     o: Object,
     step: usize,
     path: &Path,
@@ -349,7 +349,7 @@ fn add_step(
             if !is_behind(object, path, image)? {
                 return Ok(false);
             }
-            let text = characters(object, number, path, bytes)?;
+            let text = characters_of(object, number, path, bytes)?;
             add_characters(types, ty, s, text, image)
         }
         Some(InitStep::Scalar(..) | InitStep::Aggregate(..)) | None => Err(impossible()),
@@ -397,12 +397,7 @@ fn items_by_offset(
 }
 
 /// The scalars of an image.
-fn all_items(
-    alloc: Global,
-    types: &Types,
-    ty: TypeId,
-    s: Steps,
-) -> Result<Vec<ImageItem>, Memory>
+fn all_items(alloc: Global, types: &Types, ty: TypeId, s: Steps) -> Result<Vec<ImageItem>, Memory>
     ensures none { IfOk result (λ found. HasNoZero found.items) }
     ensures rising { IfOk result (λ found. IsRising types.now (shape types.now.nodes ty.0) found.items) }
     ensures scalars { IfOk result (λ found. AreScalars types.now (shape types.now.nodes ty.0) found.items) }
