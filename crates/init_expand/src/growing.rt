@@ -43,9 +43,14 @@ impl Growing {
         }
     }
 
-    /// Adds a scalar of an object of a type that is not zero.
+    /// Whether a part that begins at an offset stands behind all scalars.
+    pub(crate) fn ends_before(&self, offset: u64) -> bool {
+        self.least <= offset
+    }
+
+    /// Adds a scalar of an object of a type that is not zero, and answers whether it stands behind all others; one that does not is left out.
     #[tactic(auto, using(crate::proofs::ImageLaws::none_pushed))]
-    pub(crate) fn add(&mut self, types: &Types, ty: TypeId, item: ImageItem) -> Result<(), Memory>
+    pub(crate) fn add(&mut self, types: &Types, ty: TypeId, item: ImageItem) -> Result<bool, Memory>
         requires { is_zero item.value ≡ false }
         ensures none { OnOk result (HasNoZero self.old.items.items → HasNoZero self.new.items.items) }
         ensures rises { OnOk result (RisesTo types.now (shape types.now.nodes ty.0) 0 self.old.items.items self.old.least → RisesTo types.now (shape types.now.nodes ty.0) 0 self.new.items.items self.new.least) }
@@ -55,13 +60,13 @@ impl Growing {
             return Err(impossible());
         };
         if at.offset < self.least {
-            return Err(impossible());
+            return Ok(false);
         }
         let Some(least) = at.offset.checked_add(1) else {
             return Err(impossible());
         };
         self.items.push(item)?;
         self.least = least;
-        Ok(())
+        Ok(true)
     }
 }

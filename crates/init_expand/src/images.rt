@@ -1,4 +1,4 @@
-ghost use Rattle.std.specs.Prelude.{◌≡◌, IfOk, OnOk};
+ghost use Rattle.std.specs.Prelude.{◌≡◌, IfOk, IfSome, OnOk};
 ghost use Rattle.type_graph.specs.Shapes.{shape};
 ghost use Rattle.init_expand.specs.Images.{is_zero, HasNoZero, AreScalars, IsRising, IsImage};
 ghost use Rattle.init_expand.specs.Spots.{RisesTo};
@@ -6,7 +6,7 @@ ghost use Rattle.init_expand.specs.Spots.{RisesTo};
 use crate::growing::{Growing, impossible, is_zero};
 use crate::spots::{element, end, kind_of, part_at, plain_step};
 use crate::sweep::{Event, Given, Placed, What, swept};
-use cil_base::{Bytes, Constant, EntityId, Memory, TypeId, wrap};
+use cil_base::{Bytes, Constant, EntityId, IntKind, Memory, TypeId, wrap};
 use cil_check::unions_agree;
 use cil_tree::{GlobalDef, ImageItem, Step};
 use std::alloc::Global;
@@ -195,20 +195,20 @@ fn item(alloc: Global, s: Steps, given: Given) -> Result<ImageItem, Memory>
     Ok(ImageItem { path, value })
 }
 
-/// Adds the scalar that a step gives a value to an image, unless it is zero.
+/// Adds the scalar that a step gives a value to an image, unless it is zero, and answers whether it stands behind all others.
 fn add_item(
     types: &Types,
     ty: TypeId,
     s: Steps,
     given: Given,
     image: &mut Growing,
-) -> Result<(), Memory>
+) -> Result<bool, Memory>
     ensures none { OnOk result (HasNoZero image.old.items.items → HasNoZero image.new.items.items) }
     ensures rises { OnOk result (RisesTo types.now (shape types.now.nodes ty.0) 0 image.old.items.items image.old.least → RisesTo types.now (shape types.now.nodes ty.0) 0 image.new.items.items image.new.least) }
     ensures scalars { OnOk result (AreScalars types.now (shape types.now.nodes ty.0) image.old.items.items → AreScalars types.now (shape types.now.nodes ty.0) image.new.items.items) }
 {
     if is_zero(given.value) {
-        return Ok(());
+        return Ok(true);
     }
     let alloc = *image.items.allocator();
     let item = item(alloc, s, given)?;
@@ -230,9 +230,182 @@ fn items(
 {
     let mut image = Growing::new(alloc);
     for placed in kept {
-        add_item(types, ty, s, placed.given, &mut image)?;
+        if !add_item(types, ty, s, placed.given, &mut image)? {
+            return Err(impossible());
+        }
     }
     Ok(image.items)
+}
+
+/// Whether a part stands behind all scalars of an image, where making it zero changes none.
+fn is_behind(o: Object, path: &Path, image: &Growing) -> Result<bool, Memory> {
+    match part_at(o.types, o.ty, path) {
+        Some(at) => Ok(image.ends_before(at.offset)),
+        None => Err(impossible()),
+    }
+}
+
+/// What a step gives the elements of an array: characters, of the kind of the elements.
+#[derive(Clone, Copy)]
+struct Characters<'a> {
+    /// The place of the step among the steps.
+    step: usize,
+    kind: IntKind,
+    bytes: &'a [u8],
+}
+
+/// The kind of the elements of an array that a path leads to, if it leads to one.
+fn element_kind(o: Object, path: &Path) -> Option<IntKind> {
+    let array = part_at(o.types, o.ty, path)?;
+    let first = element(o.types, array, 0)?;
+    kind_of(o.types, first.ty)
+}
+
+/// What a step gives the elements of an array.
+fn characters_of<'a>(
+    o: Object,
+    step: usize,
+    path: &Path,
+    bytes: &'a Bytes,
+) -> Result<Characters<'a>, Memory> {
+    match element_kind(o, path) {
+        Some(kind) => Ok(Characters {
+            step,
+            kind,
+            bytes: bytes.as_slice(),
+        }),
+        None => Err(impossible()),
+    }
+}
+
+/// Adds the characters that a step gives the elements of an array, and answers whether each stands behind all other scalars.
+fn add_characters(
+    types: &Types,
+    ty: TypeId,
+    s: Steps,
+    text: Characters,
+    image: &mut Growing,
+) -> Result<bool, Memory>
+    ensures none { OnOk result (HasNoZero image.old.items.items → HasNoZero image.new.items.items) }
+    ensures rises { OnOk result (RisesTo types.now (shape types.now.nodes ty.0) 0 image.old.items.items image.old.least → RisesTo types.now (shape types.now.nodes ty.0) 0 image.new.items.items image.new.least) }
+    ensures scalars { OnOk result (AreScalars types.now (shape types.now.nodes ty.0) image.old.items.items → AreScalars types.now (shape types.now.nodes ty.0) image.new.items.items) }
+{
+    for i in 0..text.bytes.len() {
+        let given = Given {
+            step: text.step,
+            element: Some(i as u64),
+            value: Constant::Int(text.kind, wrap(text.kind, text.bytes[i] as i128)),
+        };
+        if !add_item(types, ty, s, given, image)? {
+            return Ok(false);
+        }
+    }
+    Ok(true)
+}
+
+/// Adds the scalar at the end of a path that a step gives a value, and answers whether it stands behind all others.
+fn add_constant(
+    types: &Types,
+    ty: TypeId,
+    s: Steps,
+    given: Given,
+    image: &mut Growing,
+) -> Result<bool, Memory>
+    ensures none { OnOk result (HasNoZero image.old.items.items → HasNoZero image.new.items.items) }
+    ensures rises { OnOk result (RisesTo types.now (shape types.now.nodes ty.0) 0 image.old.items.items image.old.least → RisesTo types.now (shape types.now.nodes ty.0) 0 image.new.items.items image.new.least) }
+    ensures scalars { OnOk result (AreScalars types.now (shape types.now.nodes ty.0) image.old.items.items → AreScalars types.now (shape types.now.nodes ty.0) image.new.items.items) }
+{
+    if is_zero(given.value) {
+        let path = part(s.all, given.step)?;
+        return is_behind(Object { types, ty }, path, image);
+    }
+    add_item(types, ty, s, given, image)
+}
+
+/// Adds what a step gives values, and answers whether that, or what it makes zero, stands behind all other scalars.
+fn add_step(
+    types: &Types,
+    ty: TypeId,
+    s: Steps,
+    number: usize,
+    image: &mut Growing,
+) -> Result<bool, Memory>
+    ensures none { OnOk result (HasNoZero image.old.items.items → HasNoZero image.new.items.items) }
+    ensures rises { OnOk result (RisesTo types.now (shape types.now.nodes ty.0) 0 image.old.items.items image.old.least → RisesTo types.now (shape types.now.nodes ty.0) 0 image.new.items.items image.new.least) }
+    ensures scalars { OnOk result (AreScalars types.now (shape types.now.nodes ty.0) image.old.items.items → AreScalars types.now (shape types.now.nodes ty.0) image.new.items.items) }
+{
+    let object = Object { types, ty };
+    match s.all.get(number) {
+        Some(InitStep::Zero(path)) => is_behind(object, path, image),
+        Some(InitStep::Constant(_, value)) => {
+            let given = Given {
+                step: number,
+                element: None,
+                value: *value,
+            };
+            add_constant(types, ty, s, given, image)
+        }
+        Some(InitStep::Bytes(path, bytes)) => {
+            if !is_behind(object, path, image)? {
+                return Ok(false);
+            }
+            let text = characters_of(object, number, path, bytes)?;
+            add_characters(types, ty, s, text, image)
+        }
+        Some(InitStep::Scalar(..) | InitStep::Aggregate(..)) | None => Err(impossible()),
+    }
+}
+
+/// The scalars of an image, where each step is for a part behind those of the steps before it, as in a list without designators.
+#[tactic(auto, using(crate::proofs::ImageLaws::rising_from))]
+fn items_in_order(
+    alloc: Global,
+    types: &Types,
+    ty: TypeId,
+    s: Steps,
+) -> Result<Option<Vec<ImageItem>>, Memory>
+    ensures none { IfOk result (λ o. IfSome o (λ found. HasNoZero found.items)) }
+    ensures rising { IfOk result (λ o. IfSome o (λ found. IsRising types.now (shape types.now.nodes ty.0) found.items)) }
+    ensures scalars { IfOk result (λ o. IfSome o (λ found. AreScalars types.now (shape types.now.nodes ty.0) found.items)) }
+{
+    let mut image = Growing::new(alloc);
+    for i in 0..s.all.len() {
+        if !add_step(types, ty, s, i, &mut image)? {
+            return Ok(None);
+        }
+    }
+    Ok(Some(image.items))
+}
+
+/// The scalars of an image, in whatever order the steps are.
+fn items_by_offset(
+    alloc: Global,
+    types: &Types,
+    ty: TypeId,
+    s: Steps,
+) -> Result<Vec<ImageItem>, Memory>
+    ensures none { IfOk result (λ found. HasNoZero found.items) }
+    ensures rising { IfOk result (λ found. IsRising types.now (shape types.now.nodes ty.0) found.items) }
+    ensures scalars { IfOk result (λ found. AreScalars types.now (shape types.now.nodes ty.0) found.items) }
+{
+    let mut events = Vec::new(alloc);
+    let object = Object { types, ty };
+    all_cleared(object, s.all, &mut events)?;
+    all_given(object, s.all, &mut events)?;
+    let kept = swept(alloc, events)?;
+    items(alloc, types, ty, s, &kept)
+}
+
+/// The scalars of an image.
+fn all_items(alloc: Global, types: &Types, ty: TypeId, s: Steps) -> Result<Vec<ImageItem>, Memory>
+    ensures none { IfOk result (λ found. HasNoZero found.items) }
+    ensures rising { IfOk result (λ found. IsRising types.now (shape types.now.nodes ty.0) found.items) }
+    ensures scalars { IfOk result (λ found. AreScalars types.now (shape types.now.nodes ty.0) found.items) }
+{
+    match items_in_order(alloc, types, ty, s)? {
+        Some(items) => Ok(items),
+        None => items_by_offset(alloc, types, ty, s),
+    }
 }
 
 /// The definition of an object of a type with these scalars; of each union one member is initialised.
@@ -267,15 +440,10 @@ pub fn image(
 ) -> Result<GlobalDef, Memory>
     ensures { IfOk result (IsImage types.now (shape types.now.nodes ty.0)) }
 {
-    let mut events = Vec::new(alloc);
-    let object = Object { types, ty };
-    all_cleared(object, &t.steps, &mut events)?;
-    all_given(object, &t.steps, &mut events)?;
-    let kept = swept(alloc, events)?;
-    let all = Steps {
+    let steps = Steps {
         all: &t.steps,
         numbers,
     };
-    let items = items(alloc, types, ty, all, &kept)?;
+    let items = all_items(alloc, types, ty, steps)?;
     definition(types, ty, items)
 }

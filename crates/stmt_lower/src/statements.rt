@@ -1,3 +1,6 @@
+ghost use Rattle.std.specs.Prelude.{◌≡◌, ◌++◌, ◌∷◌, [], OnOk};
+ghost use Rattle.stmt_lower.specs.Loops.{Leaves, EndsBody, ContinuesAt};
+
 use crate::labels::Labels;
 use cil_base::{LabelId, Memory, TypeId};
 use cil_nodes::{block, case, goto, if_else, label, looped, return_value, switch};
@@ -15,26 +18,33 @@ pub(crate) struct Frame {
 }
 
 /// Puts a statement at the end of the code.
-fn put(s: Stmt, out: &mut Vec<Stmt>) -> Result<(), Memory> {
+fn put(s: Stmt, out: &mut Vec<Stmt>) -> Result<(), Memory>
+    ensures { OnOk result (out.new.items ≡ out.old.items ++ s ∷ []) }
+{
     out.push(s)?;
     Ok(())
 }
 
 /// Leaves a loop unless a condition holds.
-fn leave_unless(alloc: Global, test: Box<Exp>, out: &mut Vec<Stmt>) -> Result<(), Memory> {
+#[tactic(auto, using(expr_lower::proofs::CodeLaws::chooses_if))]
+fn leave_unless(alloc: Global, test: Box<Exp>, out: &mut Vec<Stmt>) -> Result<(), Memory>
+    ensures { OnOk result (Leaves test.value out.old.items out.new.items) }
+{
     let mut fails = Vec::new(alloc);
     fails.push(Stmt::Break)?;
     put(if_else(test, Vec::new(alloc), fails), out)
 }
 
 /// Evaluates the condition of a loop, and leaves it unless that holds (C11 6.8.5p4).
-fn test_turn(f: &mut FunctionOut, test: &TypedExp, out: &mut Vec<Stmt>) -> Result<(), Memory> {
+fn put_test(f: &mut FunctionOut, test: &TypedExp, out: &mut Vec<Stmt>) -> Result<(), Memory> {
     let x = value(f, test, out)?;
     leave_unless(f.alloc(), x, out)
 }
 
 /// Sets the label at the end of a loop's body, where a `continue` names the loop (C11 6.8.6.2p2).
-fn end_turn(again: Option<LabelId>, out: &mut Vec<Stmt>) -> Result<(), Memory> {
+fn end_body(again: Option<LabelId>, out: &mut Vec<Stmt>) -> Result<(), Memory>
+    ensures { OnOk result (EndsBody again out.old.items out.new.items) }
+{
     match again {
         Some(n) => put(label(n), out),
         None => Ok(()),
@@ -54,7 +64,9 @@ fn put_return(
 }
 
 /// Jumps to the end of the body of the loop around (C11 6.8.6.2p2).
-fn put_continue(around: Option<LabelId>, out: &mut Vec<Stmt>) -> Result<(), Memory> {
+fn put_continue(around: Option<LabelId>, out: &mut Vec<Stmt>) -> Result<(), Memory>
+    ensures { OnOk result (ContinuesAt around out.old.items out.new.items) }
+{
     match around {
         Some(n) => put(goto(n), out),
         None => Err(impossible()),
@@ -119,32 +131,32 @@ fn statement(
         }
         TypedStmt::While(test, body) => {
             let again = frame.labels.next_loop()?;
-            let mut turn = Vec::new(f.alloc());
-            test_turn(f, test, &mut turn)?;
-            statements(f, frame, body, again, &mut turn)?;
-            end_turn(again, &mut turn)?;
-            put(looped(turn), out)
+            let mut code = Vec::new(f.alloc());
+            put_test(f, test, &mut code)?;
+            statements(f, frame, body, again, &mut code)?;
+            end_body(again, &mut code)?;
+            put(looped(code), out)
         }
         TypedStmt::Do(body, test) => {
             let again = frame.labels.next_loop()?;
-            let mut turn = nested(f, frame, body, again)?;
-            end_turn(again, &mut turn)?;
-            test_turn(f, test, &mut turn)?;
-            put(looped(turn), out)
+            let mut code = nested(f, frame, body, again)?;
+            end_body(again, &mut code)?;
+            put_test(f, test, &mut code)?;
+            put(looped(code), out)
         }
         TypedStmt::For(start, test, step, body) => {
             statements(f, frame, start, around, out)?;
             let again = frame.labels.next_loop()?;
-            let mut turn = Vec::new(f.alloc());
+            let mut code = Vec::new(f.alloc());
             if let Some(test) = test {
-                test_turn(f, test, &mut turn)?;
+                put_test(f, test, &mut code)?;
             }
-            statements(f, frame, body, again, &mut turn)?;
-            end_turn(again, &mut turn)?;
+            statements(f, frame, body, again, &mut code)?;
+            end_body(again, &mut code)?;
             if let Some(step) = step {
-                effect(f, step, &mut turn)?;
+                effect(f, step, &mut code)?;
             }
-            put(looped(turn), out)
+            put(looped(code), out)
         }
         TypedStmt::Label(n) => put(label(frame.labels.number(*n)?), out),
         TypedStmt::Case(kind, n) => put(case(*kind, *n), out),

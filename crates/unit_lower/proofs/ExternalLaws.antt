@@ -13,10 +13,15 @@ places_at (x ∷ xs) m zero d h = refl
 places_at (x ∷ xs) m (suc i) d h =
     subst (λ (n : ℕ). external_places n (drop i xs) ≡ (if (get_or xs i d).internal then external_places (suc n) (drop (suc i) xs) else n ∷ external_places (suc n) (drop (suc i) xs))) (omega arith) (places_at xs (suc m) i d (omega arith))
 
+-- the same, counted from the first one
+places_from : (xs : List GlobalDecl) (i : ℕ) (d : GlobalDecl) → i < length xs → external_places i (drop i xs) ≡ (if (get_or xs i d).internal then external_places (suc i) (drop (suc i) xs) else i ∷ external_places (suc i) (drop (suc i) xs))
+places_from xs i d h =
+    subst (λ (n : ℕ). external_places n (drop i xs) ≡ (if (get_or xs i d).internal then external_places (suc n) (drop (suc i) xs) else n ∷ external_places (suc n) (drop (suc i) xs))) (omega arith) (places_at xs 0 i d h)
+
 pub places_skip : (xs : List GlobalDecl) (done : List Site) (i : ℕ) (d : GlobalDecl) → i < length xs → (get_or xs i d).internal ≡ true → ListsTo xs i done → ListsTo xs (i + 1) done
 places_skip xs done i d h internal whole =
     subst (λ (j : ℕ). ListsTo xs j done) (sym (add-one i))
-    (sym (ap (λ ns. map number done ++ ns) (places_at xs 0 i d h ∙ ap (λ b. if b then external_places (suc i) (drop (suc i) xs) else i ∷ external_places (suc i) (drop (suc i) xs)) internal)) ∙ whole)
+    (sym (ap (λ ns. map number done ++ ns) (places_from xs i d h ∙ ap (λ b. if b then external_places (suc i) (drop (suc i) xs) else i ∷ external_places (suc i) (drop (suc i) xs)) internal)) ∙ whole)
 
 pub places_next : (xs : List GlobalDecl) (done more : List Site) (s : Site) (i : ℕ) (d : GlobalDecl) → i < length xs → (get_or xs i d).internal ≡ false → number s ≡ i → more ≡ done ++ s ∷ [] → ListsTo xs i done → ListsTo xs (i + 1) more
 places_next xs done more s i d h external same is whole =
@@ -24,7 +29,7 @@ places_next xs done more s i d h external same is whole =
     (ap (λ ss. map number ss ++ external_places (suc i) (drop (suc i) xs)) is
     ∙ ap (λ ns. ns ++ external_places (suc i) (drop (suc i) xs)) (pushed done)
     ∙ append_assoc (map number done) (i ∷ []) (external_places (suc i) (drop (suc i) xs))
-    ∙ sym (ap (λ ns. map number done ++ ns) (places_at xs 0 i d h ∙ ap (λ b. if b then external_places (suc i) (drop (suc i) xs) else i ∷ external_places (suc i) (drop (suc i) xs)) external)) ∙ whole)
+    ∙ sym (ap (λ ns. map number done ++ ns) (places_from xs i d h ∙ ap (λ b. if b then external_places (suc i) (drop (suc i) xs) else i ∷ external_places (suc i) (drop (suc i) xs)) external)) ∙ whole)
   where
     pushed : (ss : List Site) → map number (ss ++ s ∷ []) ≡ map number ss ++ i ∷ []
     pushed [] = ap (λ n. n ∷ []) same
