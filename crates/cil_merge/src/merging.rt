@@ -17,7 +17,7 @@ fn first_place(links: &Links, group: u32, party: u32) -> Result<Place, Memory> {
         return Err(impossible());
     };
     match name.sites.get(party as usize) {
-        Some(site) => Ok(site.first),
+        Some(linked) => Ok(linked.site.first),
         None => Err(impossible()),
     }
 }

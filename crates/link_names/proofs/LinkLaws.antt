@@ -1,0 +1,1 @@
+-- Device: the answer to units that are linked.

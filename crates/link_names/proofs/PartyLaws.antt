@@ -1,0 +1,1 @@
+-- Device: parties are made one by one.
