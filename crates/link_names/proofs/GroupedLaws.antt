@@ -24,7 +24,7 @@ same_sym n m = by (same_name n m) (same_name m n) refl refl
     by true false p q = absurd (true≢false (sym (eq-eqb m.0 n.0 (sym (eqb-true n.0 m.0 p))) ∙ q))
     by false true p q = absurd (true≢false (sym (eq-eqb n.0 m.0 (sym (eqb-true m.0 n.0 q))) ∙ p))
 
--- a name behind which all declarations of it are put, those of the others going on
+-- all declarations of the first name are put behind it, and those of the others among the rest
 behind : (n : NameId) (ss : List LinkedSite) (ls : List Linked) (ds : List Declared) → added_all ((n, ss) ∷ ls) ds ≡ (n, ss ++ said_of ds n) ∷ added_all ls (others n ds)
 behind n ss ls [] = ap (λ ts. (n, ts) ∷ ls) (sym (append-nil ss))
 behind n ss ls (d ∷ ds) = by (behind n (ss ++ d.1 ∷ []) ls ds) (behind n ss (added ls d) ds) (same_name d.0 n) (same_name n d.0) (same_sym d.0 n)

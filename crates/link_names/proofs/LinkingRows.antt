@@ -1,4 +1,4 @@
--- Device: rows of the definitions of links and of duplicates, told by hand from C11 6.2.2p2, 6.9p5 and J.5.11.
+-- Device: rows of the definitions of links and of duplicates, worked out by hand from C11 6.2.2p2, 6.9p5 and J.5.11.
 use Rattle.std.proofs.Common.{◌≡◌, ℕ, Bool, true, false, List, [], ◌∷◌, Option, Some, None, refl}
 use Rattle.cil_base.specs.declared.faults.Place.{Place}
 use Rattle.cil_base.specs.declared.numbers.NameId.{NameId}
