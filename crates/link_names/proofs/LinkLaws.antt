@@ -1,1 +1,0 @@
--- Device: the answer to units that are linked.

@@ -1,1 +1,0 @@
--- Device: parties are made one by one.
