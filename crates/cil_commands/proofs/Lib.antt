@@ -7,6 +7,7 @@ pub mod Printing
 pub mod Ran
 pub mod Runs
 pub mod Samples
+pub mod Several
 pub mod SmallPrograms
 pub mod SmallRuns
 pub mod SmallTexts

@@ -34,6 +34,7 @@ use Rattle.cil_commands.specs.Grammatical.{AreTokens, IsGrammatical}
 use Rattle.cil_sources.specs.Files.{IsFrontOf}
 use Rattle.cil_commands.specs.Merge.{IsRefused, NoGrammar, OfUnit, IsNoGrammar, Large, OfToken, OfGrammar, IsNoUnit, IsMergedTo, IsLike, IfRefused, too_large}
 use Rattle.unit_merger.specs.Refusals.{IsUnitFault, IsUnitRefusal, IsMergeFault, HasOther, IsMergeRefusal, KeepsFirst}
+use Rattle.unit_merger.specs.Units.{IsUnitCause}
 use Rattle.cil_commands.specs.Merged.{file_in, IsAlone}
 use Rattle.cil_commands.proofs.SmallUnits.{small_is_grammatical}
 use Rattle.cil_lines.specs.declared.status.Status.{Status}
@@ -307,9 +308,9 @@ unit_refusal (Err stops.Memory) count is = tt
 abbrev pub stopped : (A : Type 0) → Stop → Result A Stop
 stopped A stop = Err stop
 
-pub unit_refused : (A B : Type 0) (stop : Stop) (file : SourceFile) (names : List (List ℕ)) (count : ℕ) → IsGrammatical file → IsNoUnit file → IfStopped (stopped A stop) (IsUnitRefusal count) → IfStopped (stopped B stop) (λ refusal. IsRefused file refusal names)
-unit_refused A B (stops.Refused refusal) file names count reads none is = OfUnit refusal names reads none is.fault
-unit_refused A B stops.Memory file names count reads none is = tt
+pub unit_refused : (A B : Type 0) (stop : Stop) (file : SourceFile) (names : List (List ℕ)) (g : IsGrammatical file) → IsNoUnit file → IfStopped (stopped A stop) (IsUnitCause g.tokens) → IfStopped (stopped B stop) (λ refusal. IsRefused file refusal names)
+unit_refused A B (stops.Refused refusal) file names g none is = OfUnit refusal names g none is
+unit_refused A B stops.Memory file names g none is = tt
 
 -- the first name stays
 

@@ -124,6 +124,20 @@ pub unit_asked_is : (told : Option Told) (words : List (String Global)) (common 
 unit_asked_is told words common first d is last =
     ap (λ names. option_and_then (file_under told) (alone names)) (merged_files_are words common first is ∙ (drop-map string_bytes first words ∙ ap (map string_bytes) (last_alone words first d last)))
 
+pub merged_several : (words : List (String Global)) (common : Bool) (first : ℕ) → command_of (map string_bytes words) ≡ Some (Merge common first) → merged_files (map string_bytes words) ≡ map string_bytes (drop first words)
+merged_several words common first is = merged_files_are words common first is ∙ drop-map string_bytes first words
+
+pub merged_alone : (words : List (String Global)) (common : Bool) (first : ℕ) (d : String Global) → command_of (map string_bytes words) ≡ Some (Merge common first) → first + 1 ≡ length words
+    → merged_files (map string_bytes words) ≡ string_bytes (get_or words first d) ∷ []
+merged_alone words common first d is last = merged_several words common first is ∙ ap (map string_bytes) (last_alone words first d last)
+
+-- no other command merges files
+pub merged_by_run : (words : List (List ℕ)) (steps file : ℕ) → command_of words ≡ Some (Run steps file) → merged_files words ≡ []
+merged_by_run words steps file is = ap (λ command. unwrap_or (option_map (λ at. drop at words) (option_and_then merged_position command)) []) is
+
+pub merged_by_none : (words : List (List ℕ)) → command_of words ≡ None → merged_files words ≡ []
+merged_by_none words is = ap (λ command. unwrap_or (option_map (λ at. drop at words) (option_and_then merged_position command)) []) is
+
 -- several files are no unit alone
 two_left : (names : List (List ℕ)) → length names ≢ 1 → alone names ≡ None
 two_left [] several = refl

@@ -7,4 +7,5 @@ pub mod Merged
 pub mod Messages
 pub mod Reader
 pub mod RunEnds
+pub mod Several
 pub mod Small

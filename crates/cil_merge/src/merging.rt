@@ -1,51 +1,20 @@
+ghost use Rattle.std.specs.Prelude.{◌≡◌, None, OnOk, IfErr};
+ghost use Rattle.link_names.specs.Linking.{declared_from, grouped, first_twice};
+ghost use Rattle.cil_merge.specs.Merging.{IsMergeRefusal};
+
 use crate::arena::{Arena, arena_of};
 use crate::definitions::give_definitions;
 use crate::globals::{all_globals, uses_of};
 use crate::numbers::impossible;
-use cil_base::{EntityId, Fault, Memory, Mode, NamePool, Place, Refusal, Stop, TypeId};
+use crate::refusals::class_stop;
+use cil_base::{EntityId, Memory, Mode, NamePool, Stop, TypeId};
 use cil_bodies::Mapping;
 use cil_tree::{CilUnit, GlobalDecl};
 use link_names::{Fronted, Links, links};
 use static_rename::rename;
 use std::alloc::Global;
 use type_graph::TypeGraph;
-use type_iso::{ClassStop, Classes, classes};
-
-/// The place of the first declaration of a party of a group.
-fn first_place(links: &Links, group: u32, party: u32) -> Result<Place, Memory> {
-    let Some(name) = links.names.get(group as usize) else {
-        return Err(impossible());
-    };
-    match name.sites.get(party as usize) {
-        Some(site) => Ok(site.first),
-        None => Err(impossible()),
-    }
-}
-
-/// The refusal that a link is.
-fn incompatible(links: &Links, group: u32, earlier: u32, later: u32) -> Result<Refusal, Memory> {
-    Ok(Refusal {
-        fault: Fault::Incompatible,
-        at: first_place(links, group, later)?,
-        other: Some(first_place(links, group, earlier)?),
-    })
-}
-
-/// Why units are refused that have no classes.
-fn class_stop(links: &Links, stop: ClassStop) -> Stop {
-    match stop {
-        ClassStop::Memory => Stop::Memory,
-        ClassStop::Clash {
-            group,
-            earlier,
-            later,
-            ..
-        } => match incompatible(links, group, earlier, later) {
-            Ok(refusal) => Stop::Refused(refusal),
-            Err(Memory) => Stop::Memory,
-        },
-    }
-}
+use type_iso::{Classes, classes};
 
 /// Adds the definitions of a unit to the globals of the program.
 fn add_unit(
@@ -97,23 +66,39 @@ fn joined(
     })
 }
 
+/// The program of units whose external names are linked.
+fn merged(
+    alloc: Global,
+    units: Vec<Fronted>,
+    links: &Links,
+    classes: &Classes,
+    names: &mut NamePool,
+    mode: Mode,
+) -> Result<CilUnit, Memory> {
+    let mut units = units;
+    rename(alloc, &mut units, links, classes, names)?;
+    joined(alloc, units, classes, mode)
+}
+
 /// The program that units become (C11 5.1.1.1): each external name is one object or function (6.2.2p2), each class of structs, unions and
 /// enums one type, and every other name is made distinct.
 ///
 /// It refuses with `Duplicate` where two units define one name, and else with `Incompatible` where two declare one with types that do not
 /// correspond (6.2.7p2), at the first declaration in the later unit, with that in the earlier one as the other place.
+#[tactic(auto, using(crate::proofs::MergingLaws::duplicate_refused, crate::proofs::MergingLaws::clash_refused))]
 pub fn merge(
     alloc: Global,
     units: Vec<Fronted>,
     names: &mut NamePool,
     mode: Mode,
-) -> Result<CilUnit, Stop> {
-    let mut units = units;
+) -> Result<CilUnit, Stop>
+    ensures once { OnOk result (first_twice mode.common (grouped (declared_from 0 units.items)) ≡ None) }
+    ensures refused { IfErr result (IsMergeRefusal mode.common (grouped (declared_from 0 units.items))) }
+{
     let links = links(alloc, &units, mode)?;
     let classes = match classes(alloc, &units, &links.groups, names) {
         Ok(classes) => classes,
-        Err(stop) => return Err(class_stop(&links, stop)),
+        Err(stop) => return Err(class_stop(&links.names, stop)),
     };
-    rename(alloc, &mut units, &links, &classes, names)?;
-    Ok(joined(alloc, units, &classes, mode)?)
+    Ok(merged(alloc, units, &links, &classes, names, mode)?)
 }

@@ -1,13 +1,17 @@
 //! The external names of several translation units, each with its declarations.
 //!
-//! A name that two units define is refused with both places, the first such name in the order in which they appear; else each name
-//! comes with what it denotes in each unit, in the order of units.
+//! Its public contract says both ways when a name is refused that two units define, with which two places, and which names come else,
+//! in the order in which they appear, each with what every unit declares of it.
 //!
 //! The rules come from C11 6.2.2 (linkage), 6.9 (definitions) and J.5.11 (several of them, where they are asked for).
 #![tactic(auto)]
 
+mod declared;
+mod duplicates;
+mod grouping;
 mod linking;
 mod names;
+mod parties;
 mod units;
 
 pub use linking::links;

@@ -1,15 +1,16 @@
-use cil_base::{EntityId, NameId, Place, UnitNo};
+use crate::units::Site;
+use cil_base::{NameId, TypeId, UnitNo};
 use type_iso::Group;
 
-/// The declarations of an external name in a unit.
+/// What a unit declares of one of its external names (C11 6.2.2p2).
 #[derive(Clone, Copy)]
 pub struct LinkedSite {
     /// The unit.
     pub unit: UnitNo,
-    /// What the name denotes there, by its place among the unit's globals.
-    pub entity: EntityId,
-    /// The place of the first of them.
-    pub first: Place,
+    /// The composite type of its declarations there (C11 6.2.7p3).
+    pub ty: TypeId,
+    /// Where it is declared and defined there.
+    pub site: Site,
 }
 
 /// An external name, with its declarations in the order of units.

@@ -4,7 +4,7 @@ use std::alloc::Global;
 use std::process::Abort;
 use std::test::Fail;
 
-const ROWS: [Row; 21] = [
+const ROWS: [Row; 23] = [
     Row {
         name: "statics of one name get suffixes",
         units: &[
@@ -470,6 +470,79 @@ extern int b ;
 int a ;
 static int s_x = 1 ;
 int b ;
+",
+        ),
+    },
+    Row {
+        name: "a unit merged with itself has its static functions and objects twice",
+        units: &[
+            "\
+static int n ;
+static int f ( void ) ;
+static int n = 1 ;
+static int f ( void ) {
+  return n ;
+}
+",
+            "\
+static int n ;
+static int f ( void ) ;
+static int n = 1 ;
+static int f ( void ) {
+  return n ;
+}
+",
+        ],
+        tentative: Tentative::Apart,
+        expected: Expected::Text(
+            "\
+static int n ;
+static int f ( void ) ;
+static int n___0 ;
+static int f___0 ( void ) ;
+static int n = 1 ;
+static int n___0 = 1 ;
+static int f ( void ) {
+  return n ;
+}
+static int f___0 ( void ) {
+  return n___0 ;
+}
+",
+        ),
+    },
+    Row {
+        name: "statics of one name in 26 units",
+        units: &["static int n ;\n"; 26],
+        tentative: Tentative::Apart,
+        expected: Expected::Text(
+            "\
+static int n ;
+static int n___0 ;
+static int n___1 ;
+static int n___2 ;
+static int n___3 ;
+static int n___4 ;
+static int n___5 ;
+static int n___6 ;
+static int n___7 ;
+static int n___8 ;
+static int n___9 ;
+static int n___10 ;
+static int n___11 ;
+static int n___12 ;
+static int n___13 ;
+static int n___14 ;
+static int n___15 ;
+static int n___16 ;
+static int n___17 ;
+static int n___18 ;
+static int n___19 ;
+static int n___20 ;
+static int n___21 ;
+static int n___22 ;
+static int n___23 ;
+static int n___24 ;
 ",
         ),
     },

@@ -4,7 +4,7 @@ use std::alloc::Global;
 use std::process::Abort;
 use std::test::Fail;
 
-const ROWS: [Row; 11] = [
+const ROWS: [Row; 15] = [
     Row {
         name: "structs that reach each other are one in three units",
         units: &[
@@ -427,6 +427,125 @@ struct s {
 static struct s v ;
 static enum e w ;
 static enum f x ;
+",
+        ),
+    },
+    Row {
+        name: "an enum fits no integer type of another unit",
+        units: &[
+            "\
+enum e {
+  A = 0 ,
+} ;
+extern enum e x ;
+",
+            "\
+extern int x ;
+",
+        ],
+        tentative: Tentative::Apart,
+        expected: Expected::Refused(Fault::Incompatible, (1, 0), (0, 0)),
+    },
+    Row {
+        name: "a parameter of a function pointer is the one link",
+        units: &[
+            "\
+struct s ;
+extern void ( * f ) ( struct s * ) ;
+",
+            "\
+struct s ;
+struct s {
+  int a ;
+} ;
+extern void ( * f ) ( struct s * ) ;
+",
+        ],
+        tentative: Tentative::Apart,
+        expected: Expected::Text(
+            "\
+struct s ;
+struct s {
+  int a ;
+} ;
+extern void ( * f ) ( struct s * ) ;
+",
+        ),
+    },
+    Row {
+        name: "a parameter of a function pointer clashes",
+        units: &[
+            "\
+struct s ;
+struct s {
+  long a ;
+} ;
+extern int x ;
+extern void ( * f ) ( struct s * ) ;
+",
+            "\
+struct s ;
+struct s {
+  int a ;
+} ;
+extern void ( * f ) ( struct s * ) ;
+extern int x ;
+",
+        ],
+        tentative: Tentative::Apart,
+        expected: Expected::Refused(Fault::Incompatible, (1, 0), (0, 1)),
+    },
+    Row {
+        name: "structs that differ where they reach each other stay apart in whatever order",
+        units: &[
+            "\
+struct a ;
+struct b ;
+struct a {
+  struct b * x ;
+} ;
+struct b {
+  struct a * x ;
+  int n ;
+} ;
+static struct a v ;
+",
+            "\
+struct b ;
+struct a ;
+struct b {
+  struct a * x ;
+  long n ;
+} ;
+struct a {
+  struct b * x ;
+} ;
+static struct a w ;
+",
+        ],
+        tentative: Tentative::Apart,
+        expected: Expected::Text(
+            "\
+struct a ;
+struct b ;
+struct b___0 ;
+struct a___0 ;
+struct a {
+  struct b * x ;
+} ;
+struct b {
+  struct a * x ;
+  int n ;
+} ;
+struct b___0 {
+  struct a___0 * x ;
+  long n ;
+} ;
+struct a___0 {
+  struct b___0 * x ;
+} ;
+static struct a v ;
+static struct a___0 w ;
 ",
         ),
     },

@@ -1,3 +1,6 @@
+ghost use Rattle.std.specs.Prelude.{◌≡◌, ℕ, false, OnOk, IfOk};
+ghost use Rattle.static_rename.specs.Naming.{is_taken, with_name, start_of, Stays, IsSuffixed, IsLeast, IsGiven};
+
 use cil_base::{Memory, NameId, NamePool};
 use indexmap::{IndexMap, IndexSet};
 use itoa::Buffer;
@@ -14,7 +17,10 @@ fn suffixed(
     names: &mut NamePool,
     base: NameId,
     number: u32,
-) -> Result<NameId, Memory> {
+) -> Result<NameId, Memory>
+    ensures stays { OnOk result (Stays names.old names.new) }
+    ensures text { IfOk result (λ n. IsSuffixed names.new base n number) }
+{
     if base.0 >= names.len() {
         return Err(impossible());
     }
@@ -63,18 +69,24 @@ impl Fresh {
     }
 
     /// Whether a name is taken.
-    pub(crate) fn has(&self, name: NameId) -> bool {
+    pub(crate) fn has(&self, name: NameId) -> bool
+        ensures { result ≡ is_taken self.now.taken.keys name }
+    {
         self.taken.contains(&name)
     }
 
     /// Takes a name.
-    pub(crate) fn take(&mut self, name: NameId) -> Result<(), Memory> {
+    pub(crate) fn take(&mut self, name: NameId) -> Result<(), Memory>
+        ensures { OnOk result (self.new.taken.keys ≡ with_name self.old.taken.keys name) }
+    {
         self.taken.insert(name)?;
         Ok(())
     }
 
     /// The number from which a base's suffixed names may be new.
-    fn start(&self, base: NameId) -> u32 {
+    fn start(&self, base: NameId) -> u32
+        ensures { result ≡ start_of self.now.next.entries base }
+    {
         match self.next.get(&base) {
             Some(number) => *number,
             None => 0,
@@ -87,7 +99,9 @@ impl Fresh {
         names: &mut NamePool,
         base: NameId,
         from: u32,
-    ) -> Result<(NameId, u32), Memory> {
+    ) -> Result<(NameId, u32), Memory>
+        ensures { IfOk result (λ r. IsLeast self.now.taken.keys names.new base from r.0 r.1) }
+    {
         for number in from..u32::MAX {
             let name = suffixed(self.alloc, names, base, number)?;
             if !self.has(name) {
@@ -98,7 +112,9 @@ impl Fresh {
     }
 
     /// Takes the base with a number.
-    fn take_suffixed(&mut self, base: NameId, name: NameId, number: u32) -> Result<(), Memory> {
+    fn take_suffixed(&mut self, base: NameId, name: NameId, number: u32) -> Result<(), Memory>
+        ensures { OnOk result (self.new.taken.keys ≡ with_name self.old.taken.keys name) }
+    {
         let Some(after) = number.checked_add(1) else {
             return Err(impossible());
         };
@@ -107,14 +123,23 @@ impl Fresh {
     }
 
     /// Takes the base with the least number that is new.
-    fn make(&mut self, names: &mut NamePool, base: NameId) -> Result<NameId, Memory> {
-        let (name, number) = self.free_from(names, base, self.start(base))?;
+    fn make(&mut self, names: &mut NamePool, base: NameId) -> Result<NameId, Memory>
+        ensures least { IfOk result (λ n. (k : ℕ) × IsLeast self.old.taken.keys names.new base (start_of self.old.next.entries base) n k) }
+        ensures taken { IfOk result (λ n. self.new.taken.keys ≡ with_name self.old.taken.keys n) }
+    {
+        let from = self.start(base);
+        let (name, number) = self.free_from(names, base, from)?;
         self.take_suffixed(base, name, number)?;
         Ok(name)
     }
 
     /// The name that a thing gets, which is taken from now on.
-    pub(crate) fn give(&mut self, names: &mut NamePool, wish: Wish) -> Result<NameId, Memory> {
+    #[tactic(auto, using(crate::proofs::NamingLaws::kept_given, crate::proofs::NamingLaws::least_given))]
+    pub(crate) fn give(&mut self, names: &mut NamePool, wish: Wish) -> Result<NameId, Memory>
+        ensures given { IfOk result (IsGiven self.old.taken.keys self.old.next.entries names.new wish) }
+        ensures new { IfOk result (λ n. is_taken self.old.taken.keys n ≡ false) }
+        ensures taken { IfOk result (λ n. self.new.taken.keys ≡ with_name self.old.taken.keys n) }
+    {
         match wish {
             Wish::Made(base) => self.make(names, base),
             Wish::Asked(name) => {

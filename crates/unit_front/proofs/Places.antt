@@ -1,5 +1,5 @@
--- Device: a place in the tokens of a unit has the unit's number, so each layer's refusal is one of the unit.
-use Rattle.std.proofs.Common.{◌≡◌, ℕ, List, ◌==◌, Bool, true, false, Option, Some, None, Ok, slice_get, length, if◌then◌else◌, ap, sym, subst}
+-- Device: a place in the tokens of a unit has the unit's number, so each layer's refusal stands in the unit.
+use Rattle.std.proofs.Common.{◌≡◌, ℕ, List, ◌==◌, Bool, true, false, Option, Some, None, slice_get, length, if◌then◌else◌, ap, sym, subst}
 use Rattle.std.specs.Option.{option_map}
 use Rattle.std.proofs.lemmas.Option.{same_Some}
 use Rattle.cil_base.specs.declared.numbers.UnitNo.{UnitNo}
@@ -8,11 +8,10 @@ use Rattle.cil_base.specs.declared.faults.Fault.TheVariants.{Lexical, Excluded, 
 use Rattle.cil_base.specs.declared.faults.Place.{Place}
 use Rattle.cil_base.specs.declared.faults.Refusal.{Refusal}
 use Rattle.c_lexer.specs.declared.entries.Entry.{Entry}
-use Rattle.c_lexer.specs.Tokens.{Answer}
-use Rattle.c_lexer.specs.Lexed.{Lexed, place_at, place_of, IsTokenFault, IsTokenRefusal, Gives, IfAnswered}
+use Rattle.c_lexer.specs.Lexed.{Lexed, place_at, place_of, IsTokenFault, IsTokenRefusal}
 use Rattle.c_parser.specs.UnitAnswers.{IsSyntaxFault}
 use Rattle.cast_insert.specs.Refusals.{IsCheckedFault, IsCheckedRefusal}
-use Rattle.unit_front.specs.Refusals.{IsFrontFault, IsFrontRefusal}
+use Rattle.unit_front.specs.Refusals.{IsFrontFault, IsInUnit}
 
 entry_unit : (unit : UnitNo) (i : ℕ) (o : Option Entry) (place : Place) → option_map (λ (e : Entry). place_of unit i e.file e.line) o ≡ Some place → place.unit ≡ unit
 entry_unit unit i None place is = let none : None ≡ Some place = is in cc
@@ -34,10 +33,10 @@ token_fault (Limit what) is = tt
 token_fault Duplicate is = absurd is
 token_fault Incompatible is = absurd is
 
-pub of_tokens : (u : UnitNo) (count : ℕ) (refusal : Refusal) → IsTokenRefusal u count refusal → IsFrontRefusal u refusal
+pub of_tokens : (u : UnitNo) (count : ℕ) (refusal : Refusal) → IsTokenRefusal u count refusal → IsInUnit u refusal
 of_tokens u count refusal is = record { fault = token_fault refusal.fault is.fault; unit = is.unit }
 
-pub of_grammar : (t : Lexed) (refusal : Refusal) → IsSyntaxFault t refusal → IsFrontRefusal t.unit refusal
+pub of_grammar : (t : Lexed) (refusal : Refusal) → IsSyntaxFault t refusal → IsInUnit t.unit refusal
 of_grammar t refusal is = record { fault = subst IsFrontFault (sym is.fault) tt; unit = place_unit t is.start refusal.at is.at }
 
 checked_fault : (fault : Fault) → IsCheckedFault fault → IsFrontFault fault
@@ -49,9 +48,5 @@ checked_fault (Limit what) is = tt
 checked_fault Duplicate is = absurd is
 checked_fault Incompatible is = absurd is
 
-pub of_check : (t : Lexed) (refusal : Refusal) → IsCheckedRefusal t refusal → IsFrontRefusal t.unit refusal
+pub of_check : (t : Lexed) (refusal : Refusal) → IsCheckedRefusal t refusal → IsInUnit t.unit refusal
 of_check t refusal is = record { fault = checked_fault refusal.fault is.fault; unit = place_unit t is.at.0 refusal.at is.at.1 }
-
--- the tokens that the lexer gives are those of its unit
-pub unit_of_tokens : (t : Lexed) (source : List ℕ) (u : UnitNo) (names : List (List ℕ)) (IsOne : Answer → Type 0) → IfAnswered (λ answer. Gives (Ok t) source u names answer) IsOne → t.unit ≡ u
-unit_of_tokens t source u names IsOne answered = answered.2.2

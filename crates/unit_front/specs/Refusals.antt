@@ -1,9 +1,57 @@
 -- Definition: what a translation unit is refused for on its way to a CIL program, as the layer that finds it says, and where.
-use Rattle.std.specs.Prelude.{◌≡◌}
+use Rattle.std.specs.Prelude.{◌≡◌, ℕ, ◌<◌, ◌≤◌, List, length, None}
 use Rattle.cil_base.specs.declared.numbers.UnitNo.{UnitNo}
+use Rattle.cil_base.specs.declared.numbers.NameId.{NameId}
 use Rattle.cil_base.specs.declared.faults.Fault.{Fault}
 use Rattle.cil_base.specs.declared.faults.Fault.TheVariants.{Lexical, Excluded, Syntax, Constraint, Limit}
+use Rattle.cil_base.specs.declared.faults.What.TheVariants.{UnitBytes}
 use Rattle.cil_base.specs.declared.faults.Refusal.{Refusal}
+use Rattle.c_lexer.specs.Lexed.{Lexed, place_of}
+use Rattle.c_lexer.specs.Tokens.{IsAnswer, Whole, Refused}
+use Rattle.c_tree.specs.Units.{UnitTree}
+use Rattle.c_cursor.specs.Lexemes.{lexemes}
+use Rattle.c_parser.specs.UnitAnswers.{ReadsUnit, IsSyntaxFault}
+use Rattle.cast_insert.specs.Refusals.{IsCheckedRefusal}
+
+-- a translation unit as it is read: its bytes, its number, the number of its file's name, and the names that had numbers before
+pub record Source : Type 0 where
+  pub bytes : List ℕ
+  pub unit : UnitNo
+  pub file : NameId
+  pub names : List (List ℕ)
+
+-- the tokens of a unit, which has at most 4,194,304 bytes (own)
+pub record HasTokens (s : Source) (t : Lexed) : Type 0 where
+  pub small : length s.bytes ≤ 4194304
+  pub source : t.source ≡ s.bytes
+  pub unit : t.unit ≡ s.unit
+  pub names : List (List ℕ)
+  pub lexed : IsAnswer s.unit s.file s.names s.bytes (Whole t.entries t.end names)
+
+-- a grammatical unit (C11 6.9) spells these tokens
+abbrev pub AreGrammatical : Lexed → Type 0
+AreGrammatical t = (tree : UnitTree) × ReadsUnit (lexemes t) tree
+
+-- the tokens of the unit are spelled by a grammatical unit
+pub record IsGrammatical (s : Source) : Type 0 where
+  pub tokens : Lexed
+  pub are : HasTokens s tokens
+  pub spelled : AreGrammatical tokens
+
+-- why a unit of these tokens is refused: no grammatical unit spells them, or behind its grammar
+pub data IsTokensRefusal (t : Lexed) : Refusal → Type 0 where
+  OfGrammar : (refusal : Refusal) → IsSyntaxFault t refusal → IsTokensRefusal t refusal
+  OfCheck : (refusal : Refusal) → AreGrammatical t → IsCheckedRefusal t refusal → IsTokensRefusal t refusal
+
+-- the refusal of a unit with too many bytes
+abbrev pub too_large : UnitNo → NameId → Refusal
+too_large unit file = record { fault = Limit UnitBytes; at = place_of unit 0 file 1; other = None }
+
+-- why a unit is refused: it has too many bytes (own), a token of it is refused, or for its tokens
+pub data IsFrontRefusal (s : Source) : Refusal → Type 0 where
+  Large : 4194304 < length s.bytes → IsFrontRefusal s (too_large s.unit s.file)
+  OfToken : (refusal : Refusal) (names : List (List ℕ)) → length s.bytes ≤ 4194304 → IsAnswer s.unit s.file s.names s.bytes (Refused refusal names) → IsFrontRefusal s refusal
+  OfTokens : (refusal : Refusal) (t : Lexed) → HasTokens s t → IsTokensRefusal t refusal → IsFrontRefusal s refusal
 
 -- the faults of one unit: of its bytes, of its tokens, of its grammar, and behind that
 abbrev pub IsFrontFault : Fault → Type 0
@@ -14,7 +62,7 @@ IsFrontFault (Constraint code) = Unit {0}
 IsFrontFault (Limit what) = Unit {0}
 IsFrontFault _ = ⊥
 
--- a refusal of the unit of a number, in which it stands
-pub record IsFrontRefusal (u : UnitNo) (refusal : Refusal) : Type 0 where
+-- a refusal for such a fault, which stands in the unit of a number
+pub record IsInUnit (u : UnitNo) (refusal : Refusal) : Type 0 where
   pub fault : IsFrontFault refusal.fault
   pub unit : refusal.at.unit ≡ u

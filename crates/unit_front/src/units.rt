@@ -1,7 +1,7 @@
-ghost use Rattle.std.specs.Prelude.{IfOk};
+ghost use Rattle.std.specs.Prelude.{◌≡◌, ◌<◌, length, IfOk};
 ghost use Rattle.c_lexer.specs.Lexed.{IfRefused};
 ghost use Rattle.cast_insert.specs.Refusals.{IfRefusal, IsCheckedRefusal};
-ghost use Rattle.unit_front.specs.Refusals.{IsFrontRefusal};
+ghost use Rattle.unit_front.specs.Refusals.{AreGrammatical, IsGrammatical, IsTokensRefusal, IsFrontRefusal, IsInUnit, too_large as refusal_of_size};
 ghost use Rattle.unit_lower.specs.Externals.{HasExternals};
 
 use c_lexer::{Tokens, lex};
@@ -19,8 +19,9 @@ const UNIT_BYTES: usize = 4_194_304;
 /// The CIL program that a translation unit becomes, with what linking it with others asks for; or its first fault. The unit has that
 /// number and file.
 ///
-/// It is refused for a limit on its bytes, then as `lex`, `parse` and `check_unit` say.
-#[tactic(auto, using(crate::proofs::Places::of_tokens, crate::proofs::Places::unit_of_tokens))]
+/// It is refused for a limit on its bytes, then as `lex`, `parse` and `check_unit` say; a unit that becomes a program is grammatical (C11
+/// 6.9).
+#[tactic(auto, using(crate::proofs::Causes::large, crate::proofs::Places::of_tokens))]
 pub fn front(
     alloc: Global,
     bytes: &[u8],
@@ -29,12 +30,12 @@ pub fn front(
     names: &mut NamePool,
     abi: Abi,
 ) -> Result<Fronted, Stop>
-    ensures refused { IfRefused result (IsFrontRefusal unit) }
+    requires named { file.0 < length names.old }
+    ensures grammatical { IfOk result (λ _. IsGrammatical (record { bytes = bytes.now; unit = unit; file = file; names = names.old })) }
+    ensures refused { IfRefused result (IsFrontRefusal (record { bytes = bytes.now; unit = unit; file = file; names = names.old })) }
+    ensures stands { IfRefused result (IsInUnit unit) }
     ensures externals { IfOk result HasExternals }
 {
-    if file.0 >= names.len() {
-        return Err(Stop::Memory);
-    }
     if bytes.len() > UNIT_BYTES {
         return Err(too_large(unit, file));
     }
@@ -43,14 +44,16 @@ pub fn front(
 }
 
 /// The CIL program that a translation unit of these tokens becomes.
-#[tactic(auto, using(crate::proofs::Places::of_grammar, crate::proofs::Places::of_check))]
+#[tactic(auto, using(crate::proofs::Causes::of_grammar, crate::proofs::Causes::of_check, crate::proofs::Places::of_grammar, crate::proofs::Places::of_check))]
 fn tokens_front(
     alloc: Global,
     tokens: &Tokens<'_>,
     names: &mut NamePool,
     abi: Abi,
 ) -> Result<Fronted, Stop>
-    ensures refused { IfRefused result (IsFrontRefusal tokens.now.unit) }
+    ensures grammatical { IfOk result (λ _. AreGrammatical tokens.now) }
+    ensures refused { IfRefused result (IsTokensRefusal tokens.now) }
+    ensures stands { IfRefused result (IsInUnit tokens.now.unit) }
     ensures externals { IfOk result HasExternals }
 {
     let tree = parse(alloc, tokens)?;
@@ -75,7 +78,8 @@ pub fn parsed_front(
 
 /// The refusal of a unit that has too many bytes.
 fn too_large(unit: UnitNo, file: NameId) -> Stop
-    ensures { IfRefusal result (IsFrontRefusal unit) }
+    ensures size { IfRefusal result (λ refusal. refusal ≡ refusal_of_size unit file) }
+    ensures stands { IfRefusal result (IsInUnit unit) }
 {
     Stop::Refused(Refusal {
         fault: Fault::Limit(What::UnitBytes),

@@ -1,13 +1,16 @@
-ghost use Rattle.std.specs.Prelude.{length, IfOk};
+ghost use Rattle.std.specs.Prelude.{◌≡◌, ◌+◌, ◌<◌, ℕ, List, map, length, IfOk, OnOk, None, Some};
+ghost use Rattle.std.specs.String.{string_bytes};
 ghost use Rattle.c_lexer.specs.Lexed.{IfRefused};
 ghost use Rattle.cil_tree.specs.Tree.{Program};
 ghost use Rattle.cil_tree.specs.View.{program_of};
 ghost use Rattle.cil_tree.specs.Programs.{IsProgram, IsTextOf};
-ghost use Rattle.unit_merger.specs.Refusals.{IsUnitRefusal, IsMergeRefusal, KeepsFirst, PrintedIfLong};
+ghost use Rattle.unit_merger.specs.Refusals.{IsUnitRefusal, IsMergeRefusal, KeepsFirst, PrintedIfLong, IfRefusal};
+ghost use Rattle.unit_merger.specs.Units.{AreGrammatical, AreMerged, IsRefusedAmong, IsUnitCause, over_limit};
+ghost use Rattle.unit_merger.specs.Naming.{IsNamed};
 
 use crate::pool::{begins, first_name};
 use crate::printing::{unit_printed, units_printed};
-use crate::refusals::{impossible, of_first, of_units};
+use crate::refusals::{impossible, of_first, of_link, of_units};
 use c_lexer::Tokens;
 use c_tree::Unit;
 use cil_base::{Abi, Bytes, Fault, Mode, NameId, NamePool, Place, Refusal, Stop, UnitNo, What};
@@ -28,6 +31,7 @@ pub fn unit_text(
 ) -> Result<Bytes, Stop>
     ensures text { IfOk result (λ b. (p : Program) × IsTextOf b p) }
     ensures refused { IfRefused result (IsUnitRefusal (length names.new)) }
+    ensures cause { IfRefused result (IsUnitCause tokens.now) }
     ensures printed { IfRefused result PrintedIfLong }
     ensures first { KeepsFirst result names.old names.new }
 {
@@ -51,6 +55,8 @@ pub fn units_text(
 ) -> Result<Bytes, Stop>
     ensures text { IfOk result (λ b. (p : Program) × IsTextOf b p) }
     ensures refused { IfRefused result (IsMergeRefusal (length files.now) (length names.new)) }
+    ensures merged { IfOk result (λ _. AreMerged sources.now.units.items sources.now.over (map string_bytes files.now)) }
+    ensures cause { IfRefused result (IsRefusedAmong sources.now.units.items sources.now.over (map string_bytes files.now)) }
     ensures printed { IfRefused result PrintedIfLong }
     ensures first { KeepsFirst result names.old names.new }
 {
@@ -64,6 +70,7 @@ pub fn units_text(
 
 /// The CIL program that translation units in memory become, of files of these names; it is refused as the text of `units_text` is.
 /// Own.
+#[tactic(auto, using(crate::proofs::InOrder::late))]
 pub fn units_program(
     alloc: Global,
     units: &[Bytes],
@@ -72,6 +79,8 @@ pub fn units_program(
 ) -> Result<CilUnit, Stop>
     ensures program { IfOk result (λ u. IsProgram (program_of names.new u)) }
     ensures refused { IfRefused result (IsMergeRefusal (length files.now) (length names.new)) }
+    ensures merged { IfOk result (λ _. AreMerged units.now None (map string_bytes files.now)) }
+    ensures cause { IfRefused result (IsRefusedAmong units.now None (map string_bytes files.now)) }
     ensures printed { IfRefused result PrintedIfLong }
 {
     let program = merged(alloc, units, None, files, false, names)?;
@@ -88,6 +97,7 @@ fn text_of_unit(
 ) -> Result<Bytes, Stop>
     ensures text { IfOk result (λ b. (p : Program) × IsTextOf b p) }
     ensures refused { IfRefused result (IsUnitRefusal (length names.new)) }
+    ensures cause { IfRefused result (IsUnitCause tokens.now) }
     ensures printed { IfRefused result PrintedIfLong }
 {
     let program = merged_unit(alloc, unit, tokens, names)?;
@@ -95,6 +105,7 @@ fn text_of_unit(
 }
 
 /// The text of the program that units of these files become.
+#[tactic(auto, using(crate::proofs::InOrder::late))]
 fn text_of_units(
     alloc: Global,
     sources: &Sources,
@@ -104,6 +115,8 @@ fn text_of_units(
 ) -> Result<Bytes, Stop>
     ensures text { IfOk result (λ b. (p : Program) × IsTextOf b p) }
     ensures refused { IfRefused result (IsMergeRefusal (length files.now) (length names.new)) }
+    ensures merged { IfOk result (λ _. AreMerged sources.now.units.items sources.now.over (map string_bytes files.now)) }
+    ensures cause { IfRefused result (IsRefusedAmong sources.now.units.items sources.now.over (map string_bytes files.now)) }
     ensures printed { IfRefused result PrintedIfLong }
 {
     let units = &sources.units;
@@ -119,6 +132,7 @@ fn merged_unit(
     names: &mut NamePool,
 ) -> Result<CilUnit, Stop>
     ensures refused { IfRefused result (IsUnitRefusal (length names.new)) }
+    ensures cause { IfRefused result (IsUnitCause tokens.now) }
     ensures printed { IfRefused result PrintedIfLong }
 {
     match program_of_unit(alloc, unit, tokens, names) {
@@ -138,6 +152,8 @@ fn merged(
     names: &mut NamePool,
 ) -> Result<CilUnit, Stop>
     ensures refused { IfRefused result (IsMergeRefusal (length files.now) (length names.new)) }
+    ensures merged { IfOk result (λ _. AreMerged units.now over (map string_bytes files.now)) }
+    ensures cause { IfRefused result (IsRefusedAmong units.now over (map string_bytes files.now)) }
     ensures printed { IfRefused result PrintedIfLong }
 {
     match program_of_units(alloc, units, over, files, common, names) {
@@ -148,12 +164,15 @@ fn merged(
 }
 
 /// The program that one unit becomes, or its first fault.
+#[tactic(auto, using(crate::proofs::InOrder::of_check))]
 fn program_of_unit(
     alloc: Global,
     unit: &Unit,
     tokens: &Tokens<'_>,
     names: &mut NamePool,
-) -> Result<CilUnit, Stop> {
+) -> Result<CilUnit, Stop>
+    ensures cause { IfRefused result (IsUnitCause tokens.now) }
+{
     let mode = Mode {
         common: false,
         abi: Abi::Lp64,
@@ -161,10 +180,14 @@ fn program_of_unit(
     let fronted = parsed_front(alloc, unit, tokens, names, mode.abi)?;
     let mut units = Vec::new(alloc);
     units.push(fronted)?;
-    merge(alloc, units, names, mode)
+    match merge(alloc, units, names, mode) {
+        Ok(program) => Ok(program),
+        Err(_) => Err(impossible()),
+    }
 }
 
 /// The program that units of these files become, or their first fault.
+#[tactic(auto, using(crate::proofs::InOrder::late))]
 fn program_of_units(
     alloc: Global,
     units: &[Bytes],
@@ -172,16 +195,24 @@ fn program_of_units(
     files: &[String],
     common: bool,
     names: &mut NamePool,
-) -> Result<CilUnit, Stop> {
+) -> Result<CilUnit, Stop>
+    ensures merged { IfOk result (λ _. AreMerged units.now over (map string_bytes files.now)) }
+    ensures cause { IfRefused result (IsRefusedAmong units.now over (map string_bytes files.now)) }
+{
     let mode = Mode {
         common,
         abi: Abi::Lp64,
     };
     let fronted = fronted(alloc, units, over, files, names, mode)?;
-    merge(alloc, fronted, names, mode)
+    match merge(alloc, fronted, names, mode) {
+        Ok(program) => Ok(program),
+        Err(Stop::Refused(refusal)) => Err(of_link(refusal)),
+        Err(Stop::Memory) => Err(Stop::Memory),
+    }
 }
 
 /// Each unit as a CIL program; it is refused at the first unit that has a fault.
+#[tactic(auto, using(crate::proofs::InOrder::none_yet))]
 fn fronted(
     alloc: Global,
     units: &[Bytes],
@@ -189,12 +220,13 @@ fn fronted(
     files: &[String],
     names: &mut NamePool,
     mode: Mode,
-) -> Result<Vec<Fronted>, Stop> {
+) -> Result<Vec<Fronted>, Stop>
+    ensures merged { IfOk result (λ _. AreMerged units.now over (map string_bytes files.now)) }
+    ensures cause { IfRefused result (IsRefusedAmong units.now over (map string_bytes files.now)) }
+{
     let mut done = Vec::new(alloc);
     for i in 0..units.len() {
-        let (unit, file) = named(i, files, names)?;
-        let fronted = front(alloc, units[i].as_slice(), unit, file, names, mode.abi)?;
-        done.push(fronted)?;
+        add_front(alloc, units, i, over, files, names, mode, &mut done)?;
     }
     if let Some(limit) = over {
         let (unit, file) = named(units.len(), files, names)?;
@@ -203,8 +235,34 @@ fn fronted(
     Ok(done)
 }
 
+/// Puts the CIL program of the unit of a number behind those before it.
+fn add_front(
+    alloc: Global,
+    units: &[Bytes],
+    i: usize,
+    over: Option<What>,
+    files: &[String],
+    names: &mut NamePool,
+    mode: Mode,
+    done: &mut Vec<Fronted>,
+) -> Result<(), Stop>
+    requires within { i < length units.now }
+    requires before { AreGrammatical units.now (map string_bytes files.now) i }
+    ensures grammatical { OnOk result (AreGrammatical units.now (map string_bytes files.now) (i + 1)) }
+    ensures cause { IfRefused result (IsRefusedAmong units.now over (map string_bytes files.now)) }
+{
+    let (unit, file) = named(i, files, names)?;
+    let fronted = front(alloc, units[i].as_slice(), unit, file, names, mode.abi)?;
+    done.push(fronted)?;
+    Ok(())
+}
+
 /// The number of a unit, and the number of its file's name.
-fn named(i: usize, files: &[String], names: &mut NamePool) -> Result<(UnitNo, NameId), Stop> {
+fn named(i: usize, files: &[String], names: &mut NamePool) -> Result<(UnitNo, NameId), Stop>
+    ensures named { IfOk result (λ at. IsNamed (map string_bytes files.now) i at.0 at.1 names.new) }
+    ensures known { IfOk result (λ at. at.1.0 < length names.new) }
+    ensures refused { IfRefused result (λ refusal. ⊥) }
+{
     if i >= files.len() || i >= u32::MAX as usize {
         return Err(impossible());
     }
@@ -213,7 +271,9 @@ fn named(i: usize, files: &[String], names: &mut NamePool) -> Result<(UnitNo, Na
 }
 
 /// The refusal of a unit that passes a limit.
-fn limit_of(limit: What, unit: UnitNo, file: NameId) -> Stop {
+fn limit_of(limit: What, unit: UnitNo, file: NameId) -> Stop
+    ensures { IfRefusal result (λ refusal. refusal ≡ over_limit limit unit.0 file) }
+{
     Stop::Refused(Refusal {
         fault: Fault::Limit(limit),
         at: Place {

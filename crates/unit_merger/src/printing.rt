@@ -4,6 +4,7 @@ ghost use Rattle.cil_tree.specs.Tree.{Program};
 ghost use Rattle.cil_tree.specs.Text.{Text};
 ghost use Rattle.cil_tree.specs.View.{program_of};
 ghost use Rattle.cil_tree.specs.Programs.{IsProgram, IsTextOf, text_limit};
+ghost use Rattle.unit_merger.specs.Units.{IsLateFault, IsUnitCause};
 ghost use Rattle.unit_merger.specs.Refusals.{IsUnitRefusal, IsMergeRefusal, PrintedIfLong};
 
 use crate::refusals::{impossible, too_long};
@@ -55,6 +56,7 @@ pub(crate) fn unit_printed(
 ) -> Result<Bytes, Stop>
     ensures text { IfOk result (λ b. (p : Program) × IsTextOf b p) }
     ensures refused { IfRefused result (IsUnitRefusal (length names.now)) }
+    ensures cause { IfRefused result (IsUnitCause tokens.now) }
     ensures printed { IfRefused result PrintedIfLong }
 {
     match printed(program, names)? {
@@ -96,6 +98,7 @@ pub(crate) fn units_printed(
     ensures text { IfOk result (λ b. (p : Program) × IsTextOf b p) }
     ensures program { OnOk result (IsProgram (program_of names.new program.now)) }
     ensures refused { IfRefused result (IsMergeRefusal (length files.now) (length names.new)) }
+    ensures late { IfRefused result (λ r. IsLateFault r.fault) }
     ensures printed { IfRefused result PrintedIfLong }
 {
     match printed(program, names)? {

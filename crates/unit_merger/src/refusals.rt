@@ -2,6 +2,8 @@ ghost use Rattle.std.specs.Prelude.{◌≡◌, ◌≢◌, ◌<◌, ℕ, length, 
 ghost use Rattle.std.specs.Option.{ForSome};
 ghost use Rattle.cil_base.specs.declared.faults.Fault.TheVariants.{Limit};
 ghost use Rattle.cil_base.specs.declared.faults.What.TheVariants.{PrintedBytes};
+ghost use Rattle.c_lexer.specs.Lexed.{Lexed};
+ghost use Rattle.unit_merger.specs.Units.{IsLateFault, IsUnitCause};
 ghost use Rattle.unit_merger.specs.Refusals.{IsUnitFault, IsUnitRefusal, IsMergeFault, has_two_places, HasOther, IsMergeRefusal, IfRefusal, IsTooLong, PrintedIfLong};
 
 use cil_base::{Fault, NamePool, Place, Refusal, Stop, UnitNo, What};
@@ -69,6 +71,7 @@ fn has_other(refusal: &Refusal, units: usize, names: &NamePool) -> bool
 pub(crate) fn of_first(refusal: Refusal, names: &NamePool) -> Stop
     ensures printed { IfRefusal result PrintedIfLong }
     ensures refused { IfRefusal result (IsUnitRefusal (length names.now)) }
+    ensures same { IfRefusal result (λ r. r ≡ refusal) }
 {
     if is_unit_fault(&refusal.fault)
         && refusal.at.unit == UnitNo(0)
@@ -85,6 +88,7 @@ pub(crate) fn of_first(refusal: Refusal, names: &NamePool) -> Stop
 pub(crate) fn of_units(refusal: Refusal, units: usize, names: &NamePool) -> Stop
     ensures printed { IfRefusal result PrintedIfLong }
     ensures refused { IfRefusal result (IsMergeRefusal units (length names.now)) }
+    ensures same { IfRefusal result (λ r. r ≡ refusal) }
 {
     if is_merge_fault(&refusal.fault)
         && is_within(&refusal.at, units, names)
@@ -96,9 +100,37 @@ pub(crate) fn of_units(refusal: Refusal, units: usize, names: &NamePool) -> Stop
     }
 }
 
+/// Whether a fault is one of the linking of units.
+fn is_link_fault(fault: &Fault) -> bool
+    ensures { IsTrue result → IsLateFault fault.now }
+{
+    match fault {
+        Fault::Duplicate | Fault::Incompatible => true,
+        Fault::Lexical
+        | Fault::Excluded(_)
+        | Fault::Syntax
+        | Fault::Constraint(_)
+        | Fault::Limit(_) => false,
+    }
+}
+
+/// What is answered where units cannot be linked.
+pub(crate) fn of_link(refusal: Refusal) -> Stop
+    ensures { IfRefusal result (λ r. IsLateFault r.fault) }
+{
+    if is_link_fault(&refusal.fault) {
+        Stop::Refused(refusal)
+    } else {
+        impossible()
+    }
+}
+
 /// What is answered where the text of a program is too long, by the place of the first unit's first token.
+#[tactic(auto, using(crate::proofs::InOrder::of_length))]
 pub(crate) fn too_long(at: Place, names: &NamePool) -> Stop
     requires { IsTooLong at }
+    ensures cause { (t : Lexed) → IfRefusal result (IsUnitCause t) }
+    ensures late { IfRefusal result (λ r. IsLateFault r.fault) }
     ensures printed { IfRefusal result PrintedIfLong }
     ensures unit { IfRefusal result (IsUnitRefusal (length names.now)) }
     ensures refused { (units : ℕ) → 0 < units → IfRefusal result (IsMergeRefusal units (length names.now)) }

@@ -1,4 +1,4 @@
-use Rattle.std.proofs.Common.{rules, ◌≡◌, Some, None, ℕ, List, Vec, Global, sym, subst, length, ◌∙◌}
+use Rattle.std.proofs.Common.{rules, ◌≡◌, Some, None, ℕ, List, Vec, Global, sym, subst, ◌∙◌}
 use Rattle.c_lexer.specs.Lexed.{IfRefused as IfStopped}
 use Rattle.c_meaning.specs.View.{expression_of}
 use Rattle.c_meaning.specs.Reading.{reading}
@@ -40,7 +40,7 @@ returns-in-Ok-clause-merged c =
 pub returns-clause-refused : goal.returns-clause-refused
 returns-clause-refused c =
     let none : None ≡ reading (spelled_in c.args.tokens.now.source c.args.tokens.now.entries) = rw c.in-None.is at c.in_ok-e.ensures in
-    λ file are. unit_refused (List ℕ) (Vec ℕ Global) c.in-Err.stop file c.unit_text.new.names (length c.unit_text.new.names) (found_tree file c.args.tokens.now c.args.names.now _ are c.in_ok-tree.ensures.reads) (found_none file c.args.tokens.now c.args.names.now are (sym none)) c.in-Err.ensures.refused
+    λ file are. unit_refused (List ℕ) (Vec ℕ Global) c.in-Err.stop file c.unit_text.new.names (record { tokens = c.args.tokens.now; names = c.args.names.now; are = are; tree = _; reads = c.in_ok-tree.ensures.reads }) (found_none file c.args.tokens.now c.args.names.now are (sym none)) c.in-Err.ensures.cause
 
 pub returns-clause-first : goal.returns-clause-first
 returns-clause-first c = stopped_first _ _ c.in-Err.stop _ _ c.in-Err.ensures.first

@@ -1,10 +1,11 @@
 use Rattle.std.proofs.Common.{◌≡◌, ◌∷◌, [], ◌∙◌, ap, sym, subst, map, get_or, length, List, ℕ, ◌⊎◌}
 use Rattle.std.specs.String.{string_bytes}
-use Rattle.cil_words.specs.Command.{files_of}
+use Rattle.cil_words.specs.Command.{files_of, merged_files}
 use Rattle.cil_lines.specs.declared.status.Status.TheVariants.{ReadFault, Memory}
 use Rattle.cil_commands.specs.Merge.{unit_asked, file_under, IsMergeAnswer}
 use Rattle.cil_commands.proofs.Answered.{accepted_by, refuses_by, refused_by, unit_of_merged}
-use Rattle.cil_commands.proofs.Words.{unit_asked_is, merge_file_is, merge_file_alone, one_missing, one_stray, if_some_by, names_begin}
+use Rattle.cil_commands.proofs.Several.{says_alone}
+use Rattle.cil_commands.proofs.Words.{unit_asked_is, merge_file_is, merge_file_alone, merged_alone, one_missing, one_stray, if_some_by, names_begin}
 use Rattle.cil_commands.proofs.top.merge_alone.Goals as goal
 
 pub returns-clause-accepted : goal.returns-clause-accepted
@@ -57,3 +58,11 @@ returns-clause-strays g c =
     one_stray (g.F.Files.told c.args.files.now) (files_of (map string_bytes c.args.words.now)) c.as_str.result.now (g.F.Files.strays c.merge.new.files ≡ g.F.Files.strays c.args.files.now)
     (merge_file_alone c.args.words.now c.args._common c.args.first c.index-words-first.result c.requires.command c.requires.last ∙ ap (λ name. name ∷ []) (sym (c.as_str.ensures.value ∙ ap string_bytes c.index-words-first.is)))
     c.merge.ensures.strays
+
+pub returns-clause-units : goal.returns-clause-units
+returns-clause-units g c =
+    says_alone (g.F.Files.told c.args.files.now) c.as_str.result.now (merged_files (map string_bytes c.args.words.now)) c.merge.result c.merge.new.names
+    (merged_alone c.args.words.now c.args._common c.args.first c.index-words-first.result c.requires.command c.requires.last ∙ ap (λ name. name ∷ []) (sym (c.as_str.ensures.value ∙ ap string_bytes c.index-words-first.is)))
+    (λ s. unit_of_merged (file_under (g.F.Files.told c.args.files.now) c.as_str.result.now) (c.merge.ensures.done s).0 (c.merge.ensures.done s).3)
+    (λ s. unit_of_merged (file_under (g.F.Files.told c.args.files.now) c.as_str.result.now) (c.merge.ensures.part s).0 (c.merge.ensures.part s).3)
+    c.merge.ensures.refused

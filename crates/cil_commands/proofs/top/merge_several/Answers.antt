@@ -5,7 +5,8 @@ use Rattle.cil_words.specs.Command.{files_of}
 use Rattle.cil_sources.specs.Files.{found_all, all_under}
 use Rattle.cil_lines.specs.declared.status.Status.TheVariants.{ReadFault, Memory}
 use Rattle.cil_commands.specs.Merge.{unit_asked}
-use Rattle.cil_commands.proofs.Words.{merge_within, merge_files_are, several_asked, several_begin, if_some_by}
+use Rattle.cil_commands.specs.Several.{SaysOfUnits}
+use Rattle.cil_commands.proofs.Words.{merge_within, merge_files_are, merged_several, several_asked, several_begin, if_some_by}
 use Rattle.cil_commands.proofs.top.merge_several.Goals as goal
 
 pub slice_bounds-merge_all-count : goal.slice_bounds-merge_all-count
@@ -55,3 +56,8 @@ pub returns-clause-strays : goal.returns-clause-strays
 returns-clause-strays g c =
     subst (λ ns. IfSome (all_under (g.F.Files.told c.args.files.now) ns) (λ _. g.F.Files.strays c.merge_all.new.files ≡ g.F.Files.strays c.args.files.now))
     (ap (map string_bytes) (take_rest c.args.words.now c.args.first) ∙ sym (merge_files_are c.args.words.now c.args.common c.args.first c.requires.command)) c.merge_all.ensures.strays
+
+pub returns-clause-units : goal.returns-clause-units
+returns-clause-units g c =
+    subst (λ ns. IfSome (all_under (g.F.Files.told c.args.files.now) ns) (λ units. SaysOfUnits units ns c.merge_all.result))
+    (ap (map string_bytes) (take_rest c.args.words.now c.args.first) ∙ sym (merged_several c.args.words.now c.args.common c.args.first c.requires.command)) c.merge_all.ensures.units

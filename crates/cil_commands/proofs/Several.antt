@@ -1,0 +1,157 @@
+-- Device: what is said of one file alone is said of the units that were asked for.
+use Rattle.std.proofs.Common.{◌≡◌, ◌≢◌, ℕ, ◌+◌, ◌<◌, ◌≤◌, nat_lt, if◌then◌else◌, List, [], ◌∷◌, map, length, drop, Option, Some, None, IfSome, slice_get, String, refl, sym, ap, subst, ◌∙◌, arith}
+use Rattle.std.proofs.lemmas.Bool.{le-ltb, lt-ltb}
+use Rattle.std.specs.Global.{Global}
+use Rattle.std.specs.Option.{option_map, option_and_then}
+use Rattle.std.specs.String.{string_bytes}
+use Rattle.cil_base.specs.declared.faults.Fault.TheVariants.{Limit}
+use Rattle.cil_base.specs.declared.faults.What.{What}
+use Rattle.cil_base.specs.declared.faults.What.TheVariants.{UnitBytes, TotalBytes, PrintedBytes}
+use Rattle.cil_base.specs.declared.faults.Refusal.{Refusal}
+use Rattle.c_lexer.specs.Lexed.{Lexed}
+use Rattle.c_lexer.specs.Tokens.{Refused as TokenRefused}
+use Rattle.c_meaning.specs.SourceFile.{SourceFile, IsLexed}
+use Rattle.c_parser.specs.UnitAnswers.{IsSyntaxFault}
+use Rattle.cast_insert.specs.Refusals.{IsCheckedRefusal}
+use Rattle.unit_front.specs.Refusals.{Source, HasTokens, IsGrammatical as IsGrammaticalSource, IsFrontRefusal, OfToken as AtToken, OfTokens, IsTokensRefusal, OfGrammar as AtGrammar, OfCheck as AtCheck}
+use Rattle.unit_merger.specs.Units.{IsUnitOf, IsGrammaticalAt, AreGrammatical, AreMerged, IsLateFault, IsRefusedAmong, InUnit, Over, Behind, IsUnitCause, OfCheck, OfLength}
+use Rattle.unit_merger.proofs.InOrder.{none_yet}
+use Rattle.outside.specs.Named.{Told, find_file}
+use Rattle.cil_sources.specs.Files.{all_under}
+use Rattle.cil_sources.specs.Units.{Kept, kept, kept_by, unit_fault}
+use Rattle.cil_words.specs.Command.{command_of, merged_files}
+use Rattle.cil_words.specs.declared.command.Command.{Command}
+use Rattle.cil_words.specs.declared.command.Command.TheVariants.{Merge, Run, Sample}
+use Rattle.cil_lines.specs.declared.status.Status.{Status}
+use Rattle.cil_lines.specs.declared.status.Status.TheVariants.{Done, Exited, StillRunning, WentUndefined, Usage, Refused, NotCil, ReadFault, WriteFault, Memory}
+use Rattle.cil_commands.specs.Grammatical.{AreTokens, IsGrammatical}
+use Rattle.cil_commands.specs.Merge.{file_under, too_large, IsNoGrammar, Large, OfToken, OfGrammar, IsRefused, NoGrammar, OfUnit, IfRefused}
+use Rattle.cil_commands.specs.Several.{SaysOfKept, SaysOfUnits}
+
+-- one unit is kept where it is small enough
+
+small_fault : (n : ℕ) → n ≤ 4194304 → unit_fault 0 n ≡ None
+small_fault n small =
+    let within : 0 + n ≤ 16777216 = omega (arith, small) in
+    ap (λ b. if b then Some UnitBytes else (if nat_lt 16777216 (0 + n) then Some TotalBytes else None)) (le-ltb 4194304 n small)
+    ∙ ap (λ b. if b then Some TotalBytes else None) (le-ltb 16777216 (0 + n) within)
+
+large_fault : (n : ℕ) → 4194304 < n → unit_fault 0 n ≡ Some UnitBytes
+large_fault n large = ap (λ b. if b then Some UnitBytes else (if nat_lt 16777216 (0 + n) then Some TotalBytes else None)) (lt-ltb 4194304 n large)
+
+small_kept : (bytes : List ℕ) → length bytes ≤ 4194304 → kept 0 (bytes ∷ []) ≡ record { units = bytes ∷ []; over = None }
+small_kept bytes small = ap (λ fault. kept_by fault bytes (kept (0 + length bytes) [])) (small_fault (length bytes) small)
+
+large_kept : (bytes : List ℕ) → 4194304 < length bytes → kept 0 (bytes ∷ []) ≡ record { units = []; over = Some UnitBytes }
+large_kept bytes large = ap (λ fault. kept_by fault bytes (kept (0 + length bytes) [])) (large_fault (length bytes) large)
+
+-- the only unit
+
+only : SourceFile → Source
+only unit = record { bytes = unit.bytes; unit = record { 0 = 0 }; file = record { 0 = 0 }; names = unit.name ∷ [] }
+
+stands : (unit : SourceFile) → IsUnitOf (unit.bytes ∷ []) (unit.name ∷ []) (only unit)
+unfolding only
+stands unit = record { bytes = refl; name = unit.name; file = refl; named = refl }
+
+has_tokens : (unit : SourceFile) (t : Lexed) (names : List (List ℕ)) → AreTokens unit t names → HasTokens (only unit) t
+unfolding only
+has_tokens unit t names are = record { small = are.small; source = are.source; unit = are.unit; names = names; lexed = are.lexed }
+
+first : (unit : SourceFile) → IsGrammatical unit → IsGrammaticalAt (unit.bytes ∷ []) (unit.name ∷ []) 0
+unfolding only
+first unit g = record { source = only unit; number = refl; stands = stands unit; grammatical = record { tokens = g.tokens; are = has_tokens unit g.tokens g.names g.are; spelled = (g.tree, g.reads) } }
+
+all : (unit : SourceFile) → IsGrammatical unit → AreGrammatical (unit.bytes ∷ []) (unit.name ∷ []) 1
+all unit g i below = let same : 0 ≡ i = omega (arith, below) in subst (IsGrammaticalAt (unit.bytes ∷ []) (unit.name ∷ [])) same (first unit g)
+
+abbrev Among : SourceFile → Kept → Refusal → Type 0
+Among unit k refusal = IsRefusedAmong k.units k.over (unit.name ∷ []) refusal
+
+in_unit : (unit : SourceFile) (refusal : Refusal) → length unit.bytes ≤ 4194304 → IsFrontRefusal (only unit) refusal → Among unit (kept 0 (unit.bytes ∷ [])) refusal
+unfolding only
+in_unit unit refusal small is =
+    subst (λ k. Among unit k refusal) (sym (small_kept unit.bytes small)) (InUnit refusal (only unit) (stands unit) (none_yet (unit.bytes ∷ []) (unit.name ∷ [])) is)
+
+no_grammar : (unit : SourceFile) (refusal : Refusal) (names : List (List ℕ)) → IsNoGrammar unit refusal names → Among unit (kept 0 (unit.bytes ∷ [])) refusal
+unfolding only
+no_grammar unit _ _ (Large names large) =
+    subst (λ k. Among unit k too_large) (sym (large_kept unit.bytes large)) (Over UnitBytes (record { 0 = 0 }) refl (none_yet [] (unit.name ∷ [])))
+no_grammar unit _ _ (OfToken refusal names small is) = in_unit unit refusal small (AtToken refusal names small is)
+no_grammar unit _ _ (OfGrammar refusal names t are is) = in_unit unit refusal are.small (OfTokens refusal t (has_tokens unit t names are) (AtGrammar refusal is))
+
+of_unit : (unit : SourceFile) (refusal : Refusal) (g : IsGrammatical unit) → IsUnitCause g.tokens refusal → Among unit (kept 0 (unit.bytes ∷ [])) refusal
+of_unit unit _ g (OfCheck refusal is) = in_unit unit refusal g.are.small (OfTokens refusal g.tokens (has_tokens unit g.tokens g.names g.are) (AtCheck refusal (g.tree, g.reads) is))
+of_unit unit _ g (OfLength refusal fault long other) =
+    subst (λ k. Among unit k refusal) (sym (small_kept unit.bytes g.are.small)) (Behind refusal refl (all unit g) (subst IsLateFault (sym fault) tt))
+
+refused : (unit : SourceFile) (refusal : Refusal) (names : List (List ℕ)) → IsRefused unit refusal names → Among unit (kept 0 (unit.bytes ∷ [])) refusal
+refused unit _ _ (NoGrammar refusal names is) = no_grammar unit refusal names is
+refused unit _ _ (OfUnit refusal names g none is) = of_unit unit refusal g is
+
+merged : (unit : SourceFile) → IsGrammatical unit → AreMerged (kept 0 (unit.bytes ∷ [])).units (kept 0 (unit.bytes ∷ [])).over (unit.name ∷ [])
+merged unit g =
+    subst (λ (k : Kept). AreMerged k.units k.over (unit.name ∷ [])) (sym (small_kept unit.bytes g.are.small)) (record { none = refl; grammatical = all unit g })
+
+says_one : (unit : SourceFile) (status : Status) (names : List (List ℕ)) → (status ≡ Done → IsGrammatical unit) → (status ≡ WriteFault → IsGrammatical unit) → IfRefused status (λ refusal. IsRefused unit refusal names)
+    → SaysOfUnits (unit.bytes ∷ []) (unit.name ∷ []) status
+says_one unit Done names done part is = merged unit (done refl)
+says_one unit (Exited s) names done part is = tt
+says_one unit StillRunning names done part is = tt
+says_one unit WentUndefined names done part is = tt
+says_one unit Usage names done part is = tt
+says_one unit (Refused refusal) names done part is = refused unit refusal names is
+says_one unit (NotCil k) names done part is = tt
+says_one unit ReadFault names done part is = tt
+says_one unit WriteFault names done part is = merged unit (part refl)
+says_one unit Memory names done part is = tt
+
+-- one file of those that are told
+pub says_alone : (told : Option Told) (name : List ℕ) (files : List (List ℕ)) (status : Status) (names : List (List ℕ)) → files ≡ name ∷ []
+    → (status ≡ Done → IfSome (file_under told name) (λ unit. IsGrammatical unit)) → (status ≡ WriteFault → IfSome (file_under told name) (λ unit. IsGrammatical unit))
+    → IfSome (file_under told name) (λ unit. IfRefused status (λ refusal. IsRefused unit refusal names))
+    → IfSome (all_under told files) (λ units. SaysOfUnits units files status)
+says_alone told name files status names alone done part is =
+    subst (λ fs. IfSome (all_under told fs) (λ units. SaysOfUnits units fs status)) (sym alone) (by told done part is)
+  where
+    found : (bytes : Option (List ℕ))
+        → (status ≡ Done → IfSome (option_map (λ b. let f : SourceFile = record { name = name; bytes = b } in f) bytes) (λ unit. IsGrammatical unit))
+        → (status ≡ WriteFault → IfSome (option_map (λ b. let f : SourceFile = record { name = name; bytes = b } in f) bytes) (λ unit. IsGrammatical unit))
+        → IfSome (option_map (λ b. let f : SourceFile = record { name = name; bytes = b } in f) bytes) (λ unit. IfRefused status (λ refusal. IsRefused unit refusal names))
+        → IfSome (option_and_then (λ b. option_map (λ more. b ∷ more) (let last : Option (List (List ℕ)) = Some [] in last)) bytes) (λ units. SaysOfUnits units (name ∷ []) status)
+    found None done part is = tt
+    found (Some b) done part is = says_one (record { name = name; bytes = b }) status names done part is
+    by : (told : Option Told) → (status ≡ Done → IfSome (file_under told name) (λ unit. IsGrammatical unit)) → (status ≡ WriteFault → IfSome (file_under told name) (λ unit. IsGrammatical unit))
+        → IfSome (file_under told name) (λ unit. IfRefused status (λ refusal. IsRefused unit refusal names)) → IfSome (all_under told (name ∷ [])) (λ units. SaysOfUnits units (name ∷ []) status)
+    by None done part is = tt
+    by (Some t) done part is = found (find_file name t.names) done part is
+
+-- several files
+
+kept_by_read : (units : List (List ℕ)) (kept_units : List (List ℕ)) (over : Option What) (files : List (List ℕ)) (status : Status) → kept_units ≡ (kept 0 units).units → over ≡ (kept 0 units).over → SaysOfKept kept_units over files status → SaysOfUnits units files status
+kept_by_read units kept_units over files status same limit says = subst (λ o. SaysOfKept (kept 0 units).units o files status) limit (subst (λ us. SaysOfKept us over files status) same says)
+
+pub says_read : (asked : Option (List (List ℕ))) (kept_units : List (List ℕ)) (over : Option What) (files : List (List ℕ)) (status : Status) → IfSome asked (λ units. (kept_units ≡ (kept 0 units).units) × (over ≡ (kept 0 units).over)) → SaysOfKept kept_units over files status
+    → IfSome asked (λ units. SaysOfUnits units files status)
+says_read None kept_units over files status read says = tt
+says_read (Some units) kept_units over files status read says = kept_by_read units kept_units over files status read.0 read.1 says
+
+-- a command that merges nothing
+says_none : (status : Status) → IfRefused status (λ refusal. ⊥) → SaysOfUnits [] [] status
+says_none Done is = record { none = refl; grammatical = none_yet [] [] }
+says_none (Exited s) is = tt
+says_none StillRunning is = tt
+says_none WentUndefined is = tt
+says_none Usage is = tt
+says_none (Refused refusal) is = absurd is
+says_none (NotCil k) is = tt
+says_none ReadFault is = tt
+says_none WriteFault is = record { none = refl; grammatical = none_yet [] [] }
+says_none Memory is = tt
+
+pub says_other : (told : Option Told) (words : List (List ℕ)) (status : Status) → merged_files words ≡ [] → IfRefused status (λ refusal. ⊥) → IfSome (all_under told (merged_files words)) (λ units. SaysOfUnits units (merged_files words) status)
+says_other told words status none is = subst (λ fs. IfSome (all_under told fs) (λ units. SaysOfUnits units fs status)) (sym none) (by told)
+  where
+    by : (told : Option Told) → IfSome (all_under told []) (λ units. SaysOfUnits units [] status)
+    by None = tt
+    by (Some t) = says_none status is

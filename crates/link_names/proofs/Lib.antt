@@ -1,0 +1,4 @@
+pub mod GroupingLaws
+pub mod GroupedLaws
+pub mod DuplicateLaws
+pub mod LinkingRows
