@@ -249,4 +249,3 @@ accepted_60 = refl
 accepted_61 : outcome (codes "int f(const int x); int f(int x) { return x; }") ≡ Some None
 unfolding outcome
 accepted_61 = refl
-

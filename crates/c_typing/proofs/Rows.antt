@@ -853,4 +853,3 @@ row_210 = refl
 row_211 : first (codes "struct { char a[2147483647], b; } x;") ≡ Some (Limit limit.ObjectSize, 0)
 unfolding first outcome
 row_211 = refl
-

@@ -186,6 +186,7 @@ with_whole t p s scalars f = with_step s (forgetting p (counted scalars (towards
   where
     forgetting : Part → Filling → Filling
     forgetting p f = record f { members = forgotten p.path f.members }
+
     counted : ℕ → Filling → Filling
     counted n f = record f { scalars = f.scalars + n }
 

@@ -42,11 +42,13 @@ const SIZES: [(u32, u32, usize); 4] = [
 fn the_sizes_of_samples(rt: HostRuntime) -> Result<(), Fail> {
     for (seed, count, bytes) in SIZES {
         let units = unit_sources(rt.alloc(), seed, count)?;
-        let mut sum = 0;
+        let mut rest = bytes;
         for unit in &units {
-            sum += unit.as_slice().len();
+            let length = unit.as_slice().len();
+            assert!(rt; length <= rest, "{seed} {count}");
+            rest -= length;
         }
-        assert_eq!(rt; sum, bytes, "{seed} {count}");
+        assert_eq!(rt; rest, 0, "{seed} {count}");
     }
     Ok(())
 }
