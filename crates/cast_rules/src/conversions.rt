@@ -1,9 +1,8 @@
-ghost use Rattle.std.specs.Prelude.{◌≡◌, ◌&&◌, not, IsTrue, IfOk, MatchOption};
-ghost use Rattle.cil_base.specs.Usual.{promoted};
+ghost use Rattle.std.specs.Prelude.{◌≡◌, ◌&&◌, not, IsTrue, IfOk};
 ghost use Rattle.cil_base.specs.declared.kinds.IntKind.{IntKind};
 ghost use Rattle.type_graph.specs.Shapes.{IntType, shape};
 ghost use Rattle.cast_rules.specs.Exact.{Refuses};
-ghost use Rattle.cast_rules.specs.Rows.{cast_row, kind_in, value_row, is_void, is_scalar, gives_scalar};
+ghost use Rattle.cast_rules.specs.Rows.{cast_row, value_row, is_void, is_scalar, gives_scalar};
 
 use crate::operands::{
     Operand, Sort, gives_scalar, is_scalar, is_unreadable, is_void, kind_in, sort_of,
@@ -67,9 +66,7 @@ pub(crate) fn both_converted(
 }
 
 /// An integer promoted (C11 6.3.1.1p2); an enumerated type computes in int (own).
-pub(crate) fn promoted(alloc: Global, e: TypedExp, t: &mut Types) -> Result<TypedExp, LayoutStop>
-    ensures { MatchOption (kind_in t.old (shape t.old.nodes e.ty.of.0)) (Unit {0}) (λ kind. IfOk result (λ v. shape t.new.nodes v.ty.of.0 ≡ IntType (promoted kind))) }
-{
+pub(crate) fn promoted(alloc: Global, e: TypedExp, t: &mut Types) -> Result<TypedExp, LayoutStop> {
     let Some(kind) = kind_in(t, e.ty().of) else {
         return Err(impossible());
     };

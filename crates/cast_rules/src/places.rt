@@ -9,9 +9,7 @@ ghost use Rattle.cast_rules.specs.Refusals.{IsRefusal, none, of_operator};
 
 use crate::arithmetic::indexed;
 use crate::conversions::{Pair, both_values, value_of};
-use crate::operands::{
-    Operand, gives_pointer, is_incomplete, is_object, is_unreadable,
-};
+use crate::operands::{Operand, gives_pointer, is_incomplete, is_object, is_unreadable};
 use crate::pairings::{Pairing, paired};
 use crate::stops::{allowed, impossible, made};
 use cil_base::{AggId, Code, RuleStop};
