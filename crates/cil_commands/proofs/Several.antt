@@ -121,6 +121,7 @@ says_alone told name files status names alone done part is =
         → IfSome (option_and_then (λ b. option_map (λ more. b ∷ more) (let last : Option (List (List ℕ)) = Some [] in last)) bytes) (λ units. SaysOfUnits units (name ∷ []) status)
     found None done part is = tt
     found (Some b) done part is = says_one (record { name = name; bytes = b }) status names done part is
+
     by : (told : Option Told) → (status ≡ Done → IfSome (file_under told name) (λ unit. IsGrammatical unit)) → (status ≡ WriteFault → IfSome (file_under told name) (λ unit. IsGrammatical unit))
         → IfSome (file_under told name) (λ unit. IfRefused status (λ refusal. IsRefused unit refusal names)) → IfSome (all_under told (name ∷ [])) (λ units. SaysOfUnits units (name ∷ []) status)
     by None done part is = tt

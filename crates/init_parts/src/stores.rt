@@ -11,8 +11,8 @@ use decl_types::{MemberPath, is_constant};
 use smallvec::SmallVec;
 use type_graph::{AggKind, QualType};
 use typed_parts::{
-    Evaluation, WalkStop, Walker, Within, bytes_of, convert, impossible, placed,
-    sized, string_of, unevaluated_place, violated,
+    Evaluation, WalkStop, Walker, Within, bytes_of, convert, impossible, placed, sized, string_of,
+    unevaluated_place, violated,
 };
 use typed_tree::{
     Definition, Path, Step, TypedExp, TypedLiteral, aggregate_part, constant_part, scalar_part,

@@ -10,7 +10,7 @@ pub returns-in_err-fronted-clause-cause : goal.returns-in_err-fronted-clause-cau
 returns-in_err-fronted-clause-cause c =
     let there : slice_get c.args.units.now c.args.i ≡ Some c.as_slice.result.now = slice_get-get_or c.args.units.now c.args.i c.index-units-i.result c.requires.within ∙ ap (λ b. Some b) (sym (c.as_slice.ensures ∙ c.index-units-i.is)) in
     let says : IfRefused c.front.result (IsRefusedAmong c.args.units.now c.args.over (map string_bytes c.args.files.now)) =
-        here c.front.result c.args.units.now (map string_bytes c.args.files.now) c.args.over c.args.i c.as_slice.result.now c.in_ok-unit.unit c.in_ok-unit.file c.named.new.names there c.in_ok-unit.ensures.named c.requires.before c.front.ensures.refused in
+    here c.front.result c.args.units.now (map string_bytes c.args.files.now) c.args.over c.args.i c.as_slice.result.now c.in_ok-unit.unit c.in_ok-unit.file c.named.new.names there c.in_ok-unit.ensures.named c.requires.before c.front.ensures.refused in
     search rules
 
 pub returns-clause-grammatical : goal.returns-clause-grammatical
