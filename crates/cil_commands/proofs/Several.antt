@@ -24,6 +24,7 @@ use Rattle.cil_words.specs.declared.command.Command.{Command}
 use Rattle.cil_words.specs.declared.command.Command.TheVariants.{Merge, Run, Sample}
 use Rattle.cil_lines.specs.declared.status.Status.{Status}
 use Rattle.cil_lines.specs.declared.status.Status.TheVariants.{Done, Exited, StillRunning, WentUndefined, Usage, Refused, NotCil, ReadFault, WriteFault, Memory}
+use Rattle.cil_commands.specs.Execute.{IsRunAnswer}
 use Rattle.cil_commands.specs.Grammatical.{AreTokens, IsGrammatical}
 use Rattle.cil_commands.specs.Merge.{file_under, too_large, IsNoGrammar, Large, OfToken, OfGrammar, IsRefused, NoGrammar, OfUnit, IfRefused}
 use Rattle.cil_commands.specs.Several.{SaysOfKept, SaysOfUnits}
@@ -156,3 +157,16 @@ says_other told words status none is = subst (λ fs. IfSome (all_under told fs) 
     by : (told : Option Told) → IfSome (all_under told []) (λ units. SaysOfUnits units [] status)
     by None = tt
     by (Some t) = says_none status is
+
+-- no run is refused
+pub run_not_refused : (status : Status) → IsRunAnswer status → IfRefused status (λ refusal. ⊥)
+run_not_refused Done is = tt
+run_not_refused (Exited s) is = tt
+run_not_refused StillRunning is = tt
+run_not_refused WentUndefined is = tt
+run_not_refused Usage is = tt
+run_not_refused (Refused refusal) is = absurd is
+run_not_refused (NotCil k) is = tt
+run_not_refused ReadFault is = tt
+run_not_refused WriteFault is = tt
+run_not_refused Memory is = tt

@@ -5,6 +5,8 @@ use Rattle.cil_words.specs.Command.{files_of}
 use Rattle.cil_lines.specs.declared.status.Status.TheVariants.{ReadFault, Memory}
 use Rattle.cil_commands.proofs.Ran.{run_kind, run_files, read_failed}
 use Rattle.cil_commands.proofs.Words.{run_within, run_file_is, run_files_are, run_is_asked, asked_run, one_missing, one_stray, run_names}
+use Rattle.cil_commands.proofs.Several.{says_other, run_not_refused}
+use Rattle.cil_commands.proofs.Words.{merged_by_run}
 use Rattle.cil_commands.proofs.top.run_words.Goals as goal
 
 pub returns-clause-kind : goal.returns-clause-kind
@@ -52,3 +54,7 @@ slice_bounds-args-start g c =
 
 pub bounds-words-file : goal.bounds-words-file
 bounds-words-file g c = run_within c.args.words.now c.args.steps c.args.file c.requires.command
+
+pub returns-clause-units : goal.returns-clause-units
+returns-clause-units g c =
+    says_other (g.F.Files.told c.args.files.now) (map string_bytes c.args.words.now) c.execute.result (merged_by_run (map string_bytes c.args.words.now) c.args.steps c.args.file c.requires.command) (run_not_refused c.execute.result c.execute.ensures.kind)
