@@ -57,4 +57,4 @@ bounds-words-file g c = run_within c.args.words.now c.args.steps c.args.file c.r
 
 pub returns-clause-units : goal.returns-clause-units
 returns-clause-units g c =
-    says_other (g.F.Files.told c.args.files.now) (map string_bytes c.args.words.now) c.execute.result (merged_by_run (map string_bytes c.args.words.now) c.args.steps c.args.file c.requires.command) (run_not_refused c.execute.result c.execute.ensures.kind)
+    says_other (g.F.Files.told c.args.files.now) (map string_bytes c.args.words.now) c.execute.result (merged_by_run (map string_bytes c.args.words.now) c.args.steps c.args.file c.requires.command) (run_not_refused c.execute.result (returns-clause-kind g c))
