@@ -36,9 +36,10 @@ install: program
 check-docs:
 	scripts/check-docs
 
-# Merges, runs and merges again an example with the C library of lib/, and compares each step with gcc.
+# Merges, runs and merges again an example with the C library of lib/, and compares each step with gcc; then the units and programs of tests/.
 check-program: program
 	scripts/check-program $(PROGRAM)
+	scripts/check-rows $(PROGRAM)
 
 bench: program
 	bench/thin.sh $(PROGRAM)

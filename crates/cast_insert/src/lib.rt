@@ -3,7 +3,7 @@
 //!
 //! Its public contract answers the typed unit, or a fault of the unit at one of its tokens or at its end. It is the first one: by declaration,
 //! in the order of the text, with the labels of a function behind all else of it, and what only the unit's end shows behind all else; that it
-//! is, is tested in `walk_tests`.
+//! is, is tested by the units of `tests/refused.rows`.
 //!
 //! The rules come from C11 6.7, 6.8 and 6.9.
 #![tactic(auto)]
