@@ -21,23 +21,12 @@ pub(crate) struct Types {
     pub kinds: TypeId,
 }
 
-/// A member with a name of its own.
-pub(crate) fn member(name: &'static [u8], ty: TypeId) -> Part {
-    Part {
-        name,
-        anonymous: false,
-        ty,
-        value: 0,
-    }
+fn member(name: &'static [u8], ty: TypeId) -> Part {
+    Part { name, ty, value: 0 }
 }
 
 fn enumerator(name: &'static [u8], ty: TypeId, value: i32) -> Part {
-    Part {
-        name,
-        anonymous: false,
-        ty,
-        value,
-    }
+    Part { name, ty, value }
 }
 
 /// `enum color`
