@@ -18,10 +18,11 @@ pub(crate) struct Builder {
     pub alloc: Global,
 }
 
-/// A member or an enumerator: its name, its type and its value.
+/// A member or an enumerator: its name, its type and its value, and whether it is an anonymous member with a made name.
 #[derive(Clone, Copy)]
 pub(crate) struct Part {
     pub name: &'static [u8],
+    pub anonymous: bool,
     pub ty: TypeId,
     pub value: i32,
 }
@@ -35,6 +36,15 @@ fn unqualified(of: TypeId) -> QualType
         restricted: false,
     };
     QualType { quals, of }
+}
+
+/// A member or an enumerator under its name.
+fn member_of(part: &Part, name: NameId) -> Member {
+    if part.anonymous {
+        Member::unnamed(name, unqualified(part.ty))
+    } else {
+        Member::named(name, unqualified(part.ty), part.value)
+    }
 }
 
 /// Whether the types are the graph's.
@@ -188,7 +198,7 @@ impl Builder {
         let mut members = Vec::new(self.alloc);
         for part in parts {
             let name = self.name(part.name)?;
-            members.push(Member::named(name, unqualified(part.ty), part.value))?;
+            members.push(member_of(part, name))?;
         }
         Ok(members)
     }

@@ -37,6 +37,8 @@ fn main(rt: HostRuntime) -> io::Result<()> {
 }
 
 #[cfg(test)]
+mod aggregate_tests;
+#[cfg(test)]
 mod read_tests;
 #[cfg(test)]
 mod tests;

@@ -21,12 +21,23 @@ pub(crate) struct Types {
     pub kinds: TypeId,
 }
 
-fn member(name: &'static [u8], ty: TypeId) -> Part {
-    Part { name, ty, value: 0 }
+/// A member with a name of its own.
+pub(crate) fn member(name: &'static [u8], ty: TypeId) -> Part {
+    Part {
+        name,
+        anonymous: false,
+        ty,
+        value: 0,
+    }
 }
 
 fn enumerator(name: &'static [u8], ty: TypeId, value: i32) -> Part {
-    Part { name, ty, value }
+    Part {
+        name,
+        anonymous: false,
+        ty,
+        value,
+    }
 }
 
 /// `enum color`
