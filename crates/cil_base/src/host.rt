@@ -46,19 +46,3 @@ fn is_one_of(text: &[u8], names: &[&str]) -> bool
         [name, rest @ ..] => text == name.as_bytes() || is_one_of(text, rest),
     }
 }
-
-#[cfg(test)]
-mod tests {
-    use super::*;
-    use std::test::Fail;
-
-    #[test]
-    fn knows_the_names_of_the_host(rt: HostRuntime) {
-        for name in HOST_NAMES {
-            assert!(rt; is_host_name(name.as_bytes()));
-        }
-        for name in [b"put".as_slice(), b"putsx", b"", b"main"] {
-            assert!(rt; !is_host_name(name));
-        }
-    }
-}

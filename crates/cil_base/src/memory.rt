@@ -17,16 +17,3 @@ impl<T: Drop> From<AllocFailed<T>> for Memory {
         Memory
     }
 }
-
-#[cfg(test)]
-mod tests {
-    use super::*;
-    use std::alloc::AllocError;
-
-    #[test]
-    fn prints_its_words(rt: HostRuntime) -> Result<(), AllocError> {
-        let text = format!(in rt.alloc(); "{}", Memory)?;
-        assert_eq!(rt; text.as_str(), "want of memory");
-        Ok(())
-    }
-}

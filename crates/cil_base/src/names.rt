@@ -130,27 +130,3 @@ impl NamePool {
         })
     }
 }
-
-#[cfg(test)]
-mod tests {
-    use super::*;
-    use std::test::Fail;
-
-    #[test]
-    fn numbers_texts_in_first_seen_order(rt: HostRuntime) -> Result<(), Fail> {
-        let mut pool = NamePool::new(rt.alloc());
-        for (text, number) in [(b"main", 0), (b"argc", 1), (b"main", 0)] {
-            assert_eq!(rt; pool.intern(text)?, NameId(number));
-        }
-        let bases = pool.bases()?;
-        assert_eq!(rt; bases.literal, NameId(2));
-        assert_eq!(rt; bases.tagless, NameId(3));
-        assert_eq!(rt; bases.temporary, NameId(4));
-        assert_eq!(rt; bases.label, NameId(5));
-        assert_eq!(rt; pool.bases()?, bases);
-        assert_eq!(rt; pool.len(), 6);
-        assert!(rt; bases.tagless.0 < pool.len());
-        assert_eq!(rt; pool.text(bases.tagless), b"__anon".as_slice());
-        Ok(())
-    }
-}

@@ -269,27 +269,3 @@ fn joined(a: u64, b: u64) -> u64
 {
     a | b
 }
-
-#[cfg(test)]
-mod tests {
-    use super::*;
-    use std::test::Fail;
-
-    /// What gcc 12 computes for these expressions, where C11 defines them.
-    #[test]
-    fn computes_as_a_c_compiler(rt: HostRuntime) {
-        assert_eq!(rt; arith(BinOp::Div, IntKind::Int, -7, 2), Some(-3));
-        assert_eq!(rt; arith(BinOp::Rem, IntKind::Int, -7, 2), Some(-1));
-        assert_eq!(rt; arith(BinOp::Rem, IntKind::Int, -2147483648, -1), None);
-        assert_eq!(rt; arith(BinOp::Shl, IntKind::UInt, 3, 31), Some(2147483648));
-        assert_eq!(rt; arith(BinOp::Shr, IntKind::Long, -9, 1), Some(-5));
-        let greatest = 18446744073709551615;
-        assert_eq!(rt;
-            arith(BinOp::Mul, IntKind::ULong, greatest, greatest),
-            Some(1)
-        );
-        assert_eq!(rt; arith(BinOp::Xor, IntKind::Int, -1, 5), Some(-6));
-        assert_eq!(rt; wrap(IntKind::Char, 200), -56);
-        assert_eq!(rt; wrap(IntKind::Bool, 256), 1);
-    }
-}

@@ -19,6 +19,3 @@ pub use calling::{Destination, Evaluated, evaluate, keep};
 pub use courses::{Stop, run_course};
 pub use frames::{Entity, Frame, Function};
 pub use laws::{frames_are_meant, loaded_functions_are_meant, runs_only_grow};
-
-#[cfg(test)]
-mod tests;

@@ -11,6 +11,3 @@ mod sources;
 
 pub use file::read_file;
 pub use sources::{Sources, read_units};
-
-#[cfg(test)]
-mod tests;

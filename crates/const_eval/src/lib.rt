@@ -13,6 +13,3 @@ mod known;
 
 pub use constants::eval;
 pub use form::is_constant_form;
-
-#[cfg(test)]
-mod tests;

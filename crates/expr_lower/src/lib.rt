@@ -19,6 +19,3 @@ pub use output::{FunctionOut, UnitOut};
 pub use results::converted;
 pub use shapes::{impossible, param_of, result_of};
 pub use walk::{Lowered, effect, initialise, lower, value};
-
-#[cfg(test)]
-mod tests;

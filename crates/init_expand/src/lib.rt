@@ -12,6 +12,3 @@ mod spots;
 mod sweep;
 
 pub use images::image;
-
-#[cfg(test)]
-mod tests;

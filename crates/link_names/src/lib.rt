@@ -17,6 +17,3 @@ mod units;
 pub use linking::links;
 pub use names::{LinkedName, LinkedSite, Links};
 pub use units::{Fronted, Site};
-
-#[cfg(test)]
-mod tests;

@@ -11,6 +11,3 @@ mod integers;
 
 pub use characters::{character_value, string_bytes};
 pub use integers::integer_value;
-
-#[cfg(test)]
-mod tests;

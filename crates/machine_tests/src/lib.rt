@@ -1,4 +1,4 @@
-//! The tests of `cil_machine`, `cil_control` and `cil_code`.
+//! The tests of `cil_machine`, `cil_control`, `cil_code` and `cil_frames`.
 //!
 //! They use public calls alone, and stand in a crate of their own so that those crates are proved once, and not once more with their tests.
 #![tactic(auto)]
@@ -7,6 +7,8 @@
 mod control;
 #[cfg(test)]
 mod expressions;
+#[cfg(test)]
+mod frames;
 #[cfg(test)]
 mod loading;
 #[cfg(test)]

@@ -11,6 +11,3 @@ mod mapping;
 
 pub use laws::mapped_types_keep_layouts;
 pub use mapping::map_graph;
-
-#[cfg(test)]
-mod tests;

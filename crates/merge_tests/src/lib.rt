@@ -6,6 +6,8 @@
 #[cfg(test)]
 mod linkage;
 #[cfg(test)]
+mod lowered;
+#[cfg(test)]
 mod row;
 #[cfg(test)]
 mod types;

@@ -11,6 +11,3 @@ mod scopes;
 
 pub use log::Entry;
 pub use scopes::Scopes;
-
-#[cfg(test)]
-mod tests;

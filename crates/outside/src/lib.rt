@@ -24,6 +24,3 @@ pub use std_sink::StdSink;
 pub use std_source::StdSource;
 pub use traits::{Failed, Files, Sink, Source};
 pub use transfer::{ReadStop, read_all, write_all};
-
-#[cfg(test)]
-mod tests;

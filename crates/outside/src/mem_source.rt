@@ -96,24 +96,3 @@ impl Source for MemSource {
         Ok(n)
     }
 }
-
-#[cfg(test)]
-mod tests {
-    use super::*;
-    use std::test::Fail;
-
-    #[test]
-    fn a_number_stays_at_the_last(rt: HostRuntime) -> Result<(), Fail> {
-        let mut source = MemSource::new(
-            b"abc".to_vec(rt.alloc())?,
-            1,
-            vec![in rt.alloc(); u64::MAX]?,
-        );
-        source.number = u64::MAX - 1;
-        let mut buf = [0u8; 1];
-        assert_eq!(rt; source.read(&mut buf), Ok(1));
-        assert_eq!(rt; source.read(&mut buf), Err(Failed));
-        assert_eq!(rt; source.read(&mut buf), Err(Failed));
-        Ok(())
-    }
-}

@@ -10,6 +10,3 @@ mod units;
 mod words;
 
 pub use units::{unit_files, unit_sources};
-
-#[cfg(test)]
-mod tests;

@@ -11,6 +11,3 @@ mod labels;
 mod statements;
 
 pub use body::function;
-
-#[cfg(test)]
-mod tests;

@@ -12,6 +12,3 @@ mod pairs;
 
 pub use compatibility::compatible;
 pub use composites::composite;
-
-#[cfg(test)]
-mod tests;

@@ -235,6 +235,3 @@ impl TypeGraph {
         aggregate.rename(tag, names);
     }
 }
-
-#[cfg(test)]
-mod tests;

@@ -24,6 +24,3 @@ pub use class_table::{ClassNo, Classes};
 pub use merging::{ClassStop, classes};
 pub use parties::{Group, HasGraph, Party};
 pub use stems::stem;
-
-#[cfg(test)]
-mod tests;

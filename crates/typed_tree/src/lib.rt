@@ -35,6 +35,3 @@ pub use statements::TypedStmt;
 pub use units::{
     Definition, Entity, EntityKind, Ordinary, TypedFunction, TypedLiteral, TypedLocal, TypedUnit,
 };
-
-#[cfg(test)]
-mod tests;

@@ -10,6 +10,3 @@ mod log;
 mod scopes;
 
 pub use scopes::Scopes;
-
-#[cfg(test)]
-mod tests;

@@ -14,6 +14,3 @@ mod types;
 mod unit;
 
 pub use unit::lower_unit;
-
-#[cfg(test)]
-mod tests;

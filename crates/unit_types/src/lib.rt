@@ -17,6 +17,3 @@ pub use class::Class;
 pub use members::{can_complete, members_fit};
 pub use quals::{PLAIN, joined, unqualified};
 pub use types::Types;
-
-#[cfg(test)]
-mod tests;

@@ -1,7 +1,7 @@
-use super::*;
 use cil_base::{
     Abi, AggId, BinOp, Constant, EntityId, IntKind, LocalId, Memory, NameId, TypeId, UnOp,
 };
+use const_eval::{eval, is_constant_form};
 use layout_lp64::LayoutStop;
 use std::alloc::Global;
 use std::process::Abort;

@@ -1,6 +1,6 @@
-use super::*;
 use cil_base::{Abi, AggId, IntKind, Memory, NameId, TypeId};
 use layout_lp64::LayoutStop;
+use map_graph::map_graph;
 use std::alloc::Global;
 use std::process::Abort;
 use std::test::Fail;

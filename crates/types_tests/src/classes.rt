@@ -1,10 +1,10 @@
-use super::*;
 use cil_base::{Abi, AggId, IntKind, NameId, TypeId};
 use layout_lp64::LayoutStop;
 use std::alloc::Global;
 use std::process::Abort;
 use std::test::Fail;
 use type_graph::{AggKind, Member, Members, QualType, Quals};
+use unit_types::{Class, Types, can_complete, members_fit, unqualified};
 
 const CONST: Quals = Quals {
     constant: true,

@@ -1,13 +1,13 @@
-use crate::{
-    Branches, StepForm, TypedExp, TypedInit, TypedNode, assign, binary, call, compound, compute,
-    conditional, decay, declaration, entity, evaluation, initialiser, integer, literal, load,
-    local, member, scalar_part, selection, step, subscript,
-};
 use cil_base::{AggId, BinOp, EntityId, LocalId, Memory, TypeId};
 use std::alloc::Global;
 use std::mem::size_of;
 use std::process::Abort;
 use type_graph::QualType;
+use typed_tree::{
+    Branches, Path, StepForm, TypedExp, TypedInit, TypedNode, TypedStmt, assign, binary, call,
+    compound, compute, conditional, decay, declaration, entity, evaluation, initialiser, integer,
+    literal, load, local, member, scalar_part, selection, step, subscript,
+};
 use unit_types::unqualified;
 
 const INT: TypeId = TypeId(0);
@@ -243,7 +243,7 @@ fn builders_tell_effects_and_places(rt: HostRuntime) -> Result<(), Memory> {
 /// `{ 2 }`, of a scalar.
 fn one_scalar(alloc: Global) -> Result<TypedInit, Memory> {
     let mut steps = Vec::new(alloc);
-    steps.push(scalar_part(crate::Path::new(alloc), two(alloc)?))?;
+    steps.push(scalar_part(Path::new(alloc), two(alloc)?))?;
     Ok(initialiser(steps))
 }
 
@@ -273,17 +273,17 @@ fn statements_stand_in_order(rt: HostRuntime) -> Result<(), Memory> {
     items.push(declaration(LocalId(3), Some(one_scalar(alloc)?)))?;
     items.push(selection(value(alloc)?, holds, Vec::new(alloc)))?;
     match compound(items) {
-        crate::TypedStmt::Block(items) => assert!(rt; is_in_order(&items)),
+        TypedStmt::Block(items) => assert!(rt; is_in_order(&items)),
         _ => assert!(rt; false),
     }
     Ok(())
 }
 
-fn is_in_order(items: &[crate::TypedStmt]) -> bool {
+fn is_in_order(items: &[TypedStmt]) -> bool {
     match items {
         [
-            crate::TypedStmt::Declare(n, Some(init)),
-            crate::TypedStmt::If(test, holds, fails),
+            TypedStmt::Declare(n, Some(init)),
+            TypedStmt::If(test, holds, fails),
         ] => {
             *n == LocalId(3)
                 && init.steps.len() == 1

@@ -1,6 +1,7 @@
-use crate::characters::character_value;
-use crate::integers::integer_value;
+//! Values of integer and character constants.
+
 use cil_base::{Abi, IntKind, Memory};
+use literal_values::{character_value, integer_value};
 use std::process::Abort;
 
 /// Integer constants with the kind that gcc gives them (`_Generic`) on a 64-bit system, and their values.

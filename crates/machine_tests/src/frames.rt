@@ -1,10 +1,10 @@
 ghost use Rattle.std.specs.Prelude.{◌<◌, IfOk, length};
 ghost use Rattle.cil_code.specs.Leading.{LeadOn};
 
-use crate::{Argument, Automatic, Stop, enter, evaluate, keep, leave, run_course};
 use byte_mem::{Byte, Cells, ObjName, Pointer, Scalar, Store, Value};
 use cil_base::{EntityId, IntKind, LocalId};
 use cil_code::{Call, Datum, Kind, Operand, Receiver, Step};
+use cil_frames::{Argument, Automatic, Stop, enter, evaluate, keep, leave, run_course};
 use cil_machine::{Spot, Term};
 use std::alloc::{AllocError, Global};
 use std::test::Fail;

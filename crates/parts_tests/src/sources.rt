@@ -1,7 +1,7 @@
 //! Units of files in memory: which are kept, and which limit is passed.
 
-use crate::{Sources, read_units};
 use cil_base::What;
+use cil_sources::{Sources, read_units};
 use outside::{MemFiles, ReadStop};
 use std::alloc::Global;
 use std::process::Abort;

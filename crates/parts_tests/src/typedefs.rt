@@ -1,6 +1,8 @@
-use crate::scopes::Scopes;
+//! Which names are typedef names, scope by scope.
+
 use cil_base::{Memory, NameId};
 use std::test::Fail;
+use typedef_scopes::Scopes;
 
 const T: NameId = NameId(3);
 

@@ -1,5 +1,7 @@
-use crate::scopes::Scopes;
+//! What names denote, scope by scope.
+
 use cil_base::{Memory, NameId};
+use name_scopes::Scopes;
 use std::process::Abort;
 
 const X: NameId = NameId(3);

@@ -1,6 +1,6 @@
 //! The units of samples: their texts and the names of their files.
 
-use crate::{unit_files, unit_sources};
+use sample_units::{unit_files, unit_sources};
 use std::test::Fail;
 
 const FIRST: &str =

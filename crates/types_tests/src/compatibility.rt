@@ -1,10 +1,10 @@
 ghost use Rattle.std.specs.Prelude.{◌≡◌};
 
-use super::*;
 use cil_base::{IntKind, Memory, TypeId};
 use std::alloc::Global;
 use std::process::Abort;
 use std::test::Fail;
+use type_compat::{compatible, composite};
 use type_graph::{AggKind, Node, QualType, Quals, TypeGraph, TypeList};
 
 /// A type with or without `const`.

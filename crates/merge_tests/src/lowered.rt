@@ -1,11 +1,17 @@
-use super::*;
-use cil_base::{Bases, BinOp, IntKind, Memory, NameId};
-use cil_tree::Exp;
+//! The least that lowering makes: of a sum, of a unit with nothing in it.
+
+use cil_base::{Abi, Bases, BinOp, IntKind, Memory, NameId};
+use cil_tree::{CilUnit, Exp};
+use expr_lower::{FunctionOut, Lowered, UnitOut, lower};
+use link_names::Fronted;
 use std::alloc::Global;
 use std::process::Abort;
 use std::test::Fail;
 use type_graph::{Node, TypeGraph};
-use typed_tree::{binary, integer};
+use type_iso::{HasGraph, stem};
+use typed_tree::{binary, integer, translation_unit};
+use unit_lower::lower_unit;
+use unit_types::Types;
 
 /// The bases of made names.
 const BASES: Bases = Bases {
@@ -63,4 +69,46 @@ fn a_sum_makes_no_instruction(rt: HostRuntime) -> Result<(), Fail> {
         None => assert!(rt; false),
     }
     Ok(())
+}
+
+#[test]
+fn an_empty_unit_is_an_empty_program(rt: HostRuntime) -> Result<(), Fail> {
+    let alloc = rt.alloc();
+    let types = Types::new(alloc, Abi::Lp64);
+    let unit = translation_unit(types, Vec::new(alloc), Vec::new(alloc));
+    let fronted = lower_unit(alloc, &unit, BASES)?;
+    assert!(rt; fronted.cil.globals.is_empty());
+    Ok(())
+}
+
+#[test]
+fn a_unit_has_its_types(rt: HostRuntime) {
+    let alloc = rt.alloc();
+    let unit = Fronted {
+        cil: CilUnit {
+            graph: TypeGraph::new(alloc),
+            globals: Vec::new(alloc),
+        },
+        sites: Vec::new(alloc),
+        ordinary: Vec::new(alloc),
+    };
+    assert_eq!(rt; unit.graph().len(), 0);
+}
+
+#[test]
+fn stems_have_no_suffix(rt: HostRuntime) {
+    for (text, expected) in [
+        (b"s".as_slice(), b"s".as_slice()),
+        (b"s___0", b"s"),
+        (b"s___0___12", b"s"),
+        (b"s___", b"s___"),
+        (b"s__1", b"s__1"),
+        (b"s12", b"s12"),
+        (b"___1", b""),
+        (b"s____1", b"s_"),
+        (b"__anon___3", b"__anon"),
+        (b"", b""),
+    ] {
+        assert_eq!(rt; stem(text), expected);
+    }
 }

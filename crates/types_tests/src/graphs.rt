@@ -1,11 +1,9 @@
 ghost use Rattle.std.specs.Prelude.{◌≡◌, ◌<◌, true, length, IsTrue};
 ghost use Rattle.type_graph.specs.Arena.{complete};
 
-use super::*;
-use crate::aggregates::Member;
-use crate::nodes::{QualType, Quals};
-use cil_base::IntKind;
+use cil_base::{AggId, IntKind, Memory, NameId, TypeId};
 use std::test::Fail;
+use type_graph::{AggKind, Member, Members, Node, QualType, Quals, TypeGraph};
 
 #[test]
 fn equal_types_have_one_number(rt: HostRuntime) -> Result<(), Fail> {

@@ -1,4 +1,6 @@
-use crate::{
+//! Files, sources and sinks: which call fails, and what it answers.
+
+use outside::{
     Failed, Files, HostFiles, MemFiles, MemSink, MemSource, ReadStop, Sink, Source, StdSink,
     StdSource, read_all, write_all,
 };
