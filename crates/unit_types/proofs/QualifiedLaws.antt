@@ -16,11 +16,13 @@ use Rattle.type_graph.proofs.ArenaLaws.{some_there}
 use Rattle.type_graph.proofs.GrowthLaws.{added_as, added_shape, gains_one}
 use Rattle.type_graph.proofs.LayoutLaws.{layout_in-keeps, agg_layout_there, agg_layout_grows}
 use Rattle.type_graph.proofs.ShapeLaws.{kept, shape_past}
+use Rattle.type_compat.specs.Parts.{Element, GainsParts}
+use Rattle.type_compat.proofs.PartLaws.{with_parts}
 use Rattle.layout_lp64.specs.declared.layouts.LayoutStop.{LayoutStop}
 use Rattle.layout_lp64.specs.declared.layouts.LayoutStop.TheVariants.{TooBig, Memory}
 use Rattle.layout_lp64.specs.Tables.{AllFit, IsLeastTooBig}
 use Rattle.unit_types.specs.Normal.{joined, qualified}
-use Rattle.unit_types.specs.Steps.{StopsWith, IsTooBigWith}
+use Rattle.unit_types.specs.Steps.{Makes, StopsWith, IsTooBigWith}
 
 layout_qualified : (abi : Abi) (f : ℕ → Option Layout) (p : Quals) (s : Shape) → layout_in abi f (qualified p s).1 ≡ layout_in abi f s
 layout_qualified abi f p VoidType = refl
@@ -96,3 +98,8 @@ pub qualified_stops : (old g : Graph) (t : ℕ) (from of : QualType) (bound : Op
     → StopsWith g (Array of bound) e → e ≡ Memory
 qualified_stops old g t from of bound quals e grows w fit below is there element stops =
     qualified_fits g t of bound from.quals (joined from.quals quals) (shape old.nodes from.of.0) e w fit (kept old g t grows below ∙ is) there element stops
+
+-- the array is made behind parts of it
+pub array_gains : (g h k : Graph) (of : QualType) (bound : Option ℕ) (t : ℕ) → GainsParts g h (shape h.nodes of.of.0) → Makes h k (ArrayType of.quals (shape h.nodes of.of.0) bound) t → GainsParts g k (shape k.nodes t)
+array_gains g h k of bound t gains makes =
+    with_parts g h k t (ArrayType of.quals (shape h.nodes of.of.0) bound) makes.grows makes.only makes.is (λ v past below. Element (shape h.nodes v) (shape h.nodes of.of.0) of.quals bound (gains.each v past below))

@@ -9,6 +9,7 @@ use Rattle.type_graph.specs.declared.nodes.Node.{Node}
 use Rattle.type_graph.specs.Growth.{Grows, KeepsAggregates, AddsNode, with_members}
 use Rattle.type_graph.proofs.Lists.{get_there}
 use Rattle.type_graph.proofs.ShapeLaws.{shape_past}
+use Rattle.type_compat.specs.Parts.{GainsParts}
 use Rattle.layout_lp64.specs.declared.layouts.Layouts.{Layouts}
 use Rattle.layout_lp64.specs.declared.layouts.LayoutStop.{LayoutStop}
 use Rattle.layout_lp64.specs.declared.layouts.LayoutStop.TheVariants.{TooBig, Memory}
@@ -29,9 +30,9 @@ stops_added old g n k (TooBig t) arena grows adds stops = record { arena = g; nu
 stops_added old g n k Memory arena grows adds stops = tt
 
 -- the arena with the type that was made has a type that is too big
-pub stops_made : (old g : Graph) (s : Shape) (k : ℕ) (e : LayoutStop) → Grows old g → KeepsAggregates old g → k < length g.nodes → shape g.nodes k ≡ s → StopsAt g e → StopsMaking old s e
-stops_made old g s k (TooBig t) grows aggregates there is stops = record { arena = g; number = k; grows = grows; aggregates = aggregates; there = there; is = is; least = stops }
-stops_made old g s k Memory grows aggregates there is stops = tt
+pub stops_made : (old g : Graph) (s : Shape) (k : ℕ) (e : LayoutStop) → Grows old g → KeepsAggregates old g → k < length g.nodes → GainsParts old g (shape g.nodes k) → shape g.nodes k ≡ s → StopsAt g e → StopsMaking old s e
+stops_made old g s k (TooBig t) grows aggregates there gains is stops = record { arena = g; number = k; grows = grows; aggregates = aggregates; there = there; is = is; gains = subst (GainsParts old g) is gains; least = stops }
+stops_made old g s k Memory grows aggregates there gains is stops = tt
 
 pub flexible_past : (g : Graph) (t : ℕ) → length g.nodes ≤ t → flexible_shape g.aggs (shape g.nodes t) ≡ false
 flexible_past g t h = ap (flexible_shape g.aggs) (shape_past g.nodes t h)

@@ -7,6 +7,7 @@ use Rattle.type_graph.specs.declared.nodes.Node.{Node}
 use Rattle.type_graph.specs.Arena.{Graph, IsArena, NamesBelow, HasKind, members_of, members_fit}
 use Rattle.type_graph.specs.Shapes.{Shape, shape}
 use Rattle.type_graph.specs.Growth.{Grows, KeepsAggregates, AddsNode, GainsOnly, with_members}
+use Rattle.type_compat.specs.Parts.{GainsParts}
 use Rattle.layout_lp64.specs.declared.layouts.LayoutStop.{LayoutStop}
 use Rattle.layout_lp64.specs.declared.layouts.LayoutStop.TheVariants.{TooBig, Memory}
 use Rattle.layout_lp64.specs.Tables.{IsLeastTooBig}
@@ -40,7 +41,7 @@ abbrev pub StopsWith : Graph → Node → LayoutStop → Type 0
 StopsWith old n (TooBig t) = IsTooBigWith old n t.0
 StopsWith old n Memory = Unit {0}
 
--- a type of that shape was made, of parts that were made before, and the arena has a type that is too big: the least one is this
+-- a type of that shape was made, behind parts of it alone, and the arena has a type that is too big: the least one is this
 pub record IsTooBigMade (old : Graph) (s : Shape) (t : ℕ) : Type 0 where
   pub arena : Graph
   pub number : ℕ
@@ -48,6 +49,7 @@ pub record IsTooBigMade (old : Graph) (s : Shape) (t : ℕ) : Type 0 where
   pub aggregates : KeepsAggregates old arena
   pub there : number < length arena.nodes
   pub is : shape arena.nodes number ≡ s
+  pub gains : GainsParts old arena s
   pub least : IsLeastTooBig arena t
 
 -- then the least one is named; want of memory says nothing

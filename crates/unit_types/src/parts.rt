@@ -8,6 +8,7 @@ ghost use Rattle.layout_lp64.specs.Stops.{StopsAt};
 ghost use Rattle.layout_lp64.specs.declared.layouts.LayoutStop.TheVariants.{Memory as WantOfMemory};
 ghost use Rattle.unit_types.specs.Normal.{IsNormal, normal_node, normal_members};
 ghost use Rattle.type_compat.specs.Composed.{composite_shape};
+ghost use Rattle.type_compat.specs.Parts.{GainsParts};
 ghost use Rattle.unit_types.specs.Known.{KeepsKnown, KnowsCompleted};
 ghost use Rattle.unit_types.specs.Steps.{Makes, StopsWith, StopsMaking, StopsCompleting};
 
@@ -161,6 +162,7 @@ pub(crate) fn compose(
     ensures there { IfOk result (λ t. t.0 < length parts.new.graph.nodes) }
     ensures grows { OnOk result (Grows parts.old.graph parts.new.graph) }
     ensures aggregates { OnOk result (KeepsAggregates parts.old.graph parts.new.graph) }
+    ensures gains { IfOk result (λ t. GainsParts parts.old.graph parts.new.graph (shape parts.new.graph.nodes t.0)) }
     ensures stops { IfErr result (λ e. StopsMaking parts.old.graph (composite_shape (shape parts.old.graph.nodes a.0) (shape parts.old.graph.nodes b.0)) e) }
     ensures step { InStep parts.new.layouts parts.new.graph }
     ensures normal { IsNormal parts.new.graph }

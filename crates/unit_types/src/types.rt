@@ -13,6 +13,7 @@ ghost use Rattle.unit_types.specs.Steps.{Makes, IsAsked, MayComplete, StopsWith,
 ghost use Rattle.unit_types.specs.Classes.{Tells, kind_of, param_of, offset_in};
 ghost use Rattle.type_compat.specs.Compatible.{compatible_shape};
 ghost use Rattle.type_compat.specs.Composed.{composite_shape};
+ghost use Rattle.type_compat.specs.Parts.{GainsParts};
 ghost use Rattle.layout_lp64.specs.Tables.{InStep, AllFit};
 ghost use Rattle.unit_types.specs.Constants.{is_array, HasConstantMember, IsModifiable};
 ghost use Rattle.unit_types.specs.Normal.{is_normal, qualified};
@@ -337,12 +338,13 @@ impl Types {
 
     /// A type with these qualifiers added: those of an array go down to its elements (C11 6.7.3p9), and a function has none (own).
     /// Of a type that is not there it answers Memory. None gets too big.
-    #[tactic(auto, using(type_graph::proofs::GrowthLaws::grows_twice, type_graph::proofs::GrowthLaws::grows_none, type_graph::proofs::ShapeLaws::kept, crate::proofs::QualifiedLaws::qualified_stops))]
+    #[tactic(auto, using(type_graph::proofs::GrowthLaws::grows_twice, type_graph::proofs::GrowthLaws::grows_none, type_graph::proofs::ShapeLaws::kept, crate::proofs::QualifiedLaws::qualified_stops, type_compat::proofs::PartLaws::no_gain))]
     pub fn qualified(&mut self, quals: Quals, t: TypeId) -> Result<QualType, LayoutStop>
         ensures there { IfOk result (λ q. q.of.0 < length self.new.nodes) }
         ensures is { IfOk result (λ q. (q.quals, shape self.new.nodes q.of.0) ≡ qualified quals (shape self.old.nodes t.0)) }
         ensures grows { OnOk result (Grows self.old self.new) }
         ensures aggregates { OnOk result (KeepsAggregates self.old self.new) }
+        ensures gains { IfOk result (λ q. GainsParts self.old self.new (shape self.new.nodes q.of.0)) }
         ensures stops { IfErr result (λ e. e ≡ WantOfMemory) }
     {
         if t.0 >= self.parts.graph.len() {
@@ -387,6 +389,7 @@ impl Types {
         ensures there { IfOk result (λ t. t.0 < length self.new.nodes) }
         ensures grows { OnOk result (Grows self.old self.new) }
         ensures aggregates { OnOk result (KeepsAggregates self.old self.new) }
+        ensures gains { IfOk result (λ t. GainsParts self.old self.new (shape self.new.nodes t.0)) }
         ensures stops { IfErr result (StopsMaking self.old (composite_shape (shape self.old.nodes a.0) (shape self.old.nodes b.0))) }
     {
         let count = self.parts.graph.len();
