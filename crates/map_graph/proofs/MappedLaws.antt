@@ -1,15 +1,16 @@
 -- Device: types are mapped one by one.
-use Rattle.std.proofs.Common.{◌≡◌, ℕ, zero, suc, ◌+◌, ◌<◌, ◌≤◌, Bool, List, [], ◌∷◌, ◌++◌, length, drop, take, get_or, slice_get, slice_index_or, Some, refl, sym, ap, ◌∙◌, subst, add-one, append_assoc, append-nil, length-append, ◌⊎◌, inl, inr, arith}
+use Rattle.std.proofs.Common.{◌≡◌, ℕ, zero, suc, ◌+◌, ◌<◌, ◌≤◌, Bool, true, false, nat_lt, ltb-false, List, [], ◌∷◌, ◌++◌, length, drop, take, get_or, slice_get, slice_index_or, Some, refl, sym, ap, ◌∙◌, subst, add-one, append_assoc, append-nil, length-append, ◌⊎◌, inl, inr, arith}
+use borrow.Author.Tests.{ltb-true}
 use Rattle.cil_base.specs.declared.numbers.TypeId.{TypeId}
 use Rattle.type_graph.specs.declared.nodes.Node.{Node}
 use Rattle.type_graph.specs.declared.nodes.Node.TheVariants.{Void, Int, Ptr, Array, Func, Agg}
 use Rattle.type_graph.specs.Shapes.{Shape, Shapes, shape, shape_of, shapes_of, PtrType, ArrayType, FuncType, MoreTypes}
 use Rattle.type_graph.specs.Arena.{Graph, NamesBelow, EachType}
-use Rattle.type_graph.specs.Growth.{Grows, KeepsAggregates}
-use Rattle.type_graph.proofs.Lists.{get_push}
+use Rattle.type_graph.specs.Growth.{Grows, KeepsAggregates, GainsOnly}
+use Rattle.type_graph.proofs.Lists.{get_push, get_stays, get_at_end}
 use Rattle.type_graph.proofs.GrowthLaws.{grows_twice}
 use Rattle.type_graph.proofs.ShapeLaws.{kept}
-use Rattle.map_graph.specs.Mapped.{kept_quals, mapped_shape, mapped_shapes, Maps}
+use Rattle.map_graph.specs.Mapped.{kept_quals, mapped_shape, mapped_shapes, Maps, GainsMapped}
 use Rattle.map_graph.specs.Steps.{type_in, at_places, node_mapped, Gives, IsMapping}
 
 none_mapped : (g h : Graph) (f : ℕ → ℕ) (keep : Bool) → Maps g h f keep []
@@ -80,16 +81,31 @@ node_is_mapped g h f keep types m (Agg a) maps below = refl
 longer : (g h : Graph) → Grows g h → length g.nodes ≤ length h.nodes
 longer g h grows = omega (arith, ap length grows.nodes.1, length-append g.nodes grows.nodes.0)
 
+-- one more type is in the table
+gains_next : (old h k : Graph) (types : List TypeId) (u : TypeId) → GainsMapped old h types → GainsOnly h k u.0 → GainsMapped old k (types ++ u ∷ [])
+gains_next old h k types u gains only = record { each = λ v past below. by v past below (nat_lt v (length h.nodes)) refl }
+  where
+    by : (v : ℕ) → length old.nodes ≤ v → v < length k.nodes → (b : Bool) → nat_lt v (length h.nodes) ≡ b → (t : ℕ) × (slice_get (types ++ u ∷ []) t ≡ Some (record { 0 = v }))
+    by v past below true known =
+        let t = gains.each v past (ltb-true _ _ known) in
+        (t.0, get_stays types (u ∷ []) t.0 _ t.1)
+    by v past below false new =
+        (length types, subst (λ (x : ℕ). slice_get (types ++ u ∷ []) (length types) ≡ Some (record { 0 = x })) (sym (only.only v (ltb-false _ _ new) below)) (get_at_end types u))
+
+pub none_gained : (g : Graph) → GainsMapped g g []
+none_gained g = record { each = λ v past below. absurd (omega (arith, past, below)) }
+
 each_longer : (n m : ℕ) (ts : List TypeId) (u : TypeId) → n ≤ m → EachType n ts → u.0 < m → EachType m (ts ++ u ∷ [])
 each_longer n m [] u le each below = (below, tt)
 each_longer n m (t ∷ ts) u le each below = (omega (arith, each.0, le), each_longer n m ts u le each.1 below)
 
 -- one more type is mapped
 pub mapping_next : (g old h k : Graph) (f : ℕ → ℕ) (keep : Bool) (types new : List TypeId) (t m : ℕ) (n : Node) (u : TypeId) → IsMapping g old h f keep types t → Grows h k → KeepsAggregates h k
-    → shape g.nodes t ≡ shape_of (shape g.nodes) n → NamesBelow t m n → Gives k (node_mapped h types f keep n) u.0 → new ≡ types ++ u ∷ [] → IsMapping g old k f keep new (t + 1)
-mapping_next g old h k f keep types new t m n u mapping grows aggregates is below gives pushed = subst (λ (ts : List TypeId). IsMapping g old k f keep ts (t + 1)) (sym pushed) (record {
+    → shape g.nodes t ≡ shape_of (shape g.nodes) n → NamesBelow t m n → Gives k (node_mapped h types f keep n) u.0 → GainsOnly h k u.0 → new ≡ types ++ u ∷ [] → IsMapping g old k f keep new (t + 1)
+mapping_next g old h k f keep types new t m n u mapping grows aggregates is below gives only pushed = subst (λ (ts : List TypeId). IsMapping g old k f keep ts (t + 1)) (sym pushed) (record {
   so_many = length-append types (u ∷ []) ∙ ap (λ i. i + 1) mapping.so_many;
   maps = record { each = λ i x e. at i x (get_push types u i x e) };
+  gains = gains_next old h k types u mapping.gains only;
   there = each_longer (length h.nodes) (length k.nodes) types u (longer h k grows) mapping.there gives.there;
   grows = grows_twice old h k mapping.grows grows;
   aggregates = (aggregates.0 ∙ mapping.aggregates.0, aggregates.1 ∙ mapping.aggregates.1);

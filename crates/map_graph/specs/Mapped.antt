@@ -1,5 +1,5 @@
 -- Definition: types in another arena: aggregates have other numbers there, and qualifiers are kept or dropped.
-use Rattle.std.specs.Prelude.{◌≡◌, ℕ, ◌<◌, Bool, true, false, if◌then◌else◌, List, [], ◌∷◌, Some, length, slice_get, slice_index_or}
+use Rattle.std.specs.Prelude.{◌≡◌, ℕ, ◌<◌, ◌≤◌, Bool, true, false, if◌then◌else◌, List, [], ◌∷◌, Some, length, slice_get, slice_index_or}
 use Rattle.cil_base.specs.declared.numbers.AggId.{AggId}
 use Rattle.cil_base.specs.declared.numbers.TypeId.{TypeId}
 use Rattle.type_graph.specs.declared.nodes.Quals.{Quals}
@@ -31,3 +31,7 @@ number_in table a = (slice_index_or table a (record { 0 = 0 })).0
 -- each type of the table has, in the second arena, the mapped shape of the type at its place in the first
 pub record Maps (first second : Graph) (f : ℕ → ℕ) (keep : Bool) (types : List TypeId) : Type 0 where
   pub each : (t : ℕ) (u : TypeId) → slice_get types t ≡ Some u → (u.0 < length second.nodes) × (shape second.nodes u.0 ≡ mapped_shape f keep (shape first.nodes t))
+
+-- the second arena gained no type but those that the table names
+pub record GainsMapped (old new : Graph) (types : List TypeId) : Type 0 where
+  pub each : (v : ℕ) → length old.nodes ≤ v → v < length new.nodes → (t : ℕ) × (slice_get types t ≡ Some (record { 0 = v }))

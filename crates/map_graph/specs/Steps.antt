@@ -6,7 +6,7 @@ use Rattle.type_graph.specs.declared.nodes.Node.TheVariants.{Void, Int, Ptr, Arr
 use Rattle.type_graph.specs.Shapes.{Shape, VoidType, IntType, PtrType, ArrayType, FuncType, AggType, shape, shapes_of}
 use Rattle.type_graph.specs.Arena.{Graph, EachType}
 use Rattle.type_graph.specs.Growth.{Grows, KeepsAggregates}
-use Rattle.map_graph.specs.Mapped.{kept_quals, Maps}
+use Rattle.map_graph.specs.Mapped.{kept_quals, Maps, GainsMapped}
 
 -- the number that a table gives to a type
 abbrev pub type_in : List TypeId → ℕ → ℕ
@@ -35,6 +35,7 @@ pub record Gives (g : Graph) (s : Shape) (t : ℕ) : Type 0 where
 pub record IsMapping (first old second : Graph) (f : ℕ → ℕ) (keep : Bool) (types : List TypeId) (count : ℕ) : Type 0 where
   pub so_many : length types ≡ count
   pub maps : Maps first second f keep types
+  pub gains : GainsMapped old second types
   pub there : EachType (length second.nodes) types
   pub grows : Grows old second
   pub aggregates : KeepsAggregates old second

@@ -1,8 +1,8 @@
 ghost use Rattle.std.specs.Prelude.{◌≡◌, ◌<◌, ◌≤◌, length, IfOk};
 ghost use Rattle.type_graph.specs.Shapes.{shape, shapes_of, FuncType, AggType};
 ghost use Rattle.type_graph.specs.Arena.{IsArena, NamesBelow, EachType, HasKind};
-ghost use Rattle.type_graph.specs.Growth.{Grows, KeepsAggregates};
-ghost use Rattle.map_graph.specs.Mapped.{kept_quals, number_in, Maps};
+ghost use Rattle.type_graph.specs.Growth.{Grows, KeepsAggregates, GainsOnly};
+ghost use Rattle.map_graph.specs.Mapped.{kept_quals, number_in, Maps, GainsMapped};
 ghost use Rattle.map_graph.specs.Steps.{type_in, at_places, node_mapped, Gives};
 
 use cil_base::{AggId, Memory, TypeId};
@@ -54,7 +54,7 @@ fn map_params(alloc: Global, types: &[TypeId], params: &[TypeId]) -> Result<Vec<
 }
 
 /// A function type whose parts are mapped.
-#[tactic(auto, using(crate::proofs::MappedLaws::type_there, crate::proofs::MappedLaws::places_there))]
+#[tactic(auto, using(crate::proofs::MappedLaws::type_there, crate::proofs::MappedLaws::places_there, type_graph::proofs::GrowthLaws::gains_one))]
 fn map_function(
     alloc: Global,
     types: &[TypeId],
@@ -68,6 +68,7 @@ fn map_function(
     requires params { EachType (length types.now) params.now }
     requires there { EachType (length to.old.nodes) types.now }
     ensures gives { IfOk result (λ u. Gives to.new (FuncType (shape to.old.nodes (type_in types.now ret.0)) (shapes_of (shape to.old.nodes) (at_places types.now params.now)) proto variadic) u.0) }
+    ensures only { IfOk result (λ u. GainsOnly to.old to.new u.0) }
     ensures grows { Grows to.old to.new }
     ensures aggregates { KeepsAggregates to.old to.new }
 {
@@ -82,8 +83,10 @@ fn map_function(
 }
 
 /// A struct, union or enum of the second arena.
+#[tactic(auto, using(type_graph::proofs::GrowthLaws::gains_one))]
 fn map_aggregate(a: AggId, to: &mut TypeGraph) -> Result<TypeId, Memory>
     ensures gives { IfOk result (λ u. Gives to.new (AggType a.0) u.0) }
+    ensures only { IfOk result (λ u. GainsOnly to.old to.new u.0) }
     ensures grows { Grows to.old to.new }
     ensures aggregates { KeepsAggregates to.old to.new }
 {
@@ -94,7 +97,7 @@ fn map_aggregate(a: AggId, to: &mut TypeGraph) -> Result<TypeId, Memory>
 }
 
 /// A type whose parts are mapped, in the second arena.
-#[tactic(auto, using(crate::proofs::MappedLaws::type_there))]
+#[tactic(auto, using(crate::proofs::MappedLaws::type_there, type_graph::proofs::GrowthLaws::gains_one))]
 fn map_node(
     alloc: Global,
     n: &Node,
@@ -107,6 +110,7 @@ fn map_node(
     requires kind { HasKind to.old.abi n.now }
     requires there { EachType (length to.old.nodes) types.now }
     ensures gives { IfOk result (λ u. Gives to.new (node_mapped to.old types.now (number_in aggregates.now) keep n.now) u.0) }
+    ensures only { IfOk result (λ u. GainsOnly to.old to.new u.0) }
     ensures grows { Grows to.old to.new }
     ensures aggregates { KeepsAggregates to.old to.new }
 {
@@ -129,7 +133,7 @@ fn map_node(
 /// missing. Aggregates get the numbers that the table has for them; qualifiers are kept or dropped.
 ///
 /// Where the arenas have two data models, or an aggregate has no number, or one that is not there, it answers Memory.
-#[tactic(auto, using(type_graph::proofs::GrowthLaws::grows_twice, type_graph::proofs::GrowthLaws::grows_none, crate::proofs::MappedLaws::mapping_next))]
+#[tactic(auto, using(type_graph::proofs::GrowthLaws::grows_twice, type_graph::proofs::GrowthLaws::grows_none, crate::proofs::MappedLaws::mapping_next, crate::proofs::MappedLaws::none_gained))]
 pub fn map_graph(
     alloc: Global,
     from: &TypeGraph,
@@ -139,6 +143,7 @@ pub fn map_graph(
 ) -> Result<Vec<TypeId>, Memory>
     ensures count { IfOk result (λ types. length types.items ≡ length from.now.nodes) }
     ensures maps { IfOk result (λ types. Maps from.now to.new (number_in aggregates.now) keep_qualifiers types.items) }
+    ensures gains { IfOk result (λ types. GainsMapped to.old to.new types.items) }
     ensures grows { Grows to.old to.new }
     ensures aggregates { KeepsAggregates to.old to.new }
 {

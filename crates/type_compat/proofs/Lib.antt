@@ -3,3 +3,4 @@ pub mod Reflexive
 pub mod Composing
 pub mod PairLaws
 pub mod Idempotent
+pub mod PartLaws

@@ -3,3 +3,4 @@ pub mod Compatible
 pub mod Composed
 pub mod Functions
 pub mod Pairs
+pub mod Parts

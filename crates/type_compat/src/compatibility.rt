@@ -1,4 +1,4 @@
-ghost use Rattle.std.specs.Prelude.{◌≡◌, ◌<◌, length};
+ghost use Rattle.std.specs.Prelude.{◌≡◌, ◌<◌, length, IsTrue};
 ghost use Rattle.type_graph.specs.Shapes.{shape, shape_of, shapes_of, VoidType, IntType, PtrType, ArrayType, FuncType, AggType};
 ghost use Rattle.type_graph.specs.Arena.{EachType};
 ghost use Rattle.type_compat.specs.Pairs.{AllCompatible};
@@ -76,14 +76,17 @@ struct Prototype<'a> {
 }
 
 /// Whether two types of one graph are compatible (C11 6.2.7p1). An enum is compatible with int
-/// (6.7.2.2p4, own).
+/// (6.7.2.2p4, own). A number beyond the types is compatible with none.
 ///
 /// No pair of types is compared twice while there is memory to note it.
 pub fn compatible(g: &TypeGraph, a: TypeId, b: TypeId) -> bool
-    requires left { a.0 < length g.now.nodes }
-    requires right { b.0 < length g.now.nodes }
-    ensures { result ≡ compatible_shape g.now.aggs (shape g.now.nodes a.0) (shape g.now.nodes b.0) }
+    ensures there { IsTrue result → (a.0 < length g.now.nodes) × (b.0 < length g.now.nodes) }
+    ensures is { a.0 < length g.now.nodes → b.0 < length g.now.nodes → result ≡ compatible_shape g.now.aggs (shape g.now.nodes a.0) (shape g.now.nodes b.0) }
 {
+    let count = g.len();
+    if a.0 >= count || b.0 >= count {
+        return false;
+    }
     let mut known = Known::new(g.alloc());
     fits(g, &mut known, a, b)
 }

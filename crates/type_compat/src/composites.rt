@@ -1,8 +1,9 @@
 ghost use Rattle.std.specs.Prelude.{◌≡◌, ◌<◌, ◌≤◌, ◌++◌, ℕ, true, false, length, IfOk, OnOk, OnErr, Ok, MatchOption, IfSome, Some, None};
 ghost use Rattle.type_graph.specs.Shapes.{shape, shape_of, shapes_of, VoidType, IntType, PtrType, ArrayType, FuncType, AggType};
 ghost use Rattle.type_graph.specs.Arena.{EachType, IsArena};
-ghost use Rattle.type_graph.specs.Growth.{Grows, KeepsAggregates};
+ghost use Rattle.type_graph.specs.Growth.{Grows, KeepsAggregates, GainsOnly};
 ghost use Rattle.type_compat.specs.Pairs.{AllComposed};
+ghost use Rattle.type_compat.specs.Parts.{GainsParts, GainsAmong};
 ghost use Rattle.type_compat.specs.Composed.{known_bound, composite_shape, composite_shapes, IsPointee, IsElement};
 ghost use Rattle.type_compat.specs.Functions.{is_function, IsFunction, PartsBelow, composite_with};
 
@@ -15,11 +16,12 @@ use type_graph::{Node, QualType, TypeGraph, TypeList};
 /// an array of unknown bound takes the bound of the other, and a function without a prototype takes the
 /// prototype of the other. No pair of types is composed twice.
 ///
-/// After Memory the graph has perhaps gained types.
+/// It gains the composite and parts of it alone; after Memory it has perhaps gained others.
 pub fn composite(alloc: Global, g: &mut TypeGraph, a: TypeId, b: TypeId) -> Result<TypeId, Memory>
     requires left { a.0 < length g.old.nodes }
     requires right { b.0 < length g.old.nodes }
     ensures is { IfOk result (λ t. shape g.new.nodes t.0 ≡ composite_shape (shape g.old.nodes a.0) (shape g.old.nodes b.0)) }
+    ensures gains { IfOk result (λ t. GainsParts g.old g.new (shape g.new.nodes t.0)) }
     ensures there { IfOk result (λ t. t.0 < length g.new.nodes) }
     ensures same { a ≡ b → result ≡ Ok a }
     ensures grows { Grows g.old g.new }
@@ -31,6 +33,7 @@ pub fn composite(alloc: Global, g: &mut TypeGraph, a: TypeId, b: TypeId) -> Resu
 
 /// The composite of two types, among composites that are known.
 #[cycle(composed)]
+#[tactic(auto, using(crate::proofs::PartLaws::no_gain))]
 fn composed(
     g: &mut TypeGraph,
     answers: &mut Composites,
@@ -41,6 +44,7 @@ fn composed(
     requires right { b.0 < length g.old.nodes }
     requires pairs { AllComposed g.old answers.old }
     ensures is { IfOk result (λ t. shape g.new.nodes t.0 ≡ composite_shape (shape g.old.nodes a.0) (shape g.old.nodes b.0)) }
+    ensures gains { IfOk result (λ t. GainsParts g.old g.new (shape g.new.nodes t.0)) }
     ensures there { IfOk result (λ t. t.0 < length g.new.nodes) }
     ensures same { a ≡ b → result ≡ Ok a }
     ensures grows { Grows g.old g.new }
@@ -60,6 +64,7 @@ fn composed(
 
 /// The composite of two types, by their parts.
 #[cycle(composed)]
+#[tactic(auto, using(crate::proofs::PartLaws::no_gain))]
 fn parts_composed(
     g: &mut TypeGraph,
     answers: &mut Composites,
@@ -70,6 +75,7 @@ fn parts_composed(
     requires right { b.0 < length g.old.nodes }
     requires pairs { AllComposed g.old answers.old }
     ensures is { IfOk result (λ t. shape g.new.nodes t.0 ≡ composite_shape (shape g.old.nodes a.0) (shape g.old.nodes b.0)) }
+    ensures gains { IfOk result (λ t. GainsParts g.old g.new (shape g.new.nodes t.0)) }
     ensures there { IfOk result (λ t. t.0 < length g.new.nodes) }
     ensures grows { Grows g.old g.new }
     ensures aggregates { KeepsAggregates g.old g.new }
@@ -116,6 +122,7 @@ fn element_of(g: &TypeGraph, b: TypeId) -> Option<(QualType, Option<u64>)>
 
 /// The composite of a pointer and another type.
 #[cycle(composed)]
+#[tactic(auto, using(crate::proofs::PartLaws::no_gain))]
 fn composite_pointer(
     g: &mut TypeGraph,
     answers: &mut Composites,
@@ -129,6 +136,7 @@ fn composite_pointer(
     requires node { shape g.old.nodes a.0 ≡ PtrType pointee.quals (shape g.old.nodes pointee.of.0) }
     requires pairs { AllComposed g.old answers.old }
     ensures is { IfOk result (λ t. shape g.new.nodes t.0 ≡ composite_shape (shape g.old.nodes a.0) (shape g.old.nodes b.0)) }
+    ensures gains { IfOk result (λ t. GainsParts g.old g.new (shape g.new.nodes t.0)) }
     ensures there { IfOk result (λ t. t.0 < length g.new.nodes) }
     ensures grows { Grows g.old g.new }
     ensures aggregates { KeepsAggregates g.old g.new }
@@ -148,6 +156,7 @@ fn composite_pointer(
 
 /// The composite of an array and another type.
 #[cycle(composed)]
+#[tactic(auto, using(crate::proofs::PartLaws::no_gain))]
 fn composite_array(
     g: &mut TypeGraph,
     answers: &mut Composites,
@@ -162,6 +171,7 @@ fn composite_array(
     requires node { shape g.old.nodes a.0 ≡ ArrayType element.quals (shape g.old.nodes element.of.0) bound }
     requires pairs { AllComposed g.old answers.old }
     ensures is { IfOk result (λ t. shape g.new.nodes t.0 ≡ composite_shape (shape g.old.nodes a.0) (shape g.old.nodes b.0)) }
+    ensures gains { IfOk result (λ t. GainsParts g.old g.new (shape g.new.nodes t.0)) }
     ensures there { IfOk result (λ t. t.0 < length g.new.nodes) }
     ensures grows { Grows g.old g.new }
     ensures aggregates { KeepsAggregates g.old g.new }
@@ -222,6 +232,7 @@ fn function_of(alloc: Global, g: &TypeGraph, b: TypeId) -> Result<Option<Functio
 }
 
 /// The number of a function's type.
+#[tactic(auto, using(type_graph::proofs::GrowthLaws::gains_one))]
 fn add_function(
     g: &mut TypeGraph,
     ret: TypeId,
@@ -231,6 +242,7 @@ fn add_function(
 ) -> Result<TypeId, Memory>
     requires { (ret.0 < length g.old.nodes) × EachType (length g.old.nodes) params.items }
     ensures is { IfOk result (λ t. shape g.new.nodes t.0 ≡ FuncType (shape g.old.nodes ret.0) (shapes_of (shape g.old.nodes) params.items) proto variadic) }
+    ensures only { IfOk result (λ t. GainsOnly g.old g.new t.0) }
     ensures there { IfOk result (λ t. t.0 < length g.new.nodes) }
     ensures grows { Grows g.old g.new }
     ensures aggregates { KeepsAggregates g.old g.new }
@@ -245,6 +257,7 @@ fn add_function(
 
 /// The composite of a function and another type (C11 6.2.7p3).
 #[cycle(composed)]
+#[tactic(auto, using(crate::proofs::PartLaws::no_gain, crate::proofs::PartLaws::function_gains, crate::proofs::PartLaws::parameters_gain))]
 fn composite_function(
     g: &mut TypeGraph,
     answers: &mut Composites,
@@ -256,6 +269,7 @@ fn composite_function(
     requires right { b.0 < length g.old.nodes }
     requires pairs { AllComposed g.old answers.old }
     ensures is { IfOk result (λ t. shape g.new.nodes t.0 ≡ composite_shape (shape g.old.nodes a.0) (shape g.old.nodes b.0)) }
+    ensures gains { IfOk result (λ t. GainsParts g.old g.new (shape g.new.nodes t.0)) }
     ensures there { IfOk result (λ t. t.0 < length g.new.nodes) }
     ensures grows { Grows g.old g.new }
     ensures aggregates { KeepsAggregates g.old g.new }
@@ -280,6 +294,7 @@ fn composite_function(
 
 /// The composites of parameters, each with its counterpart where there is one.
 #[cycle(composed)]
+#[tactic(auto, using(crate::proofs::PartLaws::none_gained))]
 fn composites(
     g: &mut TypeGraph,
     answers: &mut Composites,
@@ -290,6 +305,7 @@ fn composites(
     requires right { EachType (length g.old.nodes) others.now }
     requires pairs { AllComposed g.old answers.old }
     ensures is { IfOk result (λ v. shapes_of (shape g.new.nodes) v.items ≡ composite_shapes (shapes_of (shape g.old.nodes) params.now) (shapes_of (shape g.old.nodes) others.now)) }
+    ensures gains { IfOk result (λ v. GainsAmong g.old g.new (shapes_of (shape g.new.nodes) v.items)) }
     ensures there { IfOk result (λ v. EachType (length g.new.nodes) v.items) }
     ensures grows { Grows g.old g.new }
     ensures aggregates { KeepsAggregates g.old g.new }
@@ -305,6 +321,7 @@ fn composites(
 
 /// The composite of a parameter with the one at its place, if there is one.
 #[cycle(composed)]
+#[tactic(auto, using(crate::proofs::PartLaws::no_gain))]
 fn composite_at(
     g: &mut TypeGraph,
     answers: &mut Composites,
@@ -316,6 +333,7 @@ fn composite_at(
     requires right { EachType (length g.old.nodes) others.now }
     requires pairs { AllComposed g.old answers.old }
     ensures is { IfOk result (λ t. shape g.new.nodes t.0 ≡ composite_with (shape g.old.nodes) (shape g.old.nodes param.0) others.now i) }
+    ensures gains { IfOk result (λ t. GainsParts g.old g.new (shape g.new.nodes t.0)) }
     ensures there { IfOk result (λ t. t.0 < length g.new.nodes) }
     ensures grows { Grows g.old g.new }
     ensures aggregates { KeepsAggregates g.old g.new }

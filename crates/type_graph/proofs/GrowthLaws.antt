@@ -1,5 +1,6 @@
 -- Device: steps of an arena are growth, and growth is transitive.
-use Rattle.std.proofs.Common.{◌≡◌, ◌≢◌, ℕ, true, false, nat_eq, List, [], ◌∷◌, ◌++◌, length, slice_get, Some, None, Result, Ok, Err, IfOk, OnErr, ◌⊎◌, inl, inr, refl, sym, ap, ◌∙◌, subst, arith, length-append, append_assoc, append-nil}
+use Rattle.std.proofs.Common.{◌≡◌, ◌≢◌, ℕ, zero, suc, ◌<◌, ◌≤◌, Bool, true, false, nat_eq, nat_lt, ltb-false, List, [], ◌∷◌, ◌++◌, length, slice_get, Some, None, Result, Ok, Err, IfOk, OnErr, ◌⊎◌, inl, inr, refl, sym, ap, ◌∙◌, subst, arith, length-append, append_assoc, append-nil}
+use borrow.Author.Tests.{ltb-true}
 use Rattle.std.proofs.lemmas.Bool.Decides.{eqb_tells}
 use Rattle.std.proofs.Math.ListN.{set, length-set}
 use Rattle.std.specs.Option.{option_and_then}
@@ -11,8 +12,8 @@ use Rattle.type_graph.specs.declared.nodes.Node.{Node}
 use Rattle.type_graph.specs.Shapes.{shape, shape_of}
 use Rattle.type_graph.specs.Arena.{Graph, IsArena, NamesBelow, members_of}
 use Rattle.type_graph.proofs.ShapeLaws.{shape_is, shape_pushed}
-use Rattle.type_graph.specs.Growth.{Grows, AggGrows, AddsNode, with_agg, with_members}
-use Rattle.type_graph.proofs.Lists.{get_stays, get_at_end, get_set_same, get_set_other}
+use Rattle.type_graph.specs.Growth.{Grows, AggGrows, AddsNode, GainsOnly, with_agg, with_members}
+use Rattle.type_graph.proofs.Lists.{get_stays, get_there, get_at_end, get_set_same, get_set_other}
 
 agg_same : (x : Aggregate) → AggGrows x x
 agg_same x = record { kind = refl; tag = refl; members = λ ms e. e }
@@ -66,6 +67,33 @@ adds_new g h n t absent e place = record {
   known = λ s p. absurd (absent s p);
   fresh = λ l. e;
 }
+
+get_below : {K : Type 0} (xs : List K) (i : ℕ) (x : K) → slice_get xs i ≡ Some x → i < length xs
+get_below [] i x e = cc
+get_below (y ∷ xs) zero x e = omega arith
+get_below (y ∷ xs) (suc i) x e = omega (arith, get_below xs i x e)
+
+-- the arena that is asked for a type is the same, or has it last
+pub added_as : (g h : Graph) (n : Node) (t : ℕ) → Grows g h → AddsNode g h n t → (h ≡ g) ⊎ ((h ≡ record g { nodes = g.nodes ++ n ∷ [] }) × (t ≡ length g.nodes))
+added_as g h n t grows adds = by (nat_lt t (length g.nodes)) refl
+  where
+    by : (b : Bool) → nat_lt t (length g.nodes) ≡ b → (h ≡ g) ⊎ ((h ≡ record g { nodes = g.nodes ++ n ∷ [] }) × (t ≡ length g.nodes))
+    by true below =
+        let x = get_there g.nodes t (ltb-true _ _ below) in
+        let there : slice_get h.nodes t ≡ Some x.0 = subst (λ ns. slice_get ns t ≡ Some x.0) (sym grows.nodes.1) (get_stays g.nodes grows.nodes.0 t x.0 x.1) in
+        let same : Some x.0 ≡ Some n = sym there ∙ adds.number in
+        inl (adds.known t (x.1 ∙ same))
+    by false past =
+        let is = adds.fresh (ltb-false _ _ past) in
+        inr (is, omega (arith, ltb-false _ _ past, get_below h.nodes t n adds.number, ap (λ (k : Graph). length k.nodes) is, length-append g.nodes (n ∷ [])))
+
+-- it gains no other
+pub gains_one : (g h : Graph) (n : Node) (t : ℕ) → Grows g h → AddsNode g h n t → GainsOnly g h t
+gains_one g h n t grows adds = record { only = λ v past below. by v past below (added_as g h n t grows adds) }
+  where
+    by : (v : ℕ) → length g.nodes ≤ v → v < length h.nodes → (h ≡ g) ⊎ ((h ≡ record g { nodes = g.nodes ++ n ∷ [] }) × (t ≡ length g.nodes)) → v ≡ t
+    by v past below (inl e) = absurd (omega (arith, past, below, ap (λ (k : Graph). length k.nodes) e))
+    by v past below (inr e) = omega (arith, past, below, e.1, ap (λ (k : Graph). length k.nodes) e.0, length-append g.nodes (n ∷ []))
 
 pub grows_added : {E : Type 0} (g h : Graph) (n : Node) (r : Result TypeId E) → IfOk r (λ (t : TypeId). (h ≡ record g { nodes = g.nodes ++ n ∷ [] }) × (t.0 ≡ length g.nodes)) → OnErr r (h ≡ g) → Grows g h
 grows_added g h n (Ok t) p q = grows_node g h n p.0

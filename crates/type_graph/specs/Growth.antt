@@ -1,5 +1,5 @@
 -- Definition: how arenas grow: nodes and aggregates are added, and incomplete aggregates get members. What stood before stays.
-use Rattle.std.specs.Prelude.{◌≡◌, ℕ, ◌≤◌, List, [], ◌∷◌, ◌++◌, Some, length, slice_get, slice_set}
+use Rattle.std.specs.Prelude.{◌≡◌, ℕ, ◌≤◌, ◌<◌, List, [], ◌∷◌, ◌++◌, Some, length, slice_get, slice_set}
 use Rattle.std.specs.Option.{option_map}
 use Rattle.cil_base.specs.declared.numbers.AggId.{AggId}
 use Rattle.cil_base.specs.declared.numbers.NameId.{NameId}
@@ -31,6 +31,10 @@ pub record AddsNode (old new : Graph) (n : Node) (t : ℕ) : Type 0 where
   pub number : slice_get new.nodes t ≡ Some n
   pub known : (s : ℕ) → slice_get old.nodes s ≡ Some n → new ≡ old
   pub fresh : length old.nodes ≤ t → new ≡ record old { nodes = old.nodes ++ n ∷ [] }
+
+-- the arena gained no type but this one, or none
+pub record GainsOnly (old new : Graph) (t : ℕ) : Type 0 where
+  pub only : (v : ℕ) → length old.nodes ≤ v → v < length new.nodes → v ≡ t
 
 -- an incomplete aggregate goes last
 abbrev pub with_agg : Graph → Aggregate → Graph

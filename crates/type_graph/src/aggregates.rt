@@ -49,6 +49,13 @@ impl Member {
             value: 0,
         }
     }
+
+    /// The same member or enumerator at another type.
+    pub fn with_type(self, ty: QualType) -> Self
+        ensures { result ≡ record self { ty = ty } }
+    {
+        Member { ty, ..self }
+    }
 }
 
 /// Members in order. One or two stand in the value itself, so that they need no block of memory.

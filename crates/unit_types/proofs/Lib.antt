@@ -3,3 +3,4 @@ pub mod NormalLaws
 pub mod StepLaws
 pub mod TypeLists
 pub mod MemberLists
+pub mod QualifiedLaws

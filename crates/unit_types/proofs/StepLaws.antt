@@ -1,20 +1,21 @@
 -- Device: layouts follow an arena that grows.
 use Rattle.std.proofs.Common.{◌≡◌, ℕ, ◌<◌, ◌≤◌, false, List, Some, length, slice_get, ap, subst}
-use Rattle.type_graph.specs.Shapes.{shape}
+use Rattle.type_graph.specs.Shapes.{Shape, shape}
 use Rattle.type_graph.specs.Arena.{Graph, IsArena, complete, complete_shape, flexible_shape}
 use Rattle.cil_base.specs.declared.numbers.AggId.{AggId}
 use Rattle.type_graph.specs.declared.aggregates.Aggregate.{Aggregate}
 use Rattle.type_graph.specs.declared.aggregates.Member.{Member}
 use Rattle.type_graph.specs.declared.nodes.Node.{Node}
-use Rattle.type_graph.specs.Growth.{Grows, AddsNode, with_members}
+use Rattle.type_graph.specs.Growth.{Grows, KeepsAggregates, AddsNode, with_members}
 use Rattle.type_graph.proofs.Lists.{get_there}
 use Rattle.type_graph.proofs.ShapeLaws.{shape_past}
+use Rattle.type_compat.specs.Parts.{GainsParts}
 use Rattle.layout_lp64.specs.declared.layouts.Layouts.{Layouts}
 use Rattle.layout_lp64.specs.declared.layouts.LayoutStop.{LayoutStop}
 use Rattle.layout_lp64.specs.declared.layouts.LayoutStop.TheVariants.{TooBig, Memory}
 use Rattle.layout_lp64.specs.Stops.{StopsAt}
 use Rattle.layout_lp64.specs.Tables.{InStep, WereInStep, IsLeastTooBig}
-use Rattle.unit_types.specs.Steps.{StopsWith, StopsCompleting}
+use Rattle.unit_types.specs.Steps.{StopsWith, StopsMaking, StopsCompleting}
 
 pub were_in_step : (l : Layouts) (g h : Graph) → InStep l g → IsArena g → Grows g h → WereInStep l h
 were_in_step l g h step w grows = record { before = g; arena = w; step = step; grows = grows }
@@ -24,9 +25,14 @@ pub complete_past : (g : Graph) (t : ℕ) → length g.nodes ≤ t → complete 
 complete_past g t h = ap (complete_shape g.aggs) (shape_past g.nodes t h)
 
 -- the arena with the type that was asked for has a type that is too big
-pub stops_added : (old g : Graph) (n : Node) (k : ℕ) (e : LayoutStop) → AddsNode old g n k → StopsAt g e → StopsWith old n e
-stops_added old g n k (TooBig t) adds stops = (g, k, adds, stops)
-stops_added old g n k Memory adds stops = tt
+pub stops_added : (old g : Graph) (n : Node) (k : ℕ) (e : LayoutStop) → IsArena g → Grows old g → AddsNode old g n k → StopsAt g e → StopsWith old n e
+stops_added old g n k (TooBig t) arena grows adds stops = record { arena = g; number = k; is = arena; grows = grows; adds = adds; least = stops }
+stops_added old g n k Memory arena grows adds stops = tt
+
+-- the arena with the type that was made has a type that is too big
+pub stops_made : (old g : Graph) (s : Shape) (k : ℕ) (e : LayoutStop) → Grows old g → KeepsAggregates old g → k < length g.nodes → GainsParts old g (shape g.nodes k) → shape g.nodes k ≡ s → StopsAt g e → StopsMaking old s e
+stops_made old g s k (TooBig t) grows aggregates there gains is stops = record { arena = g; number = k; grows = grows; aggregates = aggregates; there = there; is = is; gains = subst (GainsParts old g) is gains; least = stops }
+stops_made old g s k Memory grows aggregates there gains is stops = tt
 
 pub flexible_past : (g : Graph) (t : ℕ) → length g.nodes ≤ t → flexible_shape g.aggs (shape g.nodes t) ≡ false
 flexible_past g t h = ap (flexible_shape g.aggs) (shape_past g.nodes t h)

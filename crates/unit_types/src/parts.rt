@@ -5,10 +5,12 @@ ghost use Rattle.type_graph.specs.Arena.{IsArena, NamesBelow, HasKind, empty_gra
 ghost use Rattle.type_graph.specs.Growth.{Grows, AddsNode, KeepsAggregates, with_agg, with_members};
 ghost use Rattle.layout_lp64.specs.Tables.{InStep, WereInStep};
 ghost use Rattle.layout_lp64.specs.Stops.{StopsAt};
+ghost use Rattle.layout_lp64.specs.declared.layouts.LayoutStop.TheVariants.{Memory as WantOfMemory};
 ghost use Rattle.unit_types.specs.Normal.{IsNormal, normal_node, normal_members};
 ghost use Rattle.type_compat.specs.Composed.{composite_shape};
+ghost use Rattle.type_compat.specs.Parts.{GainsParts};
 ghost use Rattle.unit_types.specs.Known.{KeepsKnown, KnowsCompleted};
-ghost use Rattle.unit_types.specs.Steps.{Makes, StopsWith, StopsCompleting};
+ghost use Rattle.unit_types.specs.Steps.{Makes, StopsWith, StopsMaking, StopsCompleting};
 
 use crate::members::new_are_normal;
 use cil_base::{Abi, AggId, NameId, TypeId};
@@ -58,7 +60,7 @@ fn keep_up(alloc: Global, parts: &mut Parts) -> Result<(), LayoutStop>
 }
 
 /// The number of a type. After `TooBig` there are no types.
-#[tactic(auto, using(crate::proofs::StepLaws::were_in_step, crate::proofs::StepLaws::stops_added, crate::proofs::NormalLaws::normal_added, crate::proofs::ConstantLaws::keeps_same, crate::proofs::ConstantLaws::keeps_grown))]
+#[tactic(auto, using(type_graph::proofs::GrowthLaws::gains_one, crate::proofs::StepLaws::were_in_step, crate::proofs::StepLaws::stops_added, crate::proofs::NormalLaws::normal_added, crate::proofs::ConstantLaws::keeps_same, crate::proofs::ConstantLaws::keeps_grown))]
 pub(crate) fn add(alloc: Global, parts: &mut Parts, n: Node) -> Result<TypeId, LayoutStop>
     requires step { InStep parts.old.layouts parts.old.graph }
     requires normal { IsNormal parts.old.graph }
@@ -132,8 +134,20 @@ pub(crate) fn complete(
     }
 }
 
-/// The composite of two types (C11 6.2.7p3). After `TooBig` there are no types.
-#[tactic(auto, using(crate::proofs::StepLaws::were_in_step, crate::proofs::NormalLaws::normal_grown, crate::proofs::ConstantLaws::keeps_same, crate::proofs::ConstantLaws::keeps_grown))]
+/// The answer of want of memory, after which there are no types.
+#[tactic(auto, using(crate::proofs::NormalLaws::normal_empty, crate::proofs::ConstantLaws::keeps_none))]
+fn emptied(alloc: Global, parts: &mut Parts) -> LayoutStop
+    ensures is { result ≡ WantOfMemory }
+    ensures step { InStep parts.new.layouts parts.new.graph }
+    ensures normal { IsNormal parts.new.graph }
+    ensures constants { KeepsKnown parts.old.graph parts.new.graph }
+{
+    *parts = Parts::new(alloc, parts.graph.abi());
+    LayoutStop::Memory
+}
+
+/// The composite of two types (C11 6.2.7p3). After an error there are no types.
+#[tactic(auto, using(crate::proofs::StepLaws::were_in_step, crate::proofs::StepLaws::stops_made, crate::proofs::NormalLaws::normal_grown, crate::proofs::ConstantLaws::keeps_same, crate::proofs::ConstantLaws::keeps_grown))]
 pub(crate) fn compose(
     alloc: Global,
     parts: &mut Parts,
@@ -148,16 +162,19 @@ pub(crate) fn compose(
     ensures there { IfOk result (λ t. t.0 < length parts.new.graph.nodes) }
     ensures grows { OnOk result (Grows parts.old.graph parts.new.graph) }
     ensures aggregates { OnOk result (KeepsAggregates parts.old.graph parts.new.graph) }
+    ensures gains { IfOk result (λ t. GainsParts parts.old.graph parts.new.graph (shape parts.new.graph.nodes t.0)) }
+    ensures stops { IfErr result (λ e. StopsMaking parts.old.graph (composite_shape (shape parts.old.graph.nodes a.0) (shape parts.old.graph.nodes b.0)) e) }
     ensures step { InStep parts.new.layouts parts.new.graph }
     ensures normal { IsNormal parts.new.graph }
     ensures constants { KeepsKnown parts.old.graph parts.new.graph }
 {
     let first = parts.graph.len();
-    let composed = composite(alloc, &mut parts.graph, a, b);
+    let Ok(t) = composite(alloc, &mut parts.graph, a, b) else {
+        return Err(emptied(alloc, parts));
+    };
     if !new_are_normal(&parts.graph, first) {
-        *parts = Parts::new(alloc, parts.graph.abi());
-        return Err(LayoutStop::Memory);
+        return Err(emptied(alloc, parts));
     }
     keep_up(alloc, parts)?;
-    Ok(composed?)
+    Ok(t)
 }

@@ -9,11 +9,12 @@ ghost use Rattle.type_graph.specs.Growth.{Grows, KeepsAggregates, with_agg, with
 ghost use Rattle.type_graph.specs.Layouts.{layout};
 ghost use Rattle.layout_lp64.specs.declared.layouts.LayoutStop.TheVariants.{Memory as WantOfMemory};
 ghost use Rattle.layout_lp64.specs.Stops.{StopsAt};
-ghost use Rattle.unit_types.specs.Steps.{Makes, StopsWith, StopsCompleting};
+ghost use Rattle.unit_types.specs.Steps.{Makes, IsAsked, MayComplete, StopsWith, StopsMaking, StopsCompleting};
 ghost use Rattle.unit_types.specs.Classes.{Tells, kind_of, param_of, offset_in};
 ghost use Rattle.type_compat.specs.Compatible.{compatible_shape};
 ghost use Rattle.type_compat.specs.Composed.{composite_shape};
-ghost use Rattle.layout_lp64.specs.Tables.{InStep};
+ghost use Rattle.type_compat.specs.Parts.{GainsParts};
+ghost use Rattle.layout_lp64.specs.Tables.{InStep, AllFit};
 ghost use Rattle.unit_types.specs.Constants.{is_array, HasConstantMember, IsModifiable};
 ghost use Rattle.unit_types.specs.Normal.{is_normal, qualified};
 
@@ -147,12 +148,21 @@ impl Types {
         offset_of(&self.parts, t, i)
     }
 
+    /// The number of types, of which none is too big.
+    fn count(&self) -> u32
+        ensures count { result ≡ length self.now.nodes }
+        ensures arena { IsArena self.now }
+        ensures fit { AllFit self.now }
+    {
+        self.parts.graph.len()
+    }
+
     /// Whether two types are compatible (C11 6.2.7p1); types that are not there are not.
     pub fn compatible(&self, a: TypeId, b: TypeId) -> bool
-        ensures told { a.0 < length self.now.nodes → b.0 < length self.now.nodes → result ≡ compatible_shape self.now.aggs (shape self.now.nodes a.0) (shape self.now.nodes b.0) }
+        ensures there { IsTrue result → (a.0 < length self.now.nodes) × (b.0 < length self.now.nodes) }
+        ensures is { a.0 < length self.now.nodes → b.0 < length self.now.nodes → result ≡ compatible_shape self.now.aggs (shape self.now.nodes a.0) (shape self.now.nodes b.0) }
     {
-        let count = self.parts.graph.len();
-        a.0 < count && b.0 < count && compatible(&self.parts.graph, a, b)
+        compatible(&self.parts.graph, a, b)
     }
 
     /// Whether a struct or union has a member that is const, itself or in a struct, a union or an array in it (C11 6.3.2.1p1).
@@ -239,6 +249,7 @@ impl Types {
     /// The type `void`.
     pub fn void(&mut self) -> Result<TypeId, LayoutStop>
         ensures makes { IfOk result (λ t. Makes self.old self.new VoidType t.0) }
+        ensures asked { OnOk result (IsAsked self.old node.Void) }
         ensures stops { IfErr result (StopsWith self.old node.Void) }
     {
         add(self.alloc, &mut self.parts, Node::Void)
@@ -247,6 +258,7 @@ impl Types {
     /// An integer type. Of a kind that the data model lacks it answers Memory.
     pub fn int(&mut self, kind: IntKind) -> Result<TypeId, LayoutStop>
         ensures makes { IfOk result (λ t. Makes self.old self.new (IntType kind) t.0) }
+        ensures asked { OnOk result (IsAsked self.old (node.Int kind)) }
         ensures stops { IfErr result (StopsWith self.old (node.Int kind)) }
     {
         if !kind.is_of(self.parts.graph.abi()) {
@@ -258,6 +270,7 @@ impl Types {
     /// A pointer. To a type that is not there, or a qualified array or function, it answers Memory.
     pub fn pointer(&mut self, to: QualType) -> Result<TypeId, LayoutStop>
         ensures makes { IfOk result (λ t. Makes self.old self.new (PtrType to.quals (shape self.old.nodes to.of.0)) t.0) }
+        ensures asked { OnOk result (IsAsked self.old (node.Ptr to)) }
         ensures stops { IfErr result (StopsWith self.old (node.Ptr to)) }
     {
         if !is_normal(&self.parts.graph, to) {
@@ -270,6 +283,7 @@ impl Types {
     /// function, it answers Memory.
     pub fn array(&mut self, of: QualType, bound: Option<u64>) -> Result<TypeId, LayoutStop>
         ensures makes { IfOk result (λ t. Makes self.old self.new (ArrayType of.quals (shape self.old.nodes of.of.0) bound) t.0) }
+        ensures asked { OnOk result (IsAsked self.old (node.Array of bound)) }
         ensures stops { IfErr result (StopsWith self.old (node.Array of bound)) }
     {
         if !is_normal(&self.parts.graph, of) {
@@ -287,6 +301,7 @@ impl Types {
         variadic: bool,
     ) -> Result<TypeId, LayoutStop>
         ensures makes { IfOk result (λ t. Makes self.old self.new (FuncType (shape self.old.nodes ret.0) (shapes_of (shape self.old.nodes) params.items) proto variadic) t.0) }
+        ensures asked { OnOk result (IsAsked self.old (node.Func proto variadic ret params.items)) }
         ensures stops { IfErr result (StopsWith self.old (node.Func proto variadic ret params.items)) }
     {
         if ret.0 >= self.parts.graph.len() || !are_there(&self.parts.graph, &params) {
@@ -304,6 +319,7 @@ impl Types {
     /// The type of a struct, union or enum. Of one that is not there it answers Memory.
     pub fn aggregate(&mut self, a: AggId) -> Result<TypeId, LayoutStop>
         ensures makes { IfOk result (λ t. Makes self.old self.new (AggType a.0) t.0) }
+        ensures asked { OnOk result (IsAsked self.old (node.Agg a)) }
         ensures stops { IfErr result (StopsWith self.old (node.Agg a)) }
     {
         if a.0 >= self.parts.graph.agg_count() {
@@ -321,13 +337,15 @@ impl Types {
     }
 
     /// A type with these qualifiers added: those of an array go down to its elements (C11 6.7.3p9), and a function has none (own).
-    /// Of a type that is not there it answers Memory.
-    #[tactic(auto, using(type_graph::proofs::GrowthLaws::grows_twice, type_graph::proofs::GrowthLaws::grows_none, type_graph::proofs::ShapeLaws::kept))]
+    /// Of a type that is not there it answers Memory. None gets too big.
+    #[tactic(auto, using(type_graph::proofs::GrowthLaws::grows_twice, type_graph::proofs::GrowthLaws::grows_none, type_graph::proofs::ShapeLaws::kept, crate::proofs::QualifiedLaws::qualified_stops, type_compat::proofs::PartLaws::no_gain))]
     pub fn qualified(&mut self, quals: Quals, t: TypeId) -> Result<QualType, LayoutStop>
         ensures there { IfOk result (λ q. q.of.0 < length self.new.nodes) }
         ensures is { IfOk result (λ q. (q.quals, shape self.new.nodes q.of.0) ≡ qualified quals (shape self.old.nodes t.0)) }
         ensures grows { OnOk result (Grows self.old self.new) }
         ensures aggregates { OnOk result (KeepsAggregates self.old self.new) }
+        ensures gains { IfOk result (λ q. GainsParts self.old self.new (shape self.new.nodes q.of.0)) }
+        ensures stops { IfErr result (λ e. e ≡ WantOfMemory) }
     {
         if t.0 >= self.parts.graph.len() {
             return Err(impossible());
@@ -335,6 +353,8 @@ impl Types {
         match self.class(t) {
             Class::Array(of, bound) => {
                 let of = self.qualified(joined(of.quals, quals), of.of)?;
+                // What is known of the types is known where they are counted.
+                let _types = self.count();
                 let array = self.array(of, bound)?;
                 Ok(unqualified(array))
             }
@@ -349,6 +369,7 @@ impl Types {
     #[tactic(auto, using(crate::proofs::ConstantLaws::knows_same))]
     pub fn complete(&mut self, a: AggId, members: Members) -> Result<(), LayoutStop>
         ensures ok { OnOk result ((x : Aggregate) → slice_get self.old.aggs a.0 ≡ Some x → self.new ≡ with_members self.old a x members) }
+        ensures could { OnOk result (MayComplete self.old a members) }
         ensures grows { OnOk result (Grows self.old self.new) }
         ensures stops { IfErr result (StopsCompleting self.old a members) }
     {
@@ -368,6 +389,8 @@ impl Types {
         ensures there { IfOk result (λ t. t.0 < length self.new.nodes) }
         ensures grows { OnOk result (Grows self.old self.new) }
         ensures aggregates { OnOk result (KeepsAggregates self.old self.new) }
+        ensures gains { IfOk result (λ t. GainsParts self.old self.new (shape self.new.nodes t.0)) }
+        ensures stops { IfErr result (StopsMaking self.old (composite_shape (shape self.old.nodes a.0) (shape self.old.nodes b.0))) }
     {
         let count = self.parts.graph.len();
         if a.0 >= count || b.0 >= count {

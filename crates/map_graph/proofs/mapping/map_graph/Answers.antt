@@ -10,4 +10,5 @@ loop-t-preserved c =
     mapping_next c.args.from.now c.args.to.now c.loop-t.to c.map_node.new.to (number_in c.args.aggregates.now) c.args.keep_qualifiers c.loop-t.types.items c.push.new.self.items c.loop-t.t _ _ c.in_ok-mapped.mapped
     c.loop-t.invariant c.map_node.ensures.grows c.map_node.ensures.aggregates c.node-n.ensures.shape c.node-n.ensures.names
     (subst (λ (ts : List TypeId). Gives c.map_node.new.to (node_mapped c.loop-t.to ts (number_in c.args.aggregates.now) c.args.keep_qualifiers c.node-n.result.now) c.in_ok-mapped.mapped.0) c.deref.ensures.value c.in_ok-mapped.ensures.gives)
+    c.in_ok-mapped.ensures.only
     c.in_ok-push.ensures.items

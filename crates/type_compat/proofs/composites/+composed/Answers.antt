@@ -11,6 +11,7 @@ use Rattle.type_compat.specs.Composed.{composite_shapes}
 use Rattle.type_compat.specs.Functions.{then_types}
 use Rattle.type_compat.proofs.Parameters.{each_at, each_more, most_at, most_within, drop-end}
 use Rattle.type_compat.proofs.Composing.{more_nodes, parts_at, function_at, no_function, becomes, keeps_first, takes_second, joins_both, then_none, there_next, is_next}
+use Rattle.type_compat.proofs.PartLaws.{among_next, pointer_made, array_made}
 use Rattle.type_compat.proofs.composites.+composed.Goals as goal
 
 pub composed-returns-then-eq-clause-is : goal.composed-returns-then-eq-clause-is
@@ -65,6 +66,7 @@ pub composites-loop-i-preserved : goal.composites-loop-i-preserved
 composites-loop-i-preserved t c = record {
   aggregates = keeps_twice c.args.g.now c.loop-i.g c.composite_at.new.g c.loop-i.invariant.aggregates c.composite_at.ensures.aggregates;
   pairs = c.in_ok-t.ensures.pairs;
+  gains = among_next c.args.g.now c.loop-i.g c.composite_at.new.g c.loop-i.done.items c.push.new.self.items c.in_ok-t.t c.loop-i.invariant.gains c.composite_at.ensures.grows c.loop-i.invariant.there c.in_ok-t.ensures.gains c.in_ok-push.ensures.items;
   grows = grows_twice c.args.g.now c.loop-i.g c.composite_at.new.g c.loop-i.invariant.grows c.composite_at.ensures.grows;
   there = there_next c.loop-i.g c.composite_at.new.g c.loop-i.done.items c.push.new.self.items c.in_ok-t.t c.composite_at.ensures.grows c.loop-i.invariant.there c.in_ok-t.ensures.there c.in_ok-push.ensures.items;
   is = is_next c.args.g.now c.loop-i.g c.composite_at.new.g c.args.params.now c.args.others.now c.loop-i.done.items c.push.new.self.items c.loop-i.i (record { 0 = 0 }) c.in_ok-t.t (composite_shapes (shapes_of (shape c.args.g.now.nodes) c.args.params.now) (shapes_of (shape c.args.g.now.nodes) c.args.others.now))
@@ -141,3 +143,11 @@ composite_function-returns-clause-is t c =
 pub composite_function-returns-clause-grows : goal.composite_function-returns-clause-grows
 composite_function-returns-clause-grows t c =
     grows_twice c.args.g.now c.composed.new.g c.add_function-2.new.g c.composed.ensures.grows (grows_twice c.composed.new.g c.composites.new.g c.add_function-2.new.g c.composites.ensures.grows c.add_function-2.ensures.grows)
+
+pub composite_pointer-returns-in_ok-of-in-Some-clause-gains : goal.composite_pointer-returns-in_ok-of-in-Some-clause-gains
+composite_pointer-returns-in_ok-of-in-Some-clause-gains t c =
+    pointer_made c.add_node.result c.args.g.now c.composed.new.g c.add_node.new.self (record { quals = c.args.pointee.quals; of = c.in_ok-of-in-Some.of }) c.in_ok-of-in-Some.ensures.gains c.add_node.ensures.grows c.add_node.ensures.ok c.add_node.ensures.shape
+
+pub composite_array-returns-in_ok-of-in-Some-clause-gains : goal.composite_array-returns-in_ok-of-in-Some-clause-gains
+composite_array-returns-in_ok-of-in-Some-clause-gains t c =
+    array_made c.add_node.result c.args.g.now c.composed.new.g c.add_node.new.self (record { quals = c.args.element.quals; of = c.in_ok-of-in-Some.of }) c.known.result c.in_ok-of-in-Some.ensures.gains c.add_node.ensures.grows c.add_node.ensures.ok c.add_node.ensures.shape

@@ -4,6 +4,7 @@ use Rattle.type_graph.specs.Arena.{EachType}
 use Rattle.type_graph.specs.Growth.{Grows, KeepsAggregates}
 use Rattle.type_compat.specs.Measure.{most}
 use Rattle.type_compat.specs.Pairs.{AllComposed}
+use Rattle.type_compat.specs.Parts.{GainsAmong}
 use Rattle.type_compat.specs.Composed.{composite_shapes}
 use Rattle.type_compat.specs.Functions.{then_types}
 use Rattle.type_compat.proofs.composites.+composed.Given as goal
@@ -34,6 +35,7 @@ invariant-composites-loop-i l = record {
   grows : Grows l.fn.g l.g;
   aggregates : KeepsAggregates l.fn.g l.g;
   pairs : AllComposed l.g l.answers;
+  gains : GainsAmong l.fn.g l.g (shapes_of (shape l.g.nodes) l.done.items);
   there : EachType (length l.g.nodes) l.done.items;
   is : then_types (shapes_of (shape l.g.nodes) l.done.items) (composite_shapes (shapes_of (shape l.fn.g.nodes) (drop l.i l.params)) (shapes_of (shape l.fn.g.nodes) (drop l.i l.others))) ≡ composite_shapes (shapes_of (shape l.fn.g.nodes) l.params) (shapes_of (shape l.fn.g.nodes) l.others);
 }
