@@ -5,3 +5,4 @@ pub mod MapLaws
 pub mod Replaced
 pub mod RetypedLaws
 pub mod StatementLaws
+pub mod TableLaws

@@ -88,7 +88,7 @@ fn mapped_member(types: &[TypeId], m: Member) -> Result<Member, Memory> {
         quals: m.ty.quals,
         of: type_in(types, m.ty.of)?,
     };
-    Ok(Member { ty, ..m })
+    Ok(m.with_type(ty))
 }
 
 /// Members with their types in the program.

@@ -1,8 +1,8 @@
 use cil_base::{AggId, Memory, TypeId};
 use map_graph::map_graph;
 use std::alloc::Global;
-use type_graph::{Member, Members, QualType, Quals, TypeGraph};
-use unit_types::can_complete;
+use type_graph::{Member, Members, TypeGraph};
+use unit_types::{can_complete, unqualified};
 
 /// What a branch answers that never comes.
 pub(crate) fn impossible() -> Memory {
@@ -35,16 +35,7 @@ fn plain_member(types: &[TypeId], m: &Member) -> Result<Member, Memory> {
     let Some(of) = types.get(m.ty.of.0 as usize) else {
         return Err(impossible());
     };
-    let quals = Quals {
-        constant: false,
-        restricted: false,
-    };
-    Ok(Member {
-        name: m.name,
-        anonymous: m.anonymous,
-        ty: QualType { quals, of: *of },
-        value: m.value,
-    })
+    Ok(m.with_type(unqualified(*of)))
 }
 
 /// Members whose types have no qualifiers.
