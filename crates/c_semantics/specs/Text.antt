@@ -3,6 +3,7 @@ use Rattle.std.specs.Prelude.{ℕ, suc, true, false, List, [], ◌∷◌, Option
 use Rattle.std.specs.Option.{option_map, option_and_then}
 use Rattle.cil_base.specs.declared.kinds.Abi.{Abi}
 use Rattle.cil_base.specs.declared.kinds.Abi.TheVariants.{Lp64}
+use Rattle.cil_base.specs.declared.kinds.Mode.{Mode}
 use Rattle.cil_base.specs.declared.runs.Outcome.{Outcome}
 use Rattle.c_tree.specs.Units.{UnitTree}
 use Rattle.c_lexer.specs.Automaton.{pieces, one_byte_sign, begins_sign, begins, behind_dot, behind_minus, behind_plus, behind_ampersand, behind_bar, behind_slash, behind_percent, behind_less, behind_greater, only, behind_punctuator, behind_sign, in_literal, behind_prefix, in_comment, behind, accepts, piece}
@@ -30,13 +31,22 @@ unfolding parsed
 parsed_all n names [] = Some ([], names)
 parsed_all n names (t ∷ ts) = option_and_then (λ (x : UnitTree × List (List ℕ)). option_map (λ (y : List UnitTree × List (List ℕ)). (x.0 ∷ y.0, y.1)) (parsed_all (suc n) x.1 ts)) (parsed n names t)
 
-abbrev pub ran : Abi → List (List ℕ) → List ℕ → ℕ → List UnitTree × List (List ℕ) → Outcome
-ran abi words bytes n x = RunC x.1 x.0 (record { common = false; abi = abi }) words bytes n
+abbrev pub ran : Mode → List (List ℕ) → List ℕ → ℕ → List UnitTree × List (List ℕ) → Outcome
+ran mode words bytes n x = RunC x.1 x.0 mode words bytes n
 
--- the outcome of units, with words, an input and a bound; none where they are no units
-unfoldable pub runs_with : Abi → List (List ℕ) → List (List ℕ) → List ℕ → ℕ → Option Outcome
+-- the outcome of units in a mode, with words, an input and a bound; none where they are no units
+unfoldable pub runs_in : Mode → List (List ℕ) → List (List ℕ) → List ℕ → ℕ → Option Outcome
 unfolding parsed_all
-runs_with abi texts words bytes n = option_map (ran abi words bytes n) (parsed_all 0 (codes "a.c" ∷ []) texts)
+runs_in mode texts words bytes n = option_map (ran mode words bytes n) (parsed_all 0 (codes "a.c" ∷ []) texts)
+
+unfoldable pub runs_with : Abi → List (List ℕ) → List (List ℕ) → List ℕ → ℕ → Option Outcome
+unfolding runs_in
+runs_with abi texts words bytes n = runs_in (record { common = false; abi = abi }) texts words bytes n
+
+-- where tentative definitions are common
+unfoldable pub runs_in_common : Abi → List (List ℕ) → ℕ → Option Outcome
+unfolding runs_in
+runs_in_common abi texts n = runs_in (record { common = true; abi = abi }) texts [] [] n
 
 -- one unit without words and input
 unfoldable pub runs : List ℕ → ℕ → Option Outcome
