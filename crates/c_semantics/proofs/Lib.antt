@@ -1,2 +1,10 @@
 mod Rows
 mod Several
+mod Tentative
+pub mod Matched
+pub mod Nodes
+pub mod ExpressionsMatch
+pub mod Control
+pub mod StatementsMatch
+pub mod Tameness
+pub mod UnitLaws

@@ -40,12 +40,20 @@ abbrev pub declared_alone : Linkable → Linkable
 declared_alone x = record x { means = λ entities. None }
 
 -- the object has the greatest of the sizes, and begins with the value of the strong definition if there is one; beside that one a weak definition only declares
+abbrev pub counted : Bool → ℕ → Linkable → Linkable
+counted true size x = declared_alone x
+counted false size x = with_size size x
+
 abbrev pub of_name : List Defined → Defined → Linkable
-of_name all d = elim (is_some d.weak && any_of (is_strong d.linkable.name) all) [ true ↦ declared_alone d.linkable | false ↦ with_size (greatest_size d.linkable.name all) d.linkable ]
+of_name all d = counted (is_some d.weak && any_of (is_strong d.linkable.name) all) (greatest_size d.linkable.name all) d.linkable
 
 -- an internal name is its unit's alone (6.2.2p2)
+abbrev pub shared_if : Bool → List Defined → Defined → Linkable
+shared_if true all d = d.linkable
+shared_if false all d = of_name all d
+
 abbrev pub shared : List Defined → Defined → Linkable
-shared all d = elim d.linkable.internal [ true ↦ d.linkable | false ↦ of_name all d ]
+shared all d = shared_if d.linkable.internal all d
 
 abbrev pub all_of : List (List Defined) → List Defined
 all_of [] = []

@@ -212,7 +212,7 @@ abbrev mutual
   c_exp a enter (Member at e m) h s = with_operand (expr e) h (λ x k. of_member a k.arrays (dot_path k.env.types m x) (c_exp a enter e h)) s
   c_exp a enter (Arrow at e m) h s = with_operand (expr e) h (λ x k. of_arrow a k.arrays (arrow_path k.env.types m x) x (c_exp a enter e h)) s
   c_exp a enter (Postfix at e op) h s = with_operand (expr e) h (λ x k. of_step a k.env.types (postfix_form op) x (c_exp a enter e h)) s
-  c_exp a enter (CompoundLiteral at ss d items comma) h s = with_parts (named_type ss d) h (λ c k. with_operand (expr (CompoundLiteral at ss d items comma)) h (λ x j. of_literal a x k (λ o. c_items a enter o items))) s
+  c_exp a enter (CompoundLiteral at ss d items comma) h s = with_parts (named_type ss d) h (λ c k. with_operand (expr (CompoundLiteral at ss d items comma)) h (λ x j. of_literal a x k (λ o. c_init_items a enter o items))) s
   c_exp a enter (Prefix at op e) h s = with_operand (expr e) h (λ x k. of_step a k.env.types (prefix_form op) x (c_exp a enter e h)) s
   c_exp a enter (Unary at op e) h s = with_operand (expr e) h (λ x k. of_unary a k.env.types op x (c_exp a enter e h)) s
   -- the operand is not evaluated (6.5.3.4p2)
@@ -228,15 +228,15 @@ abbrev mutual
   c_exp a enter (Comma at l r) h s = with_operand (expr l) h (λ x k. with_operand (expr r) k (λ y j. of_comma a x y (c_exp a enter l h) (c_exp a enter r k))) s
 
   -- arguments from the left (own), by the parameters' types
-  c_arguments : Activation → Enter → Types → Shapes → ExprTrees → Here → State → Result (List Argument)
+  pub c_arguments : Activation → Enter → Types → Shapes → ExprTrees → Here → State → Result (List Argument)
   c_arguments a enter t ps NoExprs h s = Goes [] s
   c_arguments a enter t ps (MoreExprs e es) h s = with_operand (expr e) h (λ x k. of_arguments a (passed_shape t ps x) x (c_exp a enter e h) (c_arguments a enter t (parameters_behind ps) es k)) s
 
   -- an initialiser (6.7.9p8): its expressions in the order of the text (own; p23)
   pub c_init : Activation → Enter → Object → InitTree → Rest → State → Result Rest
   c_init a enter o (Lone e) r s = of_lone a o r (λ to. with_operand (expr e) r.here (λ x k. of_value a to x k (c_exp a enter e r.here))) s
-  c_init a enter o (Braces at is comma) r s = c_items a enter o is r s
+  c_init a enter o (Braces at is comma) r s = c_init_items a enter o is r s
 
-  c_items : Activation → Enter → Object → ItemTrees → Rest → State → Result Rest
-  c_items a enter o NoItems r s = Goes r s
-  c_items a enter o (MoreItems (Item ds i) is) r s = with_parts (designators ds) r.here (λ u k. then_rest (c_init a enter o i (record r { here = k })) (c_items a enter o is)) s
+  pub c_init_items : Activation → Enter → Object → ItemTrees → Rest → State → Result Rest
+  c_init_items a enter o NoItems r s = Goes r s
+  c_init_items a enter o (MoreItems (Item ds i) is) r s = with_parts (designators ds) r.here (λ u k. then_rest (c_init a enter o i (record r { here = k })) (c_init_items a enter o is)) s

@@ -7,4 +7,5 @@ pub mod Statements
 pub mod Literals
 pub mod Common
 pub mod Units
+pub mod Laws
 pub mod Text

@@ -374,11 +374,11 @@ abbrev mutual
   c_entered a enter again (Break at) h en s = Goes Broken s
   c_entered a enter again (Return at e) h en s = c_return a enter e h s
 
-  c_items : Activation → Enter → Again → BlockItems → Here → Goer
+  pub c_items : Activation → Enter → Again → BlockItems → Here → Goer
   c_items a enter again NoItems h en s = Goes Normal s
   c_items a enter again (MoreItems i is) h en s = with_stmts undefined (item h.place i) h (λ ss k. seq_from (has_item i h) (has_in is k) (c_item a enter again i h) (c_items a enter again is k) en) s
 
-  c_item : Activation → Enter → Again → BlockItem → Here → Goer
+  pub c_item : Activation → Enter → Again → BlockItem → Here → Goer
   c_item a enter again (Declaring d) h en s = ended (c_declaration a enter InBlock d h) s
   c_item a enter again (Doing y) h en s = whole a (c_entered a enter again y) y h en s
 
