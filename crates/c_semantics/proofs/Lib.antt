@@ -1,6 +1,7 @@
 mod Rows
 mod Several
 mod Tentative
+mod Words
 pub mod Matched
 pub mod Nodes
 pub mod ExpressionsMatch
