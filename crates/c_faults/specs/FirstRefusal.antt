@@ -1,0 +1,88 @@
+-- Device: the first refusal of units, executably: all but syntax faults, for rows. The law `refusal_is_first` says that it is the one that is defined.
+use Rattle.std.specs.Prelude.{ℕ, ◌+◌, Bool, true, false, nat_lt, List, [], ◌∷◌, length, Option, Some, None, Result, Ok, Err}
+use Rattle.cil_base.specs.declared.faults.Place.{Place}
+use Rattle.cil_base.specs.declared.faults.What.TheVariants.{UnitBytes, TotalBytes}
+use Rattle.cil_base.specs.declared.faults.Refusal.{Refusal}
+use Rattle.cil_base.specs.declared.kinds.Abi.{Abi}
+use Rattle.cil_base.specs.declared.kinds.Mode.{Mode}
+use Rattle.c_lexer.specs.Automaton.{pieces}
+use Rattle.c_lexer.specs.Lexed.{Lexed}
+use Rattle.c_lexer.specs.Tokens.{Answer, Whole, Refused, read, begun}
+use Rattle.c_tree.specs.Units.{ExternalTree, UnitTree}
+use Rattle.c_cursor.specs.Lexemes.{lexemes}
+use Rattle.c_cursor.specs.Readers.{Input, input}
+use Rattle.c_exprs.specs.Subs.{In}
+use Rattle.c_parser.specs.UnitReading.{unit}
+use Rattle.c_typing.specs.Scopes.{Env, Found, Good, Bad}
+use Rattle.c_typing.specs.Faults.{walked}
+use Rattle.c_faults.specs.Reading.{Source, Read, greatest_unit, greatest_total, over, refusal_at}
+use Rattle.c_faults.specs.Definitions.{first_twice, duplicate}
+
+-- what is found of a unit
+pub data Finding : Type 0 where
+  IsWhole : (read : Read) → Finding
+  IsRefused : (refusal : Refusal) → Finding
+  -- a syntax fault
+  Stops : Finding
+
+abbrev pub refused : Option Refusal → Finding
+refused None = Stops
+refused (Some refusal) = IsRefused refusal
+
+abbrev pub after_walk : Lexed → UnitTree → List (List ℕ) → Found ((Unit {0}) × Env) → Finding
+after_walk t tree behind (Good x) = IsWhole (record { tokens = t; tree = tree; names = behind; env = x.1 })
+after_walk t tree behind (Bad fault at) = refused (refusal_at t (fault, at))
+
+abbrev pub after_grammar : Abi → Lexed → List (List ℕ) → Result (In (List ExternalTree) × Input) Input → Finding
+after_grammar abi t behind (Err i) = Stops
+after_grammar abi t behind (Ok x) = after_walk t x.0.0 behind (walked behind abi x.0.0)
+
+abbrev pub after_tokens : Abi → Source → Answer → Finding
+after_tokens abi u (Whole entries end behind) = after_grammar abi (record { source = u.bytes; unit = u.unit; entries = entries; end = end }) behind (unit (input 0 (lexemes (record { source = u.bytes; unit = u.unit; entries = entries; end = end }))))
+after_tokens abi u (Refused refusal behind) = IsRefused refusal
+
+abbrev pub tokens_of : List (List ℕ) → Source → Answer
+tokens_of names u = read (pieces 0 true u.bytes) (begun u.unit u.file names)
+
+abbrev pub within_total : Abi → ℕ → List (List ℕ) → Source → Bool → Finding
+within_total abi total names u true = IsRefused (over TotalBytes u)
+within_total abi total names u false = after_tokens abi u (tokens_of names u)
+
+abbrev pub within_unit : Abi → ℕ → List (List ℕ) → Source → Bool → Finding
+within_unit abi total names u true = IsRefused (over UnitBytes u)
+within_unit abi total names u false = within_total abi total names u (nat_lt greatest_total (total + length u.bytes))
+
+abbrev pub finding : Abi → ℕ → List (List ℕ) → Source → Finding
+finding abi total names u = within_unit abi total names u (nat_lt greatest_unit (length u.bytes))
+
+-- of all units, one behind the other
+pub data Findings : Type 0 where
+  AllWhole : (reads : List Read) → Findings
+  OneRefused : (refusal : Refusal) → Findings
+  OneStops : Findings
+
+abbrev pub with_read : Read → Findings → Findings
+with_read r (AllWhole rs) = AllWhole (r ∷ rs)
+with_read r (OneRefused refusal) = OneRefused refusal
+with_read r OneStops = OneStops
+
+abbrev pub on_finding : Finding → (Read → Findings) → Findings
+on_finding (IsWhole r) go = with_read r (go r)
+on_finding (IsRefused refusal) go = OneRefused refusal
+on_finding Stops go = OneStops
+
+abbrev pub findings : Abi → ℕ → List (List ℕ) → List Source → Findings
+findings abi total names [] = AllWhole []
+findings abi total names (u ∷ us) = on_finding (finding abi total names u) (λ r. findings abi (total + length u.bytes) r.names us)
+
+abbrev pub refusal_for_two : Option (Place × Place) → Option Refusal
+refusal_for_two None = None
+refusal_for_two (Some places) = Some (duplicate places)
+
+abbrev pub refusal_of : Bool → Findings → Option Refusal
+refusal_of common (AllWhole reads) = refusal_for_two (first_twice common reads)
+refusal_of common (OneRefused refusal) = Some refusal
+refusal_of common OneStops = None
+
+abbrev pub first_refusal : Mode → List (List ℕ) → List Source → Option Refusal
+first_refusal mode names units = refusal_of mode.common (findings mode.abi 0 names units)

@@ -1,0 +1,11 @@
+pub mod Values
+pub mod Places
+pub mod Walks
+pub mod Operations
+pub mod Expressions
+pub mod Statements
+pub mod Literals
+pub mod Common
+pub mod Units
+pub mod Laws
+pub mod Text
