@@ -1,5 +1,5 @@
 use crate::labels::Labels;
-use crate::switches::Switch;
+use case_labels::Switch;
 use cil_base::{Code, IntKind, TypeId};
 use std::alloc::Global;
 use typed_parts::{WalkStop, violated};
@@ -60,7 +60,7 @@ impl Body {
     pub(crate) fn case(&mut self, at: u32, v: i128) -> Result<(IntKind, i128), WalkStop> {
         match self.switches.last_mut() {
             Some(switch) => match switch.case(v)? {
-                Some(value) => Ok((switch.kind, value)),
+                Some(value) => Ok((switch.kind(), value)),
                 None => Err(violated(at, Code::Case)),
             },
             None => Err(violated(at, Code::Outside)),

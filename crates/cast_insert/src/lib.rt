@@ -14,7 +14,6 @@ mod declarations;
 mod functions;
 mod labels;
 mod statements;
-mod switches;
 mod unit;
 
 pub use check::check_unit;

@@ -1,4 +1,13 @@
+pub mod Assigning
+pub mod Called
+pub mod Calls
 pub mod Exact
-pub mod Refusals
+pub mod Given
+pub mod Joined
+pub mod Meetings
+pub mod Pairs
 pub mod Rows
+pub mod Seen
 pub mod Stops
+pub mod Types
+pub mod Values

@@ -1,5 +1,11 @@
-ghost use Rattle.std.specs.Prelude.{◌≡◌, true, IfSome, IfErr};
-ghost use Rattle.cast_rules.specs.Refusals.{IsRefusal, of_call};
+ghost use Rattle.std.specs.Prelude.{◌≡◌, Bool, Option};
+ghost use Rattle.std.specs.Option.{option_map};
+ghost use Rattle.cil_base.specs.declared.numbers.TypeId.{TypeId};
+ghost use Rattle.type_graph.specs.Arena.{Graph};
+ghost use Rattle.type_graph.specs.Shapes.{Shape, Shapes, FuncType, shape};
+ghost use Rattle.cast_rules.specs.Called.{IsCallee, IsFunction};
+ghost use Rattle.cast_rules.specs.Calls.{Function, call_row, called, first_from, function_in, has_incomplete_result, is_any_unreadable, is_call, is_unassignable, takes_so_many, wrong_argument};
+ghost use Rattle.cast_rules.specs.Exact.{Refuses};
 
 use crate::assignments::assignable;
 use crate::conversions::{converted, promoted_argument, value_of};
@@ -13,116 +19,135 @@ use unit_types::{Class, Types};
 
 /// A function type that is called.
 #[derive(Clone, Copy)]
-struct Callee {
+pub(crate) struct Callee {
     of: TypeId,
     ret: TypeId,
     count: usize,
-    form: CalleeForm,
+    proto: bool,
+    variadic: bool,
 }
 
-/// What a function type tells of its arguments (C11 6.5.2.2p6, p7).
-#[derive(Clone, Copy)]
-enum CalleeForm {
-    /// It has no prototype.
-    Unprototyped,
-    /// There is one argument for each parameter.
-    Exact,
-    /// There are further arguments behind those for the parameters.
-    Variadic,
-}
-
-/// What a function type tells of its arguments.
-fn form_of(proto: bool, variadic: bool) -> CalleeForm {
-    if !proto {
-        CalleeForm::Unprototyped
-    } else if variadic {
-        CalleeForm::Variadic
-    } else {
-        CalleeForm::Exact
-    }
-}
-
-/// The function type that a called expression points to, if it does (C11 6.5.2.2p1).
-fn callee_of(f: &Operand, t: &Types) -> Option<Callee> {
-    let Sort::Pointer(to) = operand_sort(f, t) else {
-        return None;
-    };
-    match t.class(to.of) {
+/// The function type of that number, if it is one.
+fn function_of(t: &Types, of: TypeId) -> Option<Callee>
+    ensures { IsCallee t.now (function_in (shape t.now.nodes of.0)) result }
+{
+    match t.class(of) {
         Class::Func {
             ret,
             count,
             proto,
             variadic,
         } => Some(Callee {
-            of: to.of,
+            of,
             ret,
             count,
-            form: form_of(proto, variadic),
+            proto,
+            variadic,
         }),
         Class::Void | Class::Int(_) | Class::Ptr(_) | Class::Array(..) | Class::Agg(..) => None,
     }
 }
 
+/// The function type that a called expression points to, if it does (C11 6.5.2.2p1).
+fn callee_of(f: &Operand, t: &Types) -> Option<Callee>
+    ensures { IsCallee t.now (called t.now f.now) result }
+{
+    match operand_sort(f, t) {
+        Sort::Pointer(to) => function_of(t, to.of),
+        Sort::Void | Sort::Number(_) | Sort::Record(_) => None,
+    }
+}
+
 /// Whether an argument is of no type that its parameter, or its place without a parameter, allows (C11 6.5.2.2p2, p4).
-fn is_unassignable(parameter: Option<TypeId>, e: &Operand, t: &Types) -> bool {
+fn is_unassignable(parameter: Option<TypeId>, e: &Operand, t: &Types) -> bool
+    ensures { result ≡ is_unassignable t.now (option_map (λ (p : TypeId). shape t.now.nodes p.0) parameter) e.now }
+{
     match parameter {
         Some(to) => !assignable(to, e, t),
         None => is_void(t, e.exp.ty().of),
     }
 }
 
-/// The first argument that may not be assigned to its parameter, or that is void and has none (C11 6.5.2.2p2, p4), from the left. None
-/// where the called expression is no pointer to a function.
-pub fn first_unassignable(f: &Operand, arguments: &[Operand], t: &Types) -> Option<usize> {
-    let callee = callee_of(f, t)?;
+/// The first argument of a call of a function type that may not be assigned to its parameter, or that is void and has none.
+fn first_from(of: TypeId, arguments: &[Operand], t: &Types) -> Option<usize>
+    ensures { (ret : Shape) (params : Shapes) (proto variadic : Bool) → shape t.now.nodes of.0 ≡ FuncType ret params proto variadic → result ≡ first_from t.now params 0 arguments.now }
+{
+    // What is known of an arena is known where it is read.
+    let _types = t.graph().len();
     for i in 0..arguments.len() {
-        if is_unassignable(t.param(callee.of, i), &arguments[i], t) {
+        if is_unassignable(t.param(of, i), &arguments[i], t) {
             return Some(i);
         }
     }
     None
 }
 
-/// Whether one of the operands of a call has no value, since its type is incomplete.
-fn is_one_unreadable(f: &Operand, arguments: &[Operand], t: &Types) -> bool {
-    for e in arguments {
-        if is_unreadable(e, t) {
+/// The first argument that may not be assigned to its parameter, or that is void and has none (C11 6.5.2.2p2, p4), from the left. None
+/// where the called expression is no pointer to a function.
+pub fn first_unassignable(f: &Operand, arguments: &[Operand], t: &Types) -> Option<usize>
+    ensures { result ≡ wrong_argument t.now f.now arguments.now }
+{
+    match callee_of(f, t) {
+        Some(callee) => first_from(callee.of, arguments, t),
+        None => None,
+    }
+}
+
+/// Whether one of the arguments of a call has no value, since its type is incomplete.
+#[tactic(auto, using(crate::proofs::ArgumentLists::unreadable_here, crate::proofs::ArgumentLists::readable_here, crate::proofs::ArgumentLists::all_readable))]
+fn is_any_unreadable(arguments: &[Operand], t: &Types) -> bool
+    ensures { result ≡ is_any_unreadable t.now arguments.now }
+{
+    for i in 0..arguments.len() {
+        if is_unreadable(&arguments[i], t) {
             return true;
         }
     }
-    is_unreadable(f, t)
+    false
 }
 
 /// Whether the result of a call is incomplete and not void (C11 6.5.2.2p1).
-fn has_incomplete_result(callee: Option<Callee>, t: &Types) -> bool {
+fn has_incomplete_result(callee: Option<Callee>, t: &Types) -> bool
+    ensures { (function : Option Function) → IsCallee t.now function callee → result ≡ has_incomplete_result t.now function }
+{
     match callee {
         Some(callee) => !is_void(t, callee.ret) && !t.is_complete(callee.ret),
         None => false,
     }
 }
 
-/// Whether no pointer to a function is called, or with a number of arguments that its prototype excludes (C11 6.5.2.2p1, p2).
-fn is_no_call(callee: Option<Callee>, count: usize) -> bool {
+/// Whether a function type takes so many arguments (C11 6.5.2.2p2).
+fn takes_so_many(callee: Callee, count: usize) -> bool
+    ensures { (g : Graph) (function : Function) → IsFunction g function callee → result ≡ takes_so_many function count }
+{
+    !callee.proto
+        || if callee.variadic {
+            callee.count <= count
+        } else {
+            callee.count == count
+        }
+}
+
+/// Whether a pointer to a function is called, with a number of arguments that its prototype allows (C11 6.5.2.2p1, p2).
+fn is_call(callee: Option<Callee>, count: usize) -> bool
+    ensures { (g : Graph) (function : Option Function) → IsCallee g function callee → result ≡ is_call function count }
+{
     match callee {
-        Some(callee) => match callee.form {
-            CalleeForm::Unprototyped => false,
-            CalleeForm::Exact => count != callee.count,
-            CalleeForm::Variadic => count < callee.count,
-        },
-        None => true,
+        Some(callee) => takes_so_many(callee, count),
+        None => false,
     }
 }
 
 /// The first constraint that a call violates, if there is one.
 fn fault_call(f: &Operand, arguments: &[Operand], t: &Types) -> Option<Code>
-    ensures { IfSome result (λ code. of_call code ≡ true) }
+    ensures { result ≡ call_row t.now f.now arguments.now }
 {
     let callee = callee_of(f, t);
-    if is_one_unreadable(f, arguments, t) || has_incomplete_result(callee, t) {
+    if is_any_unreadable(arguments, t) || is_unreadable(f, t) || has_incomplete_result(callee, t) {
         Some(Code::Incomplete)
     } else if first_unassignable(f, arguments, t).is_some() {
         Some(Code::Assignment)
-    } else if is_no_call(callee, arguments.len()) {
+    } else if !is_call(callee, arguments.len()) {
         Some(Code::Call)
     } else {
         None
@@ -171,7 +196,7 @@ pub fn call(
     arguments: Vec<Operand>,
     t: &mut Types,
 ) -> Result<TypedExp, RuleStop>
-    ensures { IfErr result (IsRefusal of_call) }
+    ensures { Refuses (call_row t.old f arguments.items) result }
 {
     allowed(fault_call(&f, &arguments, t))?;
     let callee = callee_of(&f, t);

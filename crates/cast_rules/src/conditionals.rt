@@ -1,9 +1,14 @@
-ghost use Rattle.std.specs.Prelude.{◌≡◌, true, IfSome, IfErr};
+ghost use Rattle.std.specs.Prelude.{◌≡◌, List, is_some};
+ghost use Rattle.std.specs.Option.{option_map};
+ghost use Rattle.type_graph.specs.declared.nodes.Node.{Node};
 ghost use Rattle.type_graph.specs.Shapes.{shape};
 ghost use Rattle.cast_rules.specs.Exact.{Refuses};
+ghost use Rattle.cast_rules.specs.Joined.{joined_in};
+ghost use Rattle.cast_rules.specs.Pairs.{branch_shape, conditional_row, is_one_type, others_shape};
 ghost use Rattle.cast_rules.specs.Rows.{comma_row, switch_row, test_row};
-ghost use Rattle.cast_rules.specs.Refusals.{IsRefusal, of_operator};
+ghost use Rattle.cast_rules.specs.Seen.{seen};
 
+use crate::arithmetic::is_one_unreadable;
 use crate::conversions::{Pair, both_converted, both_values, promoted_value, value_of};
 use crate::operands::{Operand, Sort, gives_scalar, is_arithmetic, is_unreadable, operand_sort};
 use crate::pairings::{Meeting, Pairing, meeting_of, meeting_type, paired};
@@ -25,27 +30,34 @@ enum Joining {
     Pointers(Meeting),
 }
 
+/// Whether two values are void, or of one struct or union type (C11 6.5.15p3).
+fn is_one_type(a: Sort, b: Sort) -> bool
+    ensures { (nodes : List Node) → result ≡ is_one_type (seen nodes a) (seen nodes b) }
+{
+    match (a, b) {
+        (Sort::Void, Sort::Void) => true,
+        (Sort::Record(x), Sort::Record(y)) => x.0 == y.0,
+        _ => false,
+    }
+}
+
 /// What two operands give that are not both numbers.
-fn others_join(a: &Operand, b: &Operand, t: &Types) -> Option<Joining> {
-    let of = a.exp.ty().of;
-    match (operand_sort(a, t), operand_sort(b, t)) {
-        (Sort::Void, Sort::Void) => Some(Joining::Same(of)),
-        (Sort::Record(x), Sort::Record(y)) => {
-            if x == y {
-                Some(Joining::Same(of))
-            } else {
-                None
-            }
-        }
-        _ => match meeting_of(a, b, t) {
-            Some(m) => Some(Joining::Pointers(m)),
-            None => None,
-        },
+fn others_join(a: &Operand, b: &Operand, t: &Types) -> Option<Joining>
+    ensures { option_map (joined_in t.now.nodes) result ≡ others_shape t.now a.now b.now }
+{
+    if is_one_type(operand_sort(a, t), operand_sort(b, t)) {
+        return Some(Joining::Same(a.exp.ty().of));
+    }
+    match meeting_of(a, b, t) {
+        Some(m) => Some(Joining::Pointers(m)),
+        None => None,
     }
 }
 
 /// What the second and third operands of a conditional give, if they meet its constraint (C11 6.5.15p3).
-fn joining_of(a: &Operand, b: &Operand, t: &Types) -> Option<Joining> {
+fn joining_of(a: &Operand, b: &Operand, t: &Types) -> Option<Joining>
+    ensures { option_map (joined_in t.now.nodes) result ≡ branch_shape t.now a.now b.now }
+{
     match paired(a, b, t) {
         Pairing::Numbers(x, y) => Some(Joining::Numbers(x.common(y))),
         Pairing::PointerNumber(_)
@@ -55,13 +67,23 @@ fn joining_of(a: &Operand, b: &Operand, t: &Types) -> Option<Joining> {
     }
 }
 
+/// Whether the second and third operands of a conditional meet its constraint (C11 6.5.15p3).
+fn are_joined(a: &Operand, b: &Operand, t: &Types) -> bool
+    ensures { result ≡ is_some (branch_shape t.now a.now b.now) }
+{
+    match joining_of(a, b, t) {
+        Some(_) => true,
+        None => false,
+    }
+}
+
 /// The first constraint that a conditional violates, if there is one (C11 6.5.15p2, p3).
 fn fault_conditional(c: &Operand, a: &Operand, b: &Operand, t: &Types) -> Option<Code>
-    ensures { IfSome result (λ code. of_operator code ≡ true) }
+    ensures { result ≡ conditional_row t.now c.now a.now b.now }
 {
-    if is_unreadable(c, t) || is_unreadable(a, t) || is_unreadable(b, t) {
+    if is_unreadable(c, t) || is_one_unreadable(a, b, t) {
         Some(Code::Incomplete)
-    } else if !gives_scalar(t, c.exp.ty().of) || joining_of(a, b, t).is_none() {
+    } else if !gives_scalar(t, c.exp.ty().of) || !are_joined(a, b, t) {
         Some(Code::Operand)
     } else {
         None
@@ -108,7 +130,7 @@ pub fn conditional(
     b: Operand,
     t: &mut Types,
 ) -> Result<TypedExp, RuleStop>
-    ensures { IfErr result (IsRefusal of_operator) }
+    ensures { Refuses (conditional_row t.old c a b) result }
 {
     allowed(fault_conditional(&c, &a, &b, t))?;
     let joining = joining_of(&a, &b, t);

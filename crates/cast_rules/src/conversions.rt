@@ -1,8 +1,11 @@
-ghost use Rattle.std.specs.Prelude.{◌≡◌, ◌&&◌, not, IsTrue, IfOk};
+ghost use Rattle.std.specs.Prelude.{◌≡◌, ◌&&◌, not, List, IsTrue, IfOk, OnOk};
 ghost use Rattle.cil_base.specs.declared.kinds.IntKind.{IntKind};
-ghost use Rattle.type_graph.specs.Shapes.{IntType, shape};
+ghost use Rattle.type_graph.specs.declared.nodes.Node.{Node};
+ghost use Rattle.type_graph.specs.Shapes.{IntType, PtrType, shape};
 ghost use Rattle.cast_rules.specs.Exact.{Refuses};
-ghost use Rattle.cast_rules.specs.Rows.{cast_row, value_row, is_void, is_scalar, gives_scalar};
+ghost use Rattle.cast_rules.specs.Given.{Extends, IsOf, promoted_shape, value_shape};
+ghost use Rattle.cast_rules.specs.Rows.{cast_row, value_row};
+ghost use Rattle.cast_rules.specs.Types.{is_void, is_scalar, gives_scalar};
 
 use crate::operands::{
     Operand, Sort, gives_scalar, is_scalar, is_unreadable, is_void, kind_in, sort_of,
@@ -66,7 +69,11 @@ pub(crate) fn both_converted(
 }
 
 /// An integer promoted (C11 6.3.1.1p2); an enumerated type computes in int (own).
-pub(crate) fn promoted(alloc: Global, e: TypedExp, t: &mut Types) -> Result<TypedExp, LayoutStop> {
+#[tactic(auto, using(crate::proofs::Extending::extends_made))]
+pub(crate) fn promoted(alloc: Global, e: TypedExp, t: &mut Types) -> Result<TypedExp, LayoutStop>
+    ensures is { IfOk result (IsOf t.new (promoted_shape t.old (shape t.old.nodes e.ty.of.0))) }
+    ensures extends { OnOk result (Extends t.old t.new) }
+{
     let Some(kind) = kind_in(t, e.ty().of) else {
         return Err(impossible());
     };
@@ -75,11 +82,14 @@ pub(crate) fn promoted(alloc: Global, e: TypedExp, t: &mut Types) -> Result<Type
 }
 
 /// The value of an operand, promoted.
+#[tactic(auto, using(crate::proofs::Extending::promotion_stays))]
 pub(crate) fn promoted_value(
     alloc: Global,
     e: TypedExp,
     t: &mut Types,
-) -> Result<TypedExp, LayoutStop> {
+) -> Result<TypedExp, LayoutStop>
+    ensures { IfOk result (IsOf t.new (promoted_shape t.old (value_shape (shape t.old.nodes e.ty.of.0)))) }
+{
     let e = value_of(alloc, e, t)?;
     promoted(alloc, e, t)
 }
@@ -102,24 +112,26 @@ pub(crate) fn promoted_argument(
     t: &mut Types,
 ) -> Result<TypedExp, LayoutStop> {
     match sort_of(t, e.ty().of) {
-        Sort::Integer(_) | Sort::Enumerated => promoted(alloc, e, t),
+        Sort::Number(_) => promoted(alloc, e, t),
         Sort::Void | Sort::Pointer(_) | Sort::Record(_) => Ok(e),
     }
 }
 
 /// An array or a function as a pointer (C11 6.3.2.1p3, p4).
-fn decayed(
-    alloc: Global,
-    to: QualType,
-    e: TypedExp,
-    t: &mut Types,
-) -> Result<TypedExp, LayoutStop> {
+#[tactic(auto, using(crate::proofs::BuiltTypes::shape_built, crate::proofs::Extending::extends_made))]
+fn decayed(alloc: Global, to: QualType, e: TypedExp, t: &mut Types) -> Result<TypedExp, LayoutStop>
+    ensures is { IfOk result (IsOf t.new (PtrType to.quals (shape t.old.nodes to.of.0))) }
+    ensures extends { OnOk result (Extends t.old t.new) }
+{
     let pointer = t.pointer(to)?;
     Ok(typed_tree::decay(alloc, pointer, e)?)
 }
 
 /// The value of a place, or a value itself.
-fn loaded(alloc: Global, e: TypedExp) -> Result<TypedExp, LayoutStop> {
+#[tactic(auto, using(crate::proofs::BuiltTypes::shape_built))]
+fn loaded(alloc: Global, e: TypedExp) -> Result<TypedExp, LayoutStop>
+    ensures { (nodes : List Node) → IfOk result (λ v. shape nodes v.ty.of.0 ≡ shape nodes e.ty.of.0) }
+{
     if e.is_place() {
         Ok(typed_tree::load(alloc, e)?)
     } else {
@@ -128,7 +140,11 @@ fn loaded(alloc: Global, e: TypedExp) -> Result<TypedExp, LayoutStop> {
 }
 
 /// The value of an operand (C11 6.3.2.1p2 to p4). A void expression stays as it is.
-pub(crate) fn value_of(alloc: Global, e: TypedExp, t: &mut Types) -> Result<TypedExp, LayoutStop> {
+#[tactic(auto, using(crate::proofs::Extending::extends_none))]
+pub(crate) fn value_of(alloc: Global, e: TypedExp, t: &mut Types) -> Result<TypedExp, LayoutStop>
+    ensures is { IfOk result (IsOf t.new (value_shape (shape t.old.nodes e.ty.of.0))) }
+    ensures extends { OnOk result (Extends t.old t.new) }
+{
     let of = e.ty().of;
     match t.class(of) {
         Class::Void => Ok(e),
@@ -139,12 +155,15 @@ pub(crate) fn value_of(alloc: Global, e: TypedExp, t: &mut Types) -> Result<Type
 }
 
 /// The values of two operands.
+#[tactic(auto, using(crate::proofs::Extending::extends_twice))]
 pub(crate) fn both_values(
     alloc: Global,
     a: TypedExp,
     b: TypedExp,
     t: &mut Types,
-) -> Result<Pair, LayoutStop> {
+) -> Result<Pair, LayoutStop>
+    ensures { OnOk result (Extends t.old t.new) }
+{
     let left = value_of(alloc, a, t)?;
     let right = value_of(alloc, b, t)?;
     Ok(Pair { left, right })
@@ -164,7 +183,8 @@ fn fault_value(e: &Operand, t: &Types) -> Option<Code>
 /// The value of an operand: what an lvalue holds, or the pointer to which an array or a function decays (C11 6.3.2.1p2 to p4).
 /// `Incomplete` comes where it has an incomplete struct, union or enum type.
 pub fn value(alloc: Global, e: Operand, t: &mut Types) -> Result<TypedExp, RuleStop>
-    ensures { Refuses (value_row t.old (shape t.old.nodes e.exp.ty.of.0)) result }
+    ensures is { IfOk result (IsOf t.new (value_shape (shape t.old.nodes e.exp.ty.of.0))) }
+    ensures refused { Refuses (value_row t.old (shape t.old.nodes e.exp.ty.of.0)) result }
 {
     allowed(fault_value(&e, t))?;
     made(value_of(alloc, e.exp, t))
@@ -193,19 +213,18 @@ fn fault_cast(to: TypeId, e: &Operand, t: &Types) -> Option<Code>
 /// `( to ) e` (C11 6.5.4). A cast to void is a node whatever its operand is, since no cast is an lvalue; any other is a node where it
 /// changes the type.
 pub fn cast(alloc: Global, to: TypeId, e: Operand, t: &mut Types) -> Result<TypedExp, RuleStop>
-    ensures { Refuses (cast_row t.old (shape t.old.nodes to.0) (shape t.old.nodes e.exp.ty.of.0)) result }
+    ensures is { IfOk result (IsOf t.new (shape t.new.nodes to.0)) }
+    ensures refused { Refuses (cast_row t.old (shape t.old.nodes to.0) (shape t.old.nodes e.exp.ty.of.0)) result }
 {
     allowed(fault_cast(to, &e, t))?;
     made(cast_node(alloc, to, e.exp, t))
 }
 
 /// The node of a cast.
-fn cast_node(
-    alloc: Global,
-    to: TypeId,
-    e: TypedExp,
-    t: &mut Types,
-) -> Result<TypedExp, LayoutStop> {
+#[tactic(auto, using(crate::proofs::BuiltTypes::shape_built))]
+fn cast_node(alloc: Global, to: TypeId, e: TypedExp, t: &mut Types) -> Result<TypedExp, LayoutStop>
+    ensures { IfOk result (IsOf t.new (shape t.new.nodes to.0)) }
+{
     let e = value_of(alloc, e, t)?;
     if e.ty().of == to && !is_void(t, to) {
         return Ok(e);

@@ -2,8 +2,9 @@
 //!
 //! A call answers the operator's node, with the conversions of its operands as nodes of their own, or the first constraint that the
 //! operator violates, by the constraints' numbers; a type that would be too big, or want of memory. Its public contract promises that
-//! every call ends and is safe over any operands and types, and is refused for its own constraints alone; which answer comes is tested, row
-//! by row, in `rules_tests`.
+//! every call ends and is safe over any operands and types, and that it is refused exactly where C11 has a constraint that is violated, by
+//! the first one; that what an operator over numbers and pointers gives has the type that C11 says. Which conversions there are is tested,
+//! row by row, in `rules_tests`.
 //!
 //! The rules come from C11 6.3 (conversions) and 6.5 (expressions). That an enumerated type computes in int is own.
 #![tactic(auto)]

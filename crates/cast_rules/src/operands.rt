@@ -1,6 +1,8 @@
 ghost use Rattle.std.specs.Prelude.{◌≡◌, Some};
 ghost use Rattle.type_graph.specs.Shapes.{shape};
-ghost use Rattle.cast_rules.specs.Rows.{kind_in, is_arithmetic, is_enum_kind, is_scalar, is_unreadable, is_void, gives_pointer, gives_scalar};
+ghost use Rattle.cast_rules.specs.Seen.{seen, IsThere};
+ghost use Rattle.cast_rules.specs.Types.{kind_in, is_arithmetic, is_enum_kind, is_incomplete, is_object, is_scalar, is_unreadable, is_void, gives_pointer, gives_scalar};
+ghost use Rattle.cast_rules.specs.Values.{value_in};
 
 use cil_base::{AggId, IntKind, TypeId};
 use type_graph::{AggKind, QualType};
@@ -32,79 +34,55 @@ impl Operand {
 #[derive(Clone, Copy)]
 pub(crate) enum Sort {
     Void,
-    Integer(IntKind),
-    Enumerated,
+    /// A number; an enumerated type computes in int (own).
+    Number(IntKind),
     /// A pointer, and the type that it points to.
     Pointer(QualType),
     /// A struct or union.
     Record(AggId),
 }
 
-/// What a pointer points to.
-#[derive(Clone, Copy)]
-pub(crate) enum Pointee {
-    Complete,
-    /// An object type that is not complete, `void` among them (C11 6.2.5p1, p19).
-    Incomplete,
-    Function,
-}
-
 /// What the value of an operand of a type is.
-pub(crate) fn sort_of(t: &Types, of: TypeId) -> Sort {
+#[tactic(auto, using(crate::proofs::TypesThere::function_there))]
+pub(crate) fn sort_of(t: &Types, of: TypeId) -> Sort
+    ensures is { seen t.now.nodes result ≡ value_in t.now (shape t.now.nodes of.0) }
+    ensures there { IsThere t.now.nodes result }
+{
     match t.class(of) {
         Class::Void => Sort::Void,
-        Class::Int(kind) => Sort::Integer(kind),
+        Class::Int(kind) => Sort::Number(kind),
         Class::Ptr(to) => Sort::Pointer(to),
         Class::Array(element, _) => Sort::Pointer(element),
         Class::Func { .. } => Sort::Pointer(unqualified(of)),
-        Class::Agg(AggKind::Enum, _) => Sort::Enumerated,
+        Class::Agg(AggKind::Enum, _) => Sort::Number(IntKind::Int),
         Class::Agg(AggKind::Struct, a) => Sort::Record(a),
         Class::Agg(AggKind::Union, a) => Sort::Record(a),
     }
 }
 
 /// What the value of an operand is.
-pub(crate) fn operand_sort(e: &Operand, t: &Types) -> Sort {
+pub(crate) fn operand_sort(e: &Operand, t: &Types) -> Sort
+    ensures is { seen t.now.nodes result ≡ value_in t.now (shape t.now.nodes e.now.exp.ty.of.0) }
+    ensures there { IsThere t.now.nodes result }
+{
     sort_of(t, e.exp.ty().of)
 }
 
-/// What a pointer to that type points to.
-pub(crate) fn pointee_of(t: &Types, to: QualType) -> Pointee {
-    match t.class(to.of) {
-        Class::Func { .. } => Pointee::Function,
-        Class::Void | Class::Int(_) | Class::Ptr(_) | Class::Array(..) | Class::Agg(..) => {
-            if t.is_complete(to.of) {
-                Pointee::Complete
-            } else {
-                Pointee::Incomplete
-            }
-        }
+/// Whether a type is an object type (C11 6.2.5p1), complete or not.
+pub(crate) fn is_object(t: &Types, of: TypeId) -> bool
+    ensures { result ≡ is_object (shape t.now.nodes of.0) }
+{
+    match t.class(of) {
+        Class::Func { .. } => false,
+        Class::Void | Class::Int(_) | Class::Ptr(_) | Class::Array(..) | Class::Agg(..) => true,
     }
 }
 
-/// Whether pointer arithmetic steps over a type that is incomplete (C11 6.5.6p2).
-pub(crate) fn is_incomplete(t: &Types, to: QualType) -> bool {
-    match pointee_of(t, to) {
-        Pointee::Incomplete => true,
-        Pointee::Complete | Pointee::Function => false,
-    }
-}
-
-/// Whether a pointer points to an object type (C11 6.2.5p1), complete or not.
-pub(crate) fn is_object(t: &Types, to: QualType) -> bool {
-    match pointee_of(t, to) {
-        Pointee::Complete | Pointee::Incomplete => true,
-        Pointee::Function => false,
-    }
-}
-
-/// The kind in which an operand of arithmetic type computes before its promotion (C11 6.2.5p18, 6.7.2.2p4).
-pub(crate) fn arithmetic_kind(s: Sort) -> Option<IntKind> {
-    match s {
-        Sort::Integer(kind) => Some(kind),
-        Sort::Enumerated => Some(IntKind::Int),
-        Sort::Void | Sort::Pointer(_) | Sort::Record(_) => None,
-    }
+/// Whether a type is an object type that is incomplete (C11 6.2.5p1), as `void` is (p19).
+pub(crate) fn is_incomplete(t: &Types, of: TypeId) -> bool
+    ensures { result ≡ is_incomplete t.now (shape t.now.nodes of.0) }
+{
+    is_object(t, of) && !t.is_complete(of)
 }
 
 /// The kind of which a value of a type is, where it is a number (C11 6.2.5p18); an enumerated type computes in int (own).
@@ -124,7 +102,7 @@ pub(crate) fn kind_in(t: &Types, of: TypeId) -> Option<IntKind>
 }
 
 /// Whether a kind of aggregates is that of enums.
-fn is_enum(kind: AggKind) -> bool
+pub(crate) fn is_enum(kind: AggKind) -> bool
     ensures { result ≡ is_enum_kind (Some kind) }
 {
     match kind {

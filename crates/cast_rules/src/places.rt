@@ -1,15 +1,17 @@
-ghost use Rattle.std.specs.Prelude.{◌≡◌, true, IfSome, IfErr, List};
+ghost use Rattle.std.specs.Prelude.{◌≡◌, None, List, IfOk, IfSome};
 ghost use Rattle.type_graph.specs.declared.nodes.Node.{Node};
-ghost use Rattle.type_graph.specs.Shapes.{shape};
+ghost use Rattle.type_graph.specs.Shapes.{PtrType, shape};
 ghost use Rattle.typed_tree.specs.Places.{is_place};
 ghost use Rattle.typed_tree.specs.View.{typed_of};
 ghost use Rattle.cast_rules.specs.Exact.{Refuses};
 ghost use Rattle.cast_rules.specs.Rows.{address_row, indirect_row};
-ghost use Rattle.cast_rules.specs.Refusals.{IsRefusal, none, of_operator};
+ghost use Rattle.cast_rules.specs.Given.{IsOf, pointee_shape};
+ghost use Rattle.cast_rules.specs.Pairs.{is_subscript, subscript_row};
+ghost use Rattle.cast_rules.specs.Seen.{seen_pair};
 
-use crate::arithmetic::indexed;
+use crate::arithmetic::{adds_over_incomplete, indexed, is_one_unreadable};
 use crate::conversions::{Pair, both_values, value_of};
-use crate::operands::{Operand, gives_pointer, is_incomplete, is_object, is_unreadable};
+use crate::operands::{Operand, gives_pointer, is_object, is_unreadable};
 use crate::pairings::{Pairing, paired};
 use crate::stops::{allowed, impossible, made};
 use cil_base::{AggId, Code, RuleStop};
@@ -34,14 +36,18 @@ fn fault_address(e: &Operand) -> Option<Code>
 
 /// `& e` (C11 6.5.3.2), of an lvalue, a function, or what `*` gives.
 pub fn address(alloc: Global, e: Operand, t: &mut Types) -> Result<TypedExp, RuleStop>
-    ensures { Refuses (address_row (is_place (typed_of t.old.nodes e.exp)) e.register) result }
+    ensures is { IfOk result (IsOf t.new (PtrType e.exp.ty.quals (shape t.old.nodes e.exp.ty.of.0))) }
+    ensures refused { Refuses (address_row (is_place (typed_of t.old.nodes e.exp)) e.register) result }
 {
     allowed(fault_address(&e))?;
     made(address_node(alloc, e.exp, t))
 }
 
 /// The node of an address.
-fn address_node(alloc: Global, e: TypedExp, t: &mut Types) -> Result<TypedExp, LayoutStop> {
+#[tactic(auto, using(crate::proofs::BuiltTypes::shape_built))]
+fn address_node(alloc: Global, e: TypedExp, t: &mut Types) -> Result<TypedExp, LayoutStop>
+    ensures { IfOk result (IsOf t.new (PtrType e.ty.quals (shape t.old.nodes e.ty.of.0))) }
+{
     let pointer = t.pointer(e.ty())?;
     Ok(typed_tree::address(alloc, pointer, e)?)
 }
@@ -61,14 +67,18 @@ fn fault_indirect(e: &Operand, t: &Types) -> Option<Code>
 
 /// `* e` (C11 6.5.3.2): an lvalue, a function, or a void expression.
 pub fn indirect(alloc: Global, e: Operand, t: &mut Types) -> Result<TypedExp, RuleStop>
-    ensures { Refuses (indirect_row t.old (shape t.old.nodes e.exp.ty.of.0)) result }
+    ensures is { IfOk result (λ v. IfSome (pointee_shape (shape t.old.nodes e.exp.ty.of.0)) (λ s. IsOf t.new s v)) }
+    ensures refused { Refuses (indirect_row t.old (shape t.old.nodes e.exp.ty.of.0)) result }
 {
     allowed(fault_indirect(&e, t))?;
     made(indirect_node(alloc, e.exp, t))
 }
 
 /// The node of an indirection.
-fn indirect_node(alloc: Global, e: TypedExp, t: &mut Types) -> Result<TypedExp, LayoutStop> {
+#[tactic(auto, using(crate::proofs::BuiltTypes::shape_built, crate::proofs::Pointees::pointee_told))]
+fn indirect_node(alloc: Global, e: TypedExp, t: &mut Types) -> Result<TypedExp, LayoutStop>
+    ensures { IfOk result (λ v. IfSome (pointee_shape (shape t.old.nodes e.ty.of.0)) (λ s. IsOf t.new s v)) }
+{
     let e = value_of(alloc, e, t)?;
     match t.class(e.ty().of) {
         Class::Ptr(to) => Ok(typed_tree::indirect(alloc, to, e)?),
@@ -87,30 +97,25 @@ fn element(pairing: Pairing) -> Option<QualType> {
     }
 }
 
-/// Whether the element of a subscript is incomplete.
-fn has_incomplete_element(pairing: Pairing, t: &Types) -> bool {
-    match element(pairing) {
-        Some(of) => is_incomplete(t, of),
-        None => false,
-    }
-}
-
-/// Whether two operands are no pointer to an object and an integer (C11 6.5.2.1p1).
-fn is_no_subscript(pairing: Pairing, t: &Types) -> bool {
-    match element(pairing) {
-        Some(of) => !is_object(t, of),
-        None => true,
+/// Whether one of two operands is a pointer to an object and the other an integer (C11 6.5.2.1p1).
+fn is_subscript(pairing: Pairing, t: &Types) -> bool
+    ensures { result ≡ is_subscript (seen_pair t.now.nodes pairing) }
+{
+    match pairing {
+        Pairing::PointerNumber(p) => is_object(t, p.of),
+        Pairing::NumberPointer(q) => is_object(t, q.of),
+        Pairing::Numbers(..) | Pairing::Pointers(..) | Pairing::Others => false,
     }
 }
 
 /// The first constraint that a subscript violates, if there is one.
 fn fault_subscript(a: &Operand, b: &Operand, t: &Types) -> Option<Code>
-    ensures { IfSome result (λ code. of_operator code ≡ true) }
+    ensures { result ≡ subscript_row t.now a.now b.now }
 {
     let pairing = paired(a, b, t);
-    if is_unreadable(a, t) || is_unreadable(b, t) || has_incomplete_element(pairing, t) {
+    if is_one_unreadable(a, b, t) || adds_over_incomplete(pairing, t) {
         Some(Code::Incomplete)
-    } else if is_no_subscript(pairing, t) {
+    } else if !is_subscript(pairing, t) {
         Some(Code::Operand)
     } else {
         None
@@ -124,7 +129,7 @@ pub fn subscript(
     right: Operand,
     t: &mut Types,
 ) -> Result<TypedExp, RuleStop>
-    ensures { IfErr result (IsRefusal of_operator) }
+    ensures { Refuses (subscript_row t.old left right) result }
 {
     allowed(fault_subscript(&left, &right, t))?;
     let pairing = paired(&left, &right, t);
@@ -165,7 +170,7 @@ pub fn member(
     index: u32,
     t: &mut Types,
 ) -> Result<TypedExp, RuleStop>
-    ensures { IfErr result (IsRefusal none) }
+    ensures { Refuses None result }
 {
     made(member_node(alloc, e.exp, a, index, t))
 }

@@ -1,10 +1,8 @@
-ghost use Rattle.std.specs.Prelude.{◌≡◌, Bool, true, MatchOption, IfSome, MatchResult, IfErr, Ok, Err};
-ghost use Rattle.cil_base.specs.declared.faults.Code.{Code};
+ghost use Rattle.std.specs.Prelude.{◌≡◌, MatchOption, MatchResult, IfErr, Ok, Err};
 ghost use Rattle.cil_base.specs.declared.faults.Fault.TheVariants.{Constraint};
 ghost use Rattle.cil_base.specs.declared.faults.RuleStop.TheVariants as stop;
 ghost use Rattle.layout_lp64.specs.declared.layouts.LayoutStop.TheVariants.{Memory as WantOfMemory};
 ghost use Rattle.cast_rules.specs.Exact.{IsNoConstraint};
-ghost use Rattle.cast_rules.specs.Refusals.{IsRefusal};
 ghost use Rattle.cast_rules.specs.Stops.{refusal};
 
 use cil_base::{Code, Fault, RuleStop, What};
@@ -26,8 +24,7 @@ pub(crate) fn impossible() -> LayoutStop
 
 /// Why types stop, as a rule's refusal: a type that is too big passes a limit.
 fn refusal(stop: LayoutStop) -> RuleStop
-    ensures is { result ≡ refusal stop }
-    ensures refused { (codes : Code → Bool) → IsRefusal codes result }
+    ensures { result ≡ refusal stop }
 {
     match stop {
         LayoutStop::TooBig(_) => RuleStop::Bad(Fault::Limit(What::ObjectSize)),
@@ -39,7 +36,6 @@ fn refusal(stop: LayoutStop) -> RuleStop
 pub(crate) fn made<T>(r: Result<T, LayoutStop>) -> Result<T, RuleStop>
     ensures made { MatchResult r (λ x. result ≡ Ok x) (λ e. result ≡ Err (refusal e)) }
     ensures unviolated { IfErr result IsNoConstraint }
-    ensures refused { (codes : Code → Bool) → IfErr result (IsRefusal codes) }
 {
     match r {
         Ok(x) => Ok(x),
@@ -49,8 +45,7 @@ pub(crate) fn made<T>(r: Result<T, LayoutStop>) -> Result<T, RuleStop>
 
 /// Nothing, or the refusal for a constraint.
 pub(crate) fn allowed(first: Option<Code>) -> Result<(), RuleStop>
-    ensures allowed { MatchOption first (result ≡ Ok tt) (λ code. result ≡ Err (stop.Bad (Constraint code))) }
-    ensures refused { (codes : Code → Bool) → IfSome first (λ code. codes code ≡ true) → IfErr result (IsRefusal codes) }
+    ensures { MatchOption first (result ≡ Ok tt) (λ code. result ≡ Err (stop.Bad (Constraint code))) }
 {
     match first {
         Some(code) => Err(bad(code)),
