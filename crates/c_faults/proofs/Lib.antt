@@ -1,2 +1,3 @@
-mod FirstLaws
+pub mod FirstLaws
+pub mod Acceptance
 mod Rows
