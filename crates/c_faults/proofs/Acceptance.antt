@@ -1,7 +1,5 @@
 -- Device: units that are accepted have no fault: what is read of a unit is one, and nothing that is refused.
-use Rattle.std.proofs.Common.{◌≡◌, ℕ, ◌+◌, ◌<◌, ◌≤◌, Bool, true, List, [], ◌∷◌, ◌++◌, length, Option, Some, None, refl, sym, ap, ◌∙◌, subst, arith}
-use Rattle.cil_base.specs.declared.faults.Fault.{Fault}
-use Rattle.cil_base.specs.declared.faults.Place.{Place}
+use Rattle.std.proofs.Common.{◌≡◌, ℕ, ◌+◌, true, List, [], ◌∷◌, ◌++◌, length, Some, None, refl, sym, ap, ◌∙◌, subst, arith}
 use Rattle.cil_base.specs.declared.faults.Refusal.{Refusal}
 use Rattle.cil_base.specs.declared.kinds.Abi.{Abi}
 use Rattle.cil_base.specs.declared.kinds.Mode.{Mode}
@@ -17,18 +15,18 @@ use Rattle.c_parser.specs.UnitAnswers.{ReadsUnit}
 use Rattle.c_parser.proofs.UnitLaws.{one_unit}
 use Rattle.c_typing.specs.Scopes.{Env, Found, Good, Bad}
 use Rattle.c_typing.specs.Faults.{walked, first_fault, fault_in}
-use Rattle.c_faults.specs.Reading.{Source, Read, IsWithin, greatest_unit, greatest_total, HasTokens, IsRead, IsUnitFault, TooLarge, TooMuch, OfToken, OfGrammar, OfWalk}
+use Rattle.c_faults.specs.Reading.{Source, Read, HasTokens, IsRead, IsUnitFault, TooLarge, TooMuch, OfToken, OfGrammar, OfWalk}
 use Rattle.c_faults.specs.Definitions.{first_twice}
 use Rattle.c_faults.specs.Acceptance.{AreRead, total_of, names_behind, Clashes, FaultAt, InUnit, Twice, Apart, Accepted}
 
 -- tokens and trees are one
 
-same_answer : (u : Source) (names : List (List ℕ)) (answer other : Answer) → IsAnswer u.unit u.file names u.bytes answer → IsAnswer u.unit u.file names u.bytes other → answer ≡ other
+pub same_answer : (u : Source) (names : List (List ℕ)) (answer other : Answer) → IsAnswer u.unit u.file names u.bytes answer → IsAnswer u.unit u.file names u.bytes other → answer ≡ other
 same_answer u names answer other is also = is.2 ∙ (ap (λ ps. read ps (begun u.unit u.file names)) (only_cut true u.bytes is.0 is.1 ∙ sym (only_cut true u.bytes also.0 also.1)) ∙ sym also.2)
 
-record OneLexed (t w : Lexed) (behind also : List (List ℕ)) : Type 0 where
-  tokens : t ≡ w
-  texts : behind ≡ also
+pub record OneLexed (t w : Lexed) (behind also : List (List ℕ)) : Type 0 where
+  pub tokens : t ≡ w
+  pub texts : behind ≡ also
 
 abbrev lexed_of : List ℕ → UnitNo → List Entry → Spot → Lexed
 lexed_of source unit entries end = record { source = source; unit = unit; entries = entries; end = end }
@@ -46,7 +44,7 @@ same_lexed : (t w : Lexed) → t.source ≡ w.source → t.unit ≡ w.unit → t
 same_lexed t w a b c d =
     ap (λ x. lexed_of x t.unit t.entries t.end) a ∙ (ap (λ x. lexed_of w.source x t.entries t.end) b ∙ (ap (λ x. lexed_of w.source w.unit x t.end) c ∙ ap (λ x. lexed_of w.source w.unit w.entries x) d))
 
-one_lexed : (u : Source) (before : List (List ℕ)) (t w : Lexed) (behind names : List (List ℕ)) → HasTokens u before t behind → HasTokens u before w names → OneLexed t w behind names
+pub one_lexed : (u : Source) (before : List (List ℕ)) (t w : Lexed) (behind names : List (List ℕ)) → HasTokens u before t behind → HasTokens u before w names → OneLexed t w behind names
 one_lexed u before t w behind names h k = let e = same_answer u before (Whole t.entries t.end behind) (Whole w.entries w.end names) h.lexed k.lexed in record {
   tokens = same_lexed t w (h.source ∙ sym k.source) (h.unit ∙ sym k.unit) (whole_entries t.entries w.entries t.end w.end behind names e) (whole_end t.entries w.entries t.end w.end behind names e);
   texts = whole_names t.entries w.entries t.end w.end behind names e;
@@ -64,7 +62,7 @@ env_in env (Good x) = x.1
 env_in env (Bad fault at) = env
 
 -- what is read of a unit is one
-one_read : (abi : Abi) (total other : ℕ) (names : List (List ℕ)) (u : Source) (r q : Read) → IsRead abi total names u r → IsRead abi other names u q → r ≡ q
+pub one_read : (abi : Abi) (total other : ℕ) (names : List (List ℕ)) (u : Source) (r q : Read) → IsRead abi total names u r → IsRead abi other names u q → r ≡ q
 one_read abi total other names u r q h k =
     let o = one_lexed u names r.tokens q.tokens r.names q.names h.tokens k.tokens in
     let trees : r.tree ≡ q.tree = one_unit (lexemes q.tokens) r.tree q.tree (subst (λ t. ReadsUnit (lexemes t) r.tree) o.tokens h.grammatical) k.grammatical in
@@ -72,7 +70,7 @@ one_read abi total other names u r q h k =
     same_read r q o.tokens trees o.texts (ap (env_in r.env) (sym h.walked ∙ (walks ∙ k.walked)))
 
 -- it is not refused
-no_fault : (abi : Abi) (total : ℕ) (names : List (List ℕ)) (u : Source) (r : Read) (refusal : Refusal) → IsRead abi total names u r → IsUnitFault abi total names u refusal → ⊥
+pub no_fault : (abi : Abi) (total : ℕ) (names : List (List ℕ)) (u : Source) (r : Read) (refusal : Refusal) → IsRead abi total names u r → IsUnitFault abi total names u refusal → ⊥
 no_fault abi total names u r refusal h (TooLarge l) = let m = h.within.alone in omega (arith, l, m)
 no_fault abi total names u r refusal h (TooMuch s l) = let m = h.within.together in omega (arith, l, m)
 no_fault abi total names u r refusal h (OfToken other behind w a) = by (same_answer u names (Whole r.tokens.entries r.tokens.end r.names) (Refused other behind) h.tokens.lexed a)
@@ -92,7 +90,7 @@ no_fault abi total names u r refusal h (OfWalk other t behind tree x w k g f p) 
 
 -- of units in order
 
-same_reads : (abi : Abi) (total : ℕ) (names : List (List ℕ)) (us : List Source) (rs qs : List Read) → AreRead abi total names us rs → AreRead abi total names us qs → rs ≡ qs
+pub same_reads : (abi : Abi) (total : ℕ) (names : List (List ℕ)) (us : List Source) (rs qs : List Read) → AreRead abi total names us rs → AreRead abi total names us qs → rs ≡ qs
 same_reads abi total names [] [] [] h k = refl
 same_reads abi total names [] [] (q ∷ qs) h k = absurd k
 same_reads abi total names [] (r ∷ rs) qs h k = absurd h
@@ -102,7 +100,7 @@ same_reads abi total names (u ∷ us) (r ∷ rs) (q ∷ qs) h k =
     let one : r ≡ q = one_read abi total total names u r q h.0 k.0 in
     ap (λ x. x ∷ rs) one ∙ ap (λ xs. q ∷ xs) (same_reads abi (total + length u.bytes) q.names us rs qs (subst (λ x. AreRead abi (total + length u.bytes) x.names us rs) one h.1) k.1)
 
-none_in_order : (abi : Abi) (total : ℕ) (names : List (List ℕ)) (before behind : List Source) (u : Source) (rs qs : List Read) (refusal : Refusal)
+pub none_in_order : (abi : Abi) (total : ℕ) (names : List (List ℕ)) (before behind : List Source) (u : Source) (rs qs : List Read) (refusal : Refusal)
     → AreRead abi total names (before ++ (u ∷ behind)) rs → AreRead abi total names before qs → IsUnitFault abi (total + total_of before) (names_behind names qs) u refusal → ⊥
 none_in_order abi total names [] behind u [] qs refusal h k f = absurd h
 none_in_order abi total names [] behind u (r ∷ rs) [] refusal h k f = no_fault abi total names u r refusal h.0 (subst (λ i. IsUnitFault abi i names u refusal) (sum total) f)

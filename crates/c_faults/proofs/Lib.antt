@@ -1,3 +1,4 @@
 pub mod FirstLaws
 pub mod Acceptance
+pub mod OneRefusal
 mod Rows
