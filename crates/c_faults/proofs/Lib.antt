@@ -1,2 +1,4 @@
-mod FirstLaws
+pub mod FirstLaws
+pub mod Acceptance
+pub mod OneRefusal
 mod Rows

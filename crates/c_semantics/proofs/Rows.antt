@@ -357,7 +357,82 @@ row_72 : runs (codes "int main(void) { return _Alignof(long) * 10 + sizeof(struc
 unfolding runs
 row_72 = refl
 
--- without a main
-row_73 : runs (codes "int f(void) { return 0; }") 0 ≡ Some (Undefined [])
+-- an argument is converted
+row_73 : runs (codes "int f(_Bool b) { return b; } int main(void) { return f(8); }") 9 ≡ Some (Exit 1 [])
 unfolding runs
 row_73 = refl
+
+-- an assigned value is converted
+row_74 : runs (codes "int main(void) { _Bool b; int x; b = 8; x = b; b = &x; return x * 2 + b; }") 9 ≡ Some (Exit 3 [])
+unfolding runs
+row_74 = refl
+
+-- a returned value is converted
+row_75 : runs (codes "_Bool f(int x) { return x; } int main(void) { return f(8); }") 9 ≡ Some (Exit 1 [])
+unfolding runs
+row_75 = refl
+
+-- a compound assignment is converted
+row_76 : runs (codes "int main(void) { _Bool b = 1, c = 0; b += 3; c--; return b * 2 + c; }") 9 ≡ Some (Exit 3 [])
+unfolding runs
+row_76 = refl
+
+-- the operands of a conditional are converted
+row_77 : runs (codes "int main(void) { return ((1 ? -1 : 0u) > 0) + (_Bool)8; }") 9 ≡ Some (Exit 2 [])
+unfolding runs
+row_77 = refl
+
+-- an argument without a parameter is promoted
+row_78 : runs (codes "int f(); int main(void) { char c = 3; return f(c); } int f(int x) { return x; }") 9 ≡ Some (Exit 3 [])
+unfolding runs
+row_78 = refl
+
+-- an array in a value is one for each place
+row_79 : runs (codes "struct s { int a[1]; }; struct s f(int n) { struct s x = { { n } }; return x; } int main(void) { int *p = f(3).a, *q = f(4).a; return *p * 10 + *q; }") 9 ≡ Some (Exit 34 [])
+unfolding runs
+row_79 = refl
+
+-- objects of a block that is entered again
+row_80 : runs (codes "int main(void) { int n = 0, s = 0; again: { int x = n; s += x; if (n++ < 3) goto again; } return s; }") 9 ≡ Some (Exit 6 [])
+unfolding runs
+row_80 = refl
+
+-- a jump out of a block ends its objects
+row_81 : runs (codes "int main(void) { int *p; { int x = 5; p = &x; goto out; } out: return *p; }") 9 ≡ Some (Undefined [])
+unfolding runs
+row_81 = refl
+
+-- a step of a for
+row_82 : runs (codes "int main(void) { int i, s = 0; for (i = 0; i < 4; s += i, i++) ; return s * 10 + i; }") 9 ≡ Some (Exit 64 [])
+unfolding runs
+row_82 = refl
+
+-- a condition with a compound literal
+row_83 : runs (codes "int main(void) { int s = 0; while (s < *&(int){ 3 }) s++; do s++; while ((int []){ 5, 0 }[0] > s); return s; }") 9 ≡ Some (Exit 5 [])
+unfolding runs
+row_83 = refl
+
+-- a compound literal in a substatement
+row_84 : runs (codes "int main(void) { int s = 0; if (1) s = *&(int){ 4 }; while (s < 6) s += *(int []){ 1, 2 }; return s; }") 9 ≡ Some (Exit 6 [])
+unfolding runs
+row_84 = refl
+
+-- a substatement is a block
+row_85 : runs (codes "int main(void) { int *p; if (1) p = &(int){ 4 }; return *p; }") 9 ≡ Some (Undefined [])
+unfolding runs
+row_85 = refl
+
+-- a declaration that is reached again
+row_86 : runs (codes "int main(void) { int n = 0; back: ; int x; if (n++) return x; x = 7; goto back; }") 9 ≡ Some (Undefined [])
+unfolding runs
+row_86 = refl
+
+-- a const object whose declaration is reached again
+row_87 : runs (codes "int main(void) { int n = 0; back: ; const int x = n; if (n++ < 2) goto back; return x; }") 9 ≡ Some (Exit 2 [])
+unfolding runs
+row_87 = refl
+
+-- without a main
+row_88 : runs (codes "int f(void) { return 0; }") 0 ≡ Some (Undefined [])
+unfolding runs
+row_88 = refl
