@@ -1,8 +1,8 @@
 use crate::types::impossible;
 use cil_base::{EntityId, Memory, TypeId};
 use cil_tree::{GlobalDecl, GlobalDef};
-use expr_lower::FunctionOut;
 use init_expand::image;
+use lower_parts::FunctionOut;
 use std::alloc::Global;
 use stmt_lower::function;
 use typed_tree::{Definition, Entity, EntityKind, Ordinary};
