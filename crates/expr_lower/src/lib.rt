@@ -7,15 +7,6 @@
 //! with its code.
 #![tactic(auto)]
 
-mod calls;
-mod constants;
-mod output;
-mod places;
-mod results;
-mod shapes;
 mod walk;
 
-pub use output::{FunctionOut, UnitOut};
-pub use results::converted;
-pub use shapes::{impossible, param_of, result_of};
 pub use walk::{Lowered, effect, initialise, lower, value};

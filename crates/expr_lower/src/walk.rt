@@ -1,26 +1,24 @@
-use crate::calls::{
-    argument, before_effects, by_name, by_pointer, call_for_effect, call_for_value, called_by_name,
-};
-use crate::output::FunctionOut;
-use crate::places::{
-    Kept, address_of, clear, decayed, element, element_at, is_part, keep, left_place, left_value,
-    member, member_of_value, named, part, part_type, read, saved, store, value_of, variable,
-};
-use crate::results::{
-    Computing, choose, compute, computes, constant_of, converted, decide, old_value, short_circuit,
-    short_circuit_effects, step, step_op, stepped, value_at,
-};
-use crate::shapes::{element_of, impossible, is_void};
+ghost use Rattle.std.specs.Prelude.{OnOk};
+ghost use Rattle.lower_parts.specs.Code.{Extends};
+
 use cil_base::{BinOp, Bytes, IntKind, LocalId, Memory, TypeId};
-use cil_nodes::{at, binary, boxed, cast, constant, push_argument, unary, whole};
+use cil_nodes::{at, binary, boxed, cast, constant, unary, whole};
 use cil_tree::{Callee, Exp, Lval, Stmt};
+use lower_parts::{
+    Computing, FunctionOut, Kept, address_of, argument, before_effects, by_name, by_pointer,
+    call_for_effect, call_for_value, called_by_name, choose, clear, compute, computes, constant_of,
+    converted, decayed, decide, element, element_at, element_of, impossible, is_part, is_void,
+    keep, left_place, left_value, member, member_of_value, named, old_value, part, part_type, read,
+    saved, short_circuit, short_circuit_effects, step, step_op, stepped, store, value_at, value_of,
+    variable,
+};
 use typed_tree::{InitStep, Path, StepForm, TypedExp, TypedInit, TypedNode};
 
 /// An expression that was lowered: what it does, and then its value, none where it has type void.
 #[derive(Drop)]
 pub struct Lowered {
     pub instrs: Vec<Stmt>,
-    pub value: Option<Box<Exp>>,
+    pub value: Option<Exp>,
 }
 
 /// Lowers an expression.
@@ -43,13 +41,16 @@ pub fn lower(e: &TypedExp, f: &mut FunctionOut) -> Result<Lowered, Memory> {
 
 /// The value of an expression, behind what is put at the end of the code. It stays the same until the next effect.
 #[cycle(lower)]
-pub fn value(f: &mut FunctionOut, e: &TypedExp, out: &mut Vec<Stmt>) -> Result<Box<Exp>, Memory> {
+#[tactic(auto, using(lower_parts::proofs::CodeLaws::extends_twice, lower_parts::proofs::CodeLaws::extends_none))]
+pub fn value(f: &mut FunctionOut, e: &TypedExp, out: &mut Vec<Stmt>) -> Result<Exp, Memory>
+    ensures grows { OnOk result (Extends out.old.items out.new.items) }
+{
     let t = f.type_of(e)?;
     match e.node() {
         TypedNode::Integer(n) => constant_of(f, t, *n),
         TypedNode::Load(p) => {
             let place = place(f, p, out)?;
-            read(f.alloc, place)
+            Ok(read(place))
         }
         TypedNode::Decay(p) => {
             let place = place(f, p, out)?;
@@ -57,26 +58,25 @@ pub fn value(f: &mut FunctionOut, e: &TypedExp, out: &mut Vec<Stmt>) -> Result<B
         }
         TypedNode::Address(p) => {
             let place = place(f, p, out)?;
-            address_of(f.alloc, place)
+            Ok(address_of(f.alloc, place))
         }
         TypedNode::Member(of, _, i) => {
             let x = value(f, of, out)?;
-            member_of_value(f.alloc, x, *i)
+            member_of_value(x, *i)
         }
         TypedNode::Convert(a) => {
-            let x = value(f, a, out)?;
             let from = f.type_of(a)?;
+            let x = value(f, a, out)?;
             converted(f.alloc, x, from, t)
         }
         TypedNode::Unary(op, a) => {
-            let x = value(f, a, out)?;
-            boxed(f.alloc, unary(*op, x))
+            let x = operand(f, a, out)?;
+            Ok(unary(*op, x))
         }
         TypedNode::Binary(op, a, b) => {
-            let x = value(f, a, out)?;
-            let x = left_value(f, a, x, b, out)?;
-            let y = value(f, b, out)?;
-            boxed(f.alloc, binary(*op, x, y))
+            let x = left(f, a, b, out)?;
+            let y = operand(f, b, out)?;
+            Ok(binary(*op, x, y))
         }
         TypedNode::Logical(..)
         | TypedNode::Conditional(..)
@@ -93,13 +93,37 @@ pub fn value(f: &mut FunctionOut, e: &TypedExp, out: &mut Vec<Stmt>) -> Result<B
     }
 }
 
-/// The value of an expression that is an effect itself, or has no value.
+/// The value of an operand, in its box.
 #[cycle(lower)]
-fn value_of_act(
+#[tactic(auto, using(lower_parts::proofs::CodeLaws::extends_twice, lower_parts::proofs::CodeLaws::extends_none))]
+fn operand(f: &mut FunctionOut, e: &TypedExp, out: &mut Vec<Stmt>) -> Result<Box<Exp>, Memory>
+    ensures grows { OnOk result (Extends out.old.items out.new.items) }
+{
+    let x = value(f, e, out)?;
+    boxed(f.alloc, x)
+}
+
+/// The value of a left operand, saved where the other operand has an effect.
+#[cycle(lower)]
+#[tactic(auto, using(lower_parts::proofs::CodeLaws::extends_twice, lower_parts::proofs::CodeLaws::extends_none))]
+fn left(
     f: &mut FunctionOut,
     e: &TypedExp,
+    later: &TypedExp,
     out: &mut Vec<Stmt>,
-) -> Result<Box<Exp>, Memory> {
+) -> Result<Box<Exp>, Memory>
+    ensures grows { OnOk result (Extends out.old.items out.new.items) }
+{
+    let x = value(f, e, out)?;
+    left_value(f, e, x, later, out)
+}
+
+/// The value of an expression that is an effect itself, or has no value.
+#[cycle(lower)]
+#[tactic(auto, using(lower_parts::proofs::CodeLaws::extends_twice, lower_parts::proofs::CodeLaws::extends_none))]
+fn value_of_act(f: &mut FunctionOut, e: &TypedExp, out: &mut Vec<Stmt>) -> Result<Exp, Memory>
+    ensures grows { OnOk result (Extends out.old.items out.new.items) }
+{
     let t = f.type_of(e)?;
     match e.node() {
         TypedNode::Logical(op, a, b) => {
@@ -107,7 +131,7 @@ fn value_of_act(
             let n = f.add_unnamed(t)?;
             let second = truth(f, b, n)?;
             short_circuit(f.alloc, n, *op, x, second, out)?;
-            value_of(f, n)
+            Ok(value_of(f.alloc, n))
         }
         TypedNode::Conditional(test, branches) => {
             let x = value(f, test, out)?;
@@ -115,7 +139,7 @@ fn value_of_act(
             let holds = branch(f, &branches.holds, n)?;
             let fails = branch(f, &branches.fails, n)?;
             choose(x, holds, fails, out)?;
-            value_of(f, n)
+            Ok(value_of(f.alloc, n))
         }
         TypedNode::Comma(a, b) => {
             effect(f, a, out)?;
@@ -124,13 +148,13 @@ fn value_of_act(
         TypedNode::Assign(p, v) => {
             let kept = kept_place(f, p, out)?;
             assigned(f, v, kept, out)?;
-            value_at(f, kept)
+            value_at(f.alloc, kept)
         }
         TypedNode::Compute(op, at, p, v) => {
             let kept = kept_place(f, p, out)?;
             let c = computes(f, *op, *at, p)?;
             computed(f, v, c, kept, out)?;
-            value_at(f, kept)
+            value_at(f.alloc, kept)
         }
         TypedNode::Step(form, at, p) => {
             let kept = kept_place(f, p, out)?;
@@ -141,7 +165,7 @@ fn value_of_act(
             let callee = called(f, callee, arguments, out)?;
             let arguments = values(f, arguments, out)?;
             let n = call_for_value(f, t, callee, arguments, out)?;
-            value_of(f, n)
+            Ok(value_of(f.alloc, n))
         }
         TypedNode::Integer(_)
         | TypedNode::Load(_)
@@ -161,7 +185,10 @@ fn value_of_act(
 
 /// The place of an effect, kept.
 #[cycle(lower)]
-fn kept_place(f: &mut FunctionOut, p: &TypedExp, out: &mut Vec<Stmt>) -> Result<Kept, Memory> {
+#[tactic(auto, using(lower_parts::proofs::CodeLaws::extends_twice, lower_parts::proofs::CodeLaws::extends_none))]
+fn kept_place(f: &mut FunctionOut, p: &TypedExp, out: &mut Vec<Stmt>) -> Result<Kept, Memory>
+    ensures grows { OnOk result (Extends out.old.items out.new.items) }
+{
     let it = place(f, p, out)?;
     let t = f.type_of(p)?;
     keep(f, it, t, out)
@@ -169,26 +196,32 @@ fn kept_place(f: &mut FunctionOut, p: &TypedExp, out: &mut Vec<Stmt>) -> Result<
 
 /// Computes the new value of a kept place from its old one and the right operand (C11 6.5.16.2p3).
 #[cycle(lower)]
+#[tactic(auto, using(lower_parts::proofs::CodeLaws::extends_twice, lower_parts::proofs::CodeLaws::extends_none))]
 fn computed(
     f: &mut FunctionOut,
     v: &TypedExp,
     c: Computing,
     kept: Kept,
     out: &mut Vec<Stmt>,
-) -> Result<(), Memory> {
-    let old = old_value(f, c, kept, v, out)?;
-    let y = value(f, v, out)?;
-    compute(f, c, kept, old, y, out)
+) -> Result<(), Memory>
+    ensures grows { OnOk result (Extends out.old.items out.new.items) }
+{
+    let x = old_value(f, c, kept, v, out)?;
+    let y = operand(f, v, out)?;
+    compute(f.alloc, c, kept, x, y, out)
 }
 
 /// Stores a value in a kept place.
 #[cycle(lower)]
+#[tactic(auto, using(lower_parts::proofs::CodeLaws::extends_twice, lower_parts::proofs::CodeLaws::extends_none))]
 fn assigned(
     f: &mut FunctionOut,
     v: &TypedExp,
     kept: Kept,
     out: &mut Vec<Stmt>,
-) -> Result<(), Memory> {
+) -> Result<(), Memory>
+    ensures grows { OnOk result (Extends out.old.items out.new.items) }
+{
     let x = value(f, v, out)?;
     let place = named(f.alloc, kept)?;
     store(place, x, out)
@@ -197,7 +230,7 @@ fn assigned(
 /// What the second operand of `&&` or `||` does, and stores its truth in a local.
 #[cycle(lower)]
 fn truth(f: &mut FunctionOut, e: &TypedExp, n: LocalId) -> Result<Vec<Stmt>, Memory> {
-    let mut out = Vec::new(f.alloc);
+    let mut out = Vec::with_capacity(f.alloc, 1)?;
     let x = value(f, e, &mut out)?;
     decide(f.alloc, n, x, &mut out)?;
     Ok(out)
@@ -206,7 +239,7 @@ fn truth(f: &mut FunctionOut, e: &TypedExp, n: LocalId) -> Result<Vec<Stmt>, Mem
 /// What an operand of a conditional does, and stores its value in a local.
 #[cycle(lower)]
 fn branch(f: &mut FunctionOut, e: &TypedExp, n: LocalId) -> Result<Vec<Stmt>, Memory> {
-    let mut out = Vec::new(f.alloc);
+    let mut out = Vec::with_capacity(f.alloc, 1)?;
     let x = value(f, e, &mut out)?;
     store(variable(f.alloc, n), x, &mut out)?;
     Ok(out)
@@ -215,19 +248,22 @@ fn branch(f: &mut FunctionOut, e: &TypedExp, n: LocalId) -> Result<Vec<Stmt>, Me
 /// What an expression does that is evaluated in one case alone, for its effects.
 #[cycle(lower)]
 fn effects(f: &mut FunctionOut, e: &TypedExp) -> Result<Vec<Stmt>, Memory> {
-    let mut out = Vec::new(f.alloc);
+    let mut out = Vec::with_capacity(f.alloc, 1)?;
     effect(f, e, &mut out)?;
     Ok(out)
 }
 
 /// What is called, by its name or through a pointer.
 #[cycle(lower)]
+#[tactic(auto, using(lower_parts::proofs::CodeLaws::extends_twice, lower_parts::proofs::CodeLaws::extends_none))]
 fn called(
     f: &mut FunctionOut,
     callee: &TypedExp,
     arguments: &[TypedExp],
     out: &mut Vec<Stmt>,
-) -> Result<Callee, Memory> {
+) -> Result<Callee, Memory>
+    ensures grows { OnOk result (Extends out.old.items out.new.items) }
+{
     match called_by_name(f, callee)? {
         Some(n) => Ok(by_name(n)),
         None => {
@@ -239,17 +275,20 @@ fn called(
 
 /// The values of arguments, from the left, each saved where one behind it has an effect.
 #[cycle(lower)]
+#[tactic(auto, using(lower_parts::proofs::CodeLaws::extends_twice, lower_parts::proofs::CodeLaws::extends_none))]
 fn values(
     f: &mut FunctionOut,
     arguments: &[TypedExp],
     out: &mut Vec<Stmt>,
-) -> Result<Vec<Exp>, Memory> {
+) -> Result<Vec<Exp>, Memory>
+    ensures grows { OnOk result (Extends out.old.items out.new.items) }
+{
     let count = before_effects(arguments);
-    let mut done = Vec::new(f.alloc);
+    let mut done = Vec::with_capacity(f.alloc, arguments.len())?;
     for i in 0..arguments.len() {
         let x = value(f, &arguments[i], out)?;
         let x = argument(f, &arguments[i], x, i < count, out)?;
-        push_argument(&mut done, x)?;
+        done.push(x)?;
     }
     Ok(done)
 }
@@ -257,7 +296,10 @@ fn values(
 /// The place of an lvalue or a function, behind what is put at the end of the code. A member of a value stands in an object of its own,
 /// which the value is put into.
 #[cycle(lower)]
-fn place(f: &mut FunctionOut, e: &TypedExp, out: &mut Vec<Stmt>) -> Result<Lval, Memory> {
+#[tactic(auto, using(lower_parts::proofs::CodeLaws::extends_twice, lower_parts::proofs::CodeLaws::extends_none))]
+fn place(f: &mut FunctionOut, e: &TypedExp, out: &mut Vec<Stmt>) -> Result<Lval, Memory>
+    ensures grows { OnOk result (Extends out.old.items out.new.items) }
+{
     let t = f.type_of(e)?;
     match e.node() {
         TypedNode::Local(n) => f.local_place(*n, t),
@@ -268,20 +310,19 @@ fn place(f: &mut FunctionOut, e: &TypedExp, out: &mut Vec<Stmt>) -> Result<Lval,
             Ok(variable(f.alloc, n))
         }
         TypedNode::Indirect(a) => {
-            let pointer = value(f, a, out)?;
+            let pointer = operand(f, a, out)?;
             Ok(whole(f.alloc, at(pointer)))
         }
         TypedNode::Subscript(a, b) => match a.node() {
             TypedNode::Decay(array) => {
                 let p = place(f, array, out)?;
                 let p = left_place(f, array, p, b, out)?;
-                let index = value(f, b, out)?;
+                let index = operand(f, b, out)?;
                 element(p, index)
             }
             _ => {
-                let x = value(f, a, out)?;
-                let x = left_value(f, a, x, b, out)?;
-                let y = value(f, b, out)?;
+                let x = left(f, a, b, out)?;
+                let y = operand(f, b, out)?;
                 element_at(f.alloc, x, y)
             }
         },
@@ -314,7 +355,10 @@ fn place(f: &mut FunctionOut, e: &TypedExp, out: &mut Vec<Stmt>) -> Result<Lval,
 
 /// Evaluates an expression for its effects (C11 6.8.3p2).
 #[cycle(lower)]
-pub fn effect(f: &mut FunctionOut, e: &TypedExp, out: &mut Vec<Stmt>) -> Result<(), Memory> {
+#[tactic(auto, using(lower_parts::proofs::CodeLaws::extends_twice, lower_parts::proofs::CodeLaws::extends_none))]
+pub fn effect(f: &mut FunctionOut, e: &TypedExp, out: &mut Vec<Stmt>) -> Result<(), Memory>
+    ensures grows { OnOk result (Extends out.old.items out.new.items) }
+{
     if !e.has_effect() {
         return Ok(());
     }
@@ -346,7 +390,10 @@ pub fn effect(f: &mut FunctionOut, e: &TypedExp, out: &mut Vec<Stmt>) -> Result<
 
 /// Does what an expression does that is an effect itself; its value is dropped.
 #[cycle(lower)]
-fn act(f: &mut FunctionOut, e: &TypedExp, out: &mut Vec<Stmt>) -> Result<(), Memory> {
+#[tactic(auto, using(lower_parts::proofs::CodeLaws::extends_twice, lower_parts::proofs::CodeLaws::extends_none))]
+fn act(f: &mut FunctionOut, e: &TypedExp, out: &mut Vec<Stmt>) -> Result<(), Memory>
+    ensures grows { OnOk result (Extends out.old.items out.new.items) }
+{
     match e.node() {
         TypedNode::Logical(op, a, b) => {
             let x = value(f, a, out)?;
@@ -398,13 +445,16 @@ fn act(f: &mut FunctionOut, e: &TypedExp, out: &mut Vec<Stmt>) -> Result<(), Mem
 }
 
 /// Stores the bytes of a string in the first elements of an array.
+#[tactic(auto, using(lower_parts::proofs::CodeLaws::extends_twice, lower_parts::proofs::CodeLaws::extends_none))]
 fn store_bytes(
     f: &FunctionOut,
     n: LocalId,
     path: &Path,
     bytes: &Bytes,
     out: &mut Vec<Stmt>,
-) -> Result<(), Memory> {
+) -> Result<(), Memory>
+    ensures grows { OnOk result (Extends out.old.items out.new.items) }
+{
     let array = part_type(f, n, path)?;
     let Some(t) = element_of(&f.unit.graph, array) else {
         return Err(impossible());
@@ -415,20 +465,22 @@ fn store_bytes(
         let place = part(f.alloc, n, path.as_slice())?;
         let place = element(place, index)?;
         let x = boxed(f.alloc, constant(IntKind::Int, bytes[i] as u64))?;
-        let x = boxed(f.alloc, cast(t, x))?;
-        store(place, x, out)?;
+        store(place, cast(t, x), out)?;
     }
     Ok(())
 }
 
 /// Initialises a local (C11 6.7.9), in the order of the text.
 #[cycle(lower)]
+#[tactic(auto, using(lower_parts::proofs::CodeLaws::extends_twice, lower_parts::proofs::CodeLaws::extends_none))]
 pub fn initialise(
     f: &mut FunctionOut,
     init: &TypedInit,
     n: LocalId,
     out: &mut Vec<Stmt>,
-) -> Result<(), Memory> {
+) -> Result<(), Memory>
+    ensures grows { OnOk result (Extends out.old.items out.new.items) }
+{
     for step in &init.steps {
         match step {
             InitStep::Zero(path) => clear(f.alloc, n, path.as_slice(), out)?,

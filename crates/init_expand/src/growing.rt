@@ -1,4 +1,4 @@
-ghost use Rattle.std.specs.Prelude.{◌≡◌, false, [], OnOk};
+ghost use Rattle.std.specs.Prelude.{◌≡◌, false, [], IfOk, OnOk};
 ghost use Rattle.type_graph.specs.Shapes.{shape};
 ghost use Rattle.init_expand.specs.Images.{is_zero, HasNoZero, AreScalars};
 ghost use Rattle.init_expand.specs.Spots.{RisesTo};
@@ -32,15 +32,15 @@ pub(crate) struct Growing {
 }
 
 impl Growing {
-    /// No scalars.
-    pub(crate) fn new(alloc: Global) -> Self
-        ensures items { result.items.items ≡ [] }
-        ensures least { result.least ≡ 0 }
+    /// No scalars, with room for so many.
+    pub(crate) fn with_room(alloc: Global, count: usize) -> Result<Self, Memory>
+        ensures items { IfOk result (λ image. image.items.items ≡ []) }
+        ensures least { IfOk result (λ image. image.least ≡ 0) }
     {
-        Growing {
-            items: Vec::new(alloc),
+        Ok(Growing {
+            items: Vec::with_capacity(alloc, count)?,
             least: 0,
-        }
+        })
     }
 
     /// Whether a part that begins at an offset stands behind all scalars.

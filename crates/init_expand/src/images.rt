@@ -153,13 +153,26 @@ fn numbered(numbers: &[Option<EntityId>], value: Constant) -> Result<Constant, M
     }
 }
 
-/// The steps of a path.
-fn path_of(alloc: Global, path: &Path) -> Result<Vec<Step>, Memory> {
-    let mut steps = Vec::new(alloc);
-    for step in path.as_slice() {
+/// The steps of a path, with room for one more.
+fn path_of(alloc: Global, path: &[typed_tree::Step]) -> Result<Vec<Step>, Memory> {
+    let mut steps = Vec::with_capacity(alloc, path.len().saturating_add(1))?;
+    for step in path {
         steps.push(plain_step(*step))?;
     }
     Ok(steps)
+}
+
+/// How many scalars steps give values at most.
+fn most_scalars(steps: &[InitStep]) -> usize {
+    let mut most = 0usize;
+    for step in steps {
+        most = most.saturating_add(match step {
+            InitStep::Zero(_) => 0,
+            InitStep::Bytes(_, bytes) => bytes.as_slice().len(),
+            InitStep::Scalar(..) | InitStep::Constant(..) | InitStep::Aggregate(..) => 1,
+        });
+    }
+    most
 }
 
 /// The path of the part that a step initialises.
@@ -179,7 +192,7 @@ fn part(steps: &[InitStep], number: usize) -> Result<&Path, Memory> {
 /// The path of a scalar that is given a value.
 fn scalar_path(alloc: Global, steps: &[InitStep], given: Given) -> Result<Vec<Step>, Memory> {
     let part = part(steps, given.step)?;
-    let mut path = path_of(alloc, part)?;
+    let mut path = path_of(alloc, part.as_slice())?;
     if let Some(i) = given.element {
         path.push(Step::Index(i))?;
     }
@@ -228,7 +241,7 @@ fn items(
     ensures rising { IfOk result (λ found. IsRising types.now (shape types.now.nodes ty.0) found.items) }
     ensures scalars { IfOk result (λ found. AreScalars types.now (shape types.now.nodes ty.0) found.items) }
 {
-    let mut image = Growing::new(alloc);
+    let mut image = Growing::with_room(alloc, kept.len())?;
     for placed in kept {
         if !add_item(types, ty, s, placed.given, &mut image)? {
             return Err(impossible());
@@ -368,7 +381,7 @@ fn items_in_order(
     ensures rising { IfOk result (λ o. IfSome o (λ found. IsRising types.now (shape types.now.nodes ty.0) found.items)) }
     ensures scalars { IfOk result (λ o. IfSome o (λ found. AreScalars types.now (shape types.now.nodes ty.0) found.items)) }
 {
-    let mut image = Growing::new(alloc);
+    let mut image = Growing::with_room(alloc, most_scalars(s.all))?;
     for i in 0..s.all.len() {
         if !add_step(types, ty, s, i, &mut image)? {
             return Ok(None);

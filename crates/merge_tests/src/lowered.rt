@@ -2,8 +2,9 @@
 
 use cil_base::{Abi, Bases, BinOp, IntKind, Memory, NameId};
 use cil_tree::{CilUnit, Exp};
-use expr_lower::{FunctionOut, Lowered, UnitOut, lower};
+use expr_lower::{Lowered, lower};
 use link_names::Fronted;
+use lower_parts::{FunctionOut, UnitOut};
 use std::alloc::Global;
 use std::process::Abort;
 use std::test::Fail;

@@ -2,7 +2,7 @@ use crate::labels::Labels;
 use crate::statements::{Frame, statements};
 use cil_base::{Memory, NameId, TypeId};
 use cil_tree::Body;
-use expr_lower::{FunctionOut, impossible, param_of, result_of};
+use lower_parts::{FunctionOut, impossible, param_of, result_of};
 use std::alloc::Global;
 use typed_tree::{TypedFunction, TypedLiteral, TypedLocal};
 
@@ -49,7 +49,7 @@ fn begin(f: &mut FunctionOut, d: &TypedFunction, t: TypeId) -> Result<Vec<NameId
 
 /// The names of parameters.
 fn names_of(alloc: Global, params: &[TypedLocal]) -> Result<Vec<NameId>, Memory> {
-    let mut names = Vec::new(alloc);
+    let mut names = Vec::with_capacity(alloc, params.len())?;
     for param in params {
         names.push(param.name)?;
     }
@@ -65,7 +65,7 @@ pub fn function(f: &mut FunctionOut, d: &TypedFunction, t: TypeId) -> Result<Bod
     let alloc = f.alloc();
     let labels = Labels::of(alloc, &d.body, &d.labels, f.unit.bases.label)?;
     let mut frame = Frame { labels, ret };
-    let mut stmts = Vec::new(alloc);
+    let mut stmts = Vec::with_capacity(alloc, d.body.len())?;
     statements(f, &mut frame, &d.body, None, &mut stmts)?;
     Ok(Body {
         params,

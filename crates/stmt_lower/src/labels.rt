@@ -1,5 +1,5 @@
 use cil_base::{LabelId, Memory, NameId};
-use expr_lower::impossible;
+use lower_parts::impossible;
 use std::alloc::Global;
 use typed_tree::TypedStmt;
 

@@ -1,8 +1,8 @@
 use crate::types::impossible;
 use cil_base::{EntityId, Memory, TypeId};
 use cil_tree::{GlobalDecl, GlobalDef};
-use expr_lower::FunctionOut;
 use init_expand::image;
+use lower_parts::FunctionOut;
 use std::alloc::Global;
 use stmt_lower::function;
 use typed_tree::{Definition, Entity, EntityKind, Ordinary};
@@ -14,7 +14,7 @@ pub(crate) fn printed_types(
     types: &[TypeId],
     entities: &[Entity],
 ) -> Result<Vec<TypeId>, Memory> {
-    let mut printed = Vec::new(alloc);
+    let mut printed = Vec::with_capacity(alloc, entities.len())?;
     for e in entities {
         match types.get(e.ty.0 as usize) {
             Some(t) => printed.push(*t)?,
@@ -80,7 +80,7 @@ pub(crate) fn globals(
     entities: &[Entity],
     ordered: &[EntityId],
 ) -> Result<Vec<GlobalDecl>, Memory> {
-    let mut globals = Vec::new(f.alloc());
+    let mut globals = Vec::with_capacity(f.alloc(), ordered.len())?;
     for n in ordered {
         globals.push(global(f, types, entities, *n)?)?;
     }

@@ -41,11 +41,25 @@ fn add_part(
     ordered: &mut Vec<EntityId>,
 ) -> Result<(), Memory> {
     let mut found = found_in(alloc, entities, part)?;
-    found.sort_by_key(|p| p.token)?;
+    if !are_in_order(&found) {
+        found.sort_by_key(|p| p.token)?;
+    }
     for p in &found {
         ordered.push(EntityId(p.number))?;
     }
     Ok(())
+}
+
+/// Whether each stands behind those before it, as where all have their numbers by their first declarations.
+fn are_in_order(found: &[Positioned]) -> bool {
+    let mut last = 0;
+    for p in found {
+        if p.token < last {
+            return false;
+        }
+        last = p.token;
+    }
+    true
 }
 
 /// What stands in a part of the list.
@@ -67,7 +81,7 @@ fn found_in(alloc: Global, entities: &[Entity], part: Part) -> Result<Vec<Positi
 
 /// The objects and functions of a unit in the order of the program's globals, by their numbers in the unit.
 pub(crate) fn ordered(alloc: Global, entities: &[Entity]) -> Result<Vec<EntityId>, Memory> {
-    let mut ordered = Vec::new(alloc);
+    let mut ordered = Vec::with_capacity(alloc, entities.len())?;
     add_part(alloc, entities, Part::Linked, &mut ordered)?;
     add_part(alloc, entities, Part::StaticLocals, &mut ordered)?;
     add_part(alloc, entities, Part::Literals, &mut ordered)?;
@@ -76,7 +90,7 @@ pub(crate) fn ordered(alloc: Global, entities: &[Entity]) -> Result<Vec<EntityId
 
 /// A table without places for so many objects and functions.
 fn no_numbers(alloc: Global, count: usize) -> Result<Vec<Option<EntityId>>, Memory> {
-    let mut numbers = Vec::new(alloc);
+    let mut numbers = Vec::with_capacity(alloc, count)?;
     for _i in 0..count {
         numbers.push(None)?;
     }

@@ -40,7 +40,7 @@ fn plain_member(types: &[TypeId], m: &Member) -> Result<Member, Memory> {
 
 /// Members whose types have no qualifiers.
 fn plain_members(alloc: Global, types: &[TypeId], members: &[Member]) -> Result<Members, Memory> {
-    let mut plain = Vec::new(alloc);
+    let mut plain = Vec::with_capacity(alloc, members.len())?;
     for m in members {
         plain.push(plain_member(types, m)?)?;
     }

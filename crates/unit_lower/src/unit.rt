@@ -7,8 +7,8 @@ use crate::sites::sites;
 use crate::types::plain_types;
 use cil_base::{Bases, Memory};
 use cil_tree::CilUnit;
-use expr_lower::{FunctionOut, UnitOut};
 use link_names::Fronted;
+use lower_parts::{FunctionOut, UnitOut};
 use std::alloc::Global;
 use typed_tree::TypedUnit;
 

@@ -30,7 +30,7 @@ impl UnitOut {
     }
 
     /// The place among the program's globals of an object or function of the typed unit.
-    pub(crate) fn number(&self, n: EntityId) -> Result<EntityId, Memory> {
+    pub fn number(&self, n: EntityId) -> Result<EntityId, Memory> {
         match self.numbers.get(n.0 as usize) {
             Some(Some(number)) => Ok(*number),
             Some(None) | None => Err(impossible()),
@@ -51,7 +51,7 @@ impl UnitOut {
 #[derive(Drop)]
 pub struct FunctionOut {
     pub unit: UnitOut,
-    pub(crate) alloc: Global,
+    pub alloc: Global,
     locals: Vec<Local>,
     /// How many parameters and declared objects there are.
     declared: u32,
@@ -104,7 +104,7 @@ impl FunctionOut {
     }
 
     /// The local that a compound literal is.
-    pub(crate) fn literal(&self, n: u32) -> Result<LocalId, Memory> {
+    pub fn literal(&self, n: u32) -> Result<LocalId, Memory> {
         let number = self.declared as u64 + n as u64;
         if number >= self.locals.len() as u64 || number > u32::MAX as u64 {
             return Err(impossible());
@@ -113,7 +113,7 @@ impl FunctionOut {
     }
 
     /// The type of a local, with which it is printed.
-    pub(crate) fn local_type(&self, n: LocalId) -> Result<TypeId, Memory> {
+    pub fn local_type(&self, n: LocalId) -> Result<TypeId, Memory> {
         match self.locals.get(n.0 as usize) {
             Some(local) => Ok(local.ty),
             None => Err(impossible()),
@@ -139,7 +139,7 @@ impl FunctionOut {
     }
 
     /// The place of a parameter or a declared object, at the type that it has in an expression.
-    pub(crate) fn local_place(&mut self, n: LocalId, t: TypeId) -> Result<Lval, Memory> {
+    pub fn local_place(&mut self, n: LocalId, t: TypeId) -> Result<Lval, Memory> {
         if self.local_type(n)? == t {
             Ok(whole(self.alloc, Host::Var(n)))
         } else {
@@ -148,7 +148,7 @@ impl FunctionOut {
     }
 
     /// The place of an object with static storage duration, or a function, at the type that it has in an expression.
-    pub(crate) fn global_place(&mut self, n: EntityId, t: TypeId) -> Result<Lval, Memory> {
+    pub fn global_place(&mut self, n: EntityId, t: TypeId) -> Result<Lval, Memory> {
         let host = Host::Global(self.unit.number(n)?);
         if self.unit.printed(n)? == t {
             Ok(whole(self.alloc, host))

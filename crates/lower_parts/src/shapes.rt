@@ -12,7 +12,7 @@ fn node_of(g: &TypeGraph, t: TypeId) -> Option<&Node> {
 }
 
 /// The type of pointers to a type (C11 6.2.5p20).
-pub(crate) fn pointer_to(g: &mut TypeGraph, t: TypeId) -> Result<TypeId, Memory> {
+pub fn pointer_to(g: &mut TypeGraph, t: TypeId) -> Result<TypeId, Memory> {
     if t.0 >= g.len() {
         return Err(impossible());
     }
@@ -24,7 +24,7 @@ pub(crate) fn pointer_to(g: &mut TypeGraph, t: TypeId) -> Result<TypeId, Memory>
 }
 
 /// The kind of an integer type.
-pub(crate) fn kind_of(g: &TypeGraph, t: TypeId) -> Option<IntKind> {
+pub fn kind_of(g: &TypeGraph, t: TypeId) -> Option<IntKind> {
     match node_of(g, t)? {
         Node::Int(kind) => Some(*kind),
         Node::Void | Node::Ptr(_) | Node::Array(..) | Node::Func { .. } | Node::Agg(_) => None,
@@ -32,7 +32,7 @@ pub(crate) fn kind_of(g: &TypeGraph, t: TypeId) -> Option<IntKind> {
 }
 
 /// Whether a type is void, or is not there.
-pub(crate) fn is_void(g: &TypeGraph, t: TypeId) -> bool {
+pub fn is_void(g: &TypeGraph, t: TypeId) -> bool {
     match node_of(g, t) {
         None | Some(Node::Void) => true,
         Some(Node::Int(_) | Node::Ptr(_) | Node::Array(..) | Node::Func { .. } | Node::Agg(_)) => {
@@ -42,7 +42,7 @@ pub(crate) fn is_void(g: &TypeGraph, t: TypeId) -> bool {
 }
 
 /// Whether a type is a function.
-pub(crate) fn is_function(g: &TypeGraph, t: TypeId) -> bool {
+pub fn is_function(g: &TypeGraph, t: TypeId) -> bool {
     match node_of(g, t) {
         Some(Node::Func { .. }) => true,
         None | Some(Node::Void | Node::Int(_) | Node::Ptr(_) | Node::Array(..) | Node::Agg(_)) => {
@@ -52,7 +52,7 @@ pub(crate) fn is_function(g: &TypeGraph, t: TypeId) -> bool {
 }
 
 /// The type of an array's elements.
-pub(crate) fn element_of(g: &TypeGraph, t: TypeId) -> Option<TypeId> {
+pub fn element_of(g: &TypeGraph, t: TypeId) -> Option<TypeId> {
     match node_of(g, t)? {
         Node::Array(element, _) => Some(element.of),
         Node::Void | Node::Int(_) | Node::Ptr(_) | Node::Func { .. } | Node::Agg(_) => None,
@@ -71,7 +71,7 @@ fn member_in(g: &TypeGraph, a: AggId, i: u32) -> Option<TypeId> {
 }
 
 /// The type of a member of a struct or union type.
-pub(crate) fn member_of(g: &TypeGraph, t: TypeId, i: u32) -> Option<TypeId> {
+pub fn member_of(g: &TypeGraph, t: TypeId, i: u32) -> Option<TypeId> {
     match node_of(g, t)? {
         Node::Agg(a) => member_in(g, *a, i),
         Node::Void | Node::Int(_) | Node::Ptr(_) | Node::Array(..) | Node::Func { .. } => None,

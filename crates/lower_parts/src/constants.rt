@@ -8,33 +8,33 @@ use std::alloc::Global;
 const MOST: i128 = 0xffff_ffff_ffff_ffff;
 
 /// A constant of a kind that is int or wider, from a number that is not negative.
-pub(crate) fn natural(alloc: Global, kind: IntKind, n: i128) -> Result<Box<Exp>, Memory> {
+pub(crate) fn natural(kind: IntKind, n: i128) -> Result<Exp, Memory> {
     if n < 0 || n > MOST {
         return Err(impossible());
     }
-    boxed(alloc, constant(kind, n as u64))
+    Ok(constant(kind, n as u64))
 }
 
 /// A constant with a minus.
-fn negated(alloc: Global, kind: IntKind, n: i128) -> Result<Box<Exp>, Memory> {
-    let positive = natural(alloc, kind, n)?;
-    boxed(alloc, unary(UnOp::Neg, positive))
+fn negated(alloc: Global, kind: IntKind, n: i128) -> Result<Exp, Memory> {
+    let positive = boxed(alloc, natural(kind, n)?)?;
+    Ok(unary(UnOp::Neg, positive))
 }
 
 /// The least value of a signed kind, whose positive counterpart the kind lacks.
-fn least(alloc: Global, kind: IntKind) -> Result<Box<Exp>, Memory> {
-    let most = negated(alloc, kind, kind.greatest())?;
-    let one = natural(alloc, kind, 1)?;
-    boxed(alloc, binary(BinOp::Sub, most, one))
+fn least(alloc: Global, kind: IntKind) -> Result<Exp, Memory> {
+    let most = boxed(alloc, negated(alloc, kind, kind.greatest())?)?;
+    let one = boxed(alloc, natural(kind, 1)?)?;
+    Ok(binary(BinOp::Sub, most, one))
 }
 
 /// A value of a kind that is int or wider: constants themselves are not negative (C11 6.4.4.1).
-fn number(alloc: Global, kind: IntKind, n: i128) -> Result<Box<Exp>, Memory> {
+fn number(alloc: Global, kind: IntKind, n: i128) -> Result<Exp, Memory> {
     if n < 0 - MOST || !kind.fits(n) {
         return Err(impossible());
     }
     if n >= 0 {
-        natural(alloc, kind, n)
+        natural(kind, n)
     } else if n == kind.least() {
         least(alloc, kind)
     } else {
@@ -43,17 +43,12 @@ fn number(alloc: Global, kind: IntKind, n: i128) -> Result<Box<Exp>, Memory> {
 }
 
 /// A value of an integer type: one of a type narrower than int is an int that is cast.
-pub(crate) fn integer(
-    alloc: Global,
-    kind: IntKind,
-    t: TypeId,
-    n: i128,
-) -> Result<Box<Exp>, Memory> {
+pub(crate) fn integer(alloc: Global, kind: IntKind, t: TypeId, n: i128) -> Result<Exp, Memory> {
     let wide = kind.promoted();
     let value = number(alloc, wide, n)?;
     if wide == kind {
         Ok(value)
     } else {
-        boxed(alloc, cast(t, value))
+        Ok(cast(t, boxed(alloc, value)?))
     }
 }
