@@ -1,1 +1,7 @@
 pub mod NamingLaws
+pub mod KeptLaws
+pub mod FilingLaws
+pub mod LocalLaws
+pub mod EachLaws
+pub mod BodyLaws
+pub mod UnitLaws

@@ -1,1 +1,8 @@
 pub mod Naming
+pub mod Giving
+pub mod Files
+pub mod Filing
+pub mod Within
+pub mod Local
+pub mod Renamed
+pub mod Unit

@@ -1,5 +1,8 @@
-ghost use Rattle.std.specs.Prelude.{◌≡◌, ℕ, false, OnOk, IfOk};
-ghost use Rattle.static_rename.specs.Naming.{is_taken, with_name, start_of, Stays, IsSuffixed, IsLeast, IsGiven};
+ghost use Rattle.std.specs.Prelude.{◌≡◌, ◌+◌, [], OnOk, IfOk};
+ghost use Rattle.indexmap.specs.IndexMap.{insert_entry};
+ghost use Rattle.static_rename.specs.declared.fresh.Wish.TheVariants.{Made};
+ghost use Rattle.static_rename.specs.Naming.{same_name, is_taken, with_name, with_names, wish_of, Stays, IsSuffixed};
+ghost use Rattle.static_rename.specs.Giving.{start_of, IsLeastFrom, IsReady, Gives, GivesAll};
 
 use cil_base::{Memory, NameId, NamePool};
 use indexmap::{IndexMap, IndexSet};
@@ -34,7 +37,7 @@ fn suffixed(
 /// The names that are taken in a name space (C11 6.2.3). For a base it is remembered up to which number all its suffixed names are.
 #[derive(Drop)]
 pub(crate) struct Fresh {
-    alloc: Global,
+    pub(crate) alloc: Global,
     taken: IndexSet<NameId>,
     next: IndexMap<NameId, u32>,
 }
@@ -50,7 +53,9 @@ pub(crate) enum Wish {
 
 impl Wish {
     /// The wish of a thing that has a name. A name that is the base of made ones is made.
-    pub(crate) fn of(name: NameId, base: NameId) -> Wish {
+    pub(crate) fn of(name: NameId, base: NameId) -> Wish
+        ensures { result ≡ wish_of base name }
+    {
         if name == base {
             return Wish::Made(base);
         }
@@ -60,7 +65,10 @@ impl Wish {
 
 impl Fresh {
     /// No name is taken.
-    pub(crate) fn new(alloc: Global) -> Self {
+    pub(crate) fn new(alloc: Global) -> Self
+        ensures taken { result.taken.keys ≡ [] }
+        ensures next { result.next.entries ≡ [] }
+    {
         Fresh {
             alloc,
             taken: IndexSet::new(alloc),
@@ -77,14 +85,26 @@ impl Fresh {
 
     /// Takes a name.
     pub(crate) fn take(&mut self, name: NameId) -> Result<(), Memory>
-        ensures { OnOk result (self.new.taken.keys ≡ with_name self.old.taken.keys name) }
+        ensures taken { OnOk result (self.new.taken.keys ≡ with_name self.old.taken.keys name) }
+        ensures next { OnOk result (self.new.next.entries ≡ self.old.next.entries) }
     {
         self.taken.insert(name)?;
         Ok(())
     }
 
+    /// Takes names.
+    pub(crate) fn take_all(&mut self, all: &[NameId]) -> Result<(), Memory>
+        ensures taken { OnOk result (self.new.taken.keys ≡ with_names self.old.taken.keys all.now) }
+        ensures next { OnOk result (self.new.next.entries ≡ self.old.next.entries) }
+    {
+        for i in 0..all.len() {
+            self.take(all[i])?;
+        }
+        Ok(())
+    }
+
     /// The number from which a base's suffixed names may be new.
-    fn start(&self, base: NameId) -> u32
+    pub(crate) fn start(&self, base: NameId) -> u32
         ensures { result ≡ start_of self.now.next.entries base }
     {
         match self.next.get(&base) {
@@ -94,13 +114,14 @@ impl Fresh {
     }
 
     /// The base with the least number from one on that is not taken, and that number.
-    fn free_from(
+    pub(crate) fn free_from(
         &self,
         names: &mut NamePool,
         base: NameId,
         from: u32,
     ) -> Result<(NameId, u32), Memory>
-        ensures { IfOk result (λ r. IsLeast self.now.taken.keys names.new base from r.0 r.1) }
+        ensures stays { OnOk result (Stays names.old names.new) }
+        ensures least { IfOk result (λ r. IsLeastFrom self.now.taken.keys names.new base from r.0 r.1) }
     {
         for number in from..u32::MAX {
             let name = suffixed(self.alloc, names, base, number)?;
@@ -112,8 +133,14 @@ impl Fresh {
     }
 
     /// Takes the base with a number.
-    fn take_suffixed(&mut self, base: NameId, name: NameId, number: u32) -> Result<(), Memory>
-        ensures { OnOk result (self.new.taken.keys ≡ with_name self.old.taken.keys name) }
+    pub(crate) fn take_suffixed(
+        &mut self,
+        base: NameId,
+        name: NameId,
+        number: u32,
+    ) -> Result<(), Memory>
+        ensures taken { OnOk result (self.new.taken.keys ≡ with_name self.old.taken.keys name) }
+        ensures next { OnOk result (self.new.next.entries ≡ insert_entry same_name self.old.next.entries base (number + 1)) }
     {
         let Some(after) = number.checked_add(1) else {
             return Err(impossible());
@@ -123,9 +150,10 @@ impl Fresh {
     }
 
     /// Takes the base with the least number that is new.
+    #[tactic(auto, using(crate::proofs::NamingLaws::made_given))]
     fn make(&mut self, names: &mut NamePool, base: NameId) -> Result<NameId, Memory>
-        ensures least { IfOk result (λ n. (k : ℕ) × IsLeast self.old.taken.keys names.new base (start_of self.old.next.entries base) n k) }
-        ensures taken { IfOk result (λ n. self.new.taken.keys ≡ with_name self.old.taken.keys n) }
+        requires ready { IsReady self.old names.old }
+        ensures { IfOk result (Gives self.old.taken.keys self.new.taken.keys self.new.next.entries names.old names.new (Made base)) }
     {
         let from = self.start(base);
         let (name, number) = self.free_from(names, base, from)?;
@@ -134,11 +162,10 @@ impl Fresh {
     }
 
     /// The name that a thing gets, which is taken from now on.
-    #[tactic(auto, using(crate::proofs::NamingLaws::kept_given, crate::proofs::NamingLaws::least_given))]
+    #[tactic(auto, using(crate::proofs::NamingLaws::kept_given, crate::proofs::NamingLaws::again_given))]
     pub(crate) fn give(&mut self, names: &mut NamePool, wish: Wish) -> Result<NameId, Memory>
-        ensures given { IfOk result (IsGiven self.old.taken.keys self.old.next.entries names.new wish) }
-        ensures new { IfOk result (λ n. is_taken self.old.taken.keys n ≡ false) }
-        ensures taken { IfOk result (λ n. self.new.taken.keys ≡ with_name self.old.taken.keys n) }
+        requires ready { IsReady self.old names.old }
+        ensures { IfOk result (Gives self.old.taken.keys self.new.taken.keys self.new.next.entries names.old names.new wish) }
     {
         match wish {
             Wish::Made(base) => self.make(names, base),
@@ -151,90 +178,21 @@ impl Fresh {
             }
         }
     }
-}
 
-/// The names at file scope, once all are given, and what was found of suffixed names that are new to them.
-#[derive(Drop)]
-pub(crate) struct FileNames {
-    names: Fresh,
-    free: IndexMap<(NameId, u32), u32>,
-}
-
-impl FileNames {
-    /// These names.
-    pub(crate) fn new(alloc: Global, names: Fresh) -> Self {
-        FileNames {
-            names,
-            free: IndexMap::new(alloc),
-        }
-    }
-
-    /// The least number from one on with which a base is no name at file scope.
-    fn free_from(&mut self, names: &mut NamePool, base: NameId, from: u32) -> Result<u32, Memory> {
-        match self.free.get(&(base, from)) {
-            Some(number) => Ok(*number),
-            None => {
-                let (_name, number) = self.names.free_from(names, base, from)?;
-                self.free.insert((base, from), number)?;
-                Ok(number)
-            }
-        }
-    }
-}
-
-/// The names of a function's objects, which are none at file scope (own).
-#[derive(Drop)]
-pub(crate) struct FunctionNames {
-    given: Fresh,
-}
-
-impl FunctionNames {
-    /// No name is given.
-    pub(crate) fn new(alloc: Global) -> Self {
-        FunctionNames {
-            given: Fresh::new(alloc),
-        }
-    }
-
-    /// Takes the base with the least number that is new.
-    fn make(
+    /// The names that things get one after another.
+    #[tactic(auto, using(crate::proofs::NamingLaws::all_start, crate::proofs::NamingLaws::all_next))]
+    pub(crate) fn give_all(
         &mut self,
-        file: &mut FileNames,
         names: &mut NamePool,
-        base: NameId,
-    ) -> Result<NameId, Memory> {
-        let mut from = self.given.start(base);
-        for _step in 0..u32::MAX {
-            let number = file.free_from(names, base, from)?;
-            let name = suffixed(self.given.alloc, names, base, number)?;
-            if !self.given.has(name) {
-                self.given.take_suffixed(base, name, number)?;
-                return Ok(name);
-            }
-            let Some(after) = number.checked_add(1) else {
-                return Err(impossible());
-            };
-            from = after;
+        wishes: &[Wish],
+    ) -> Result<Vec<NameId>, Memory>
+        requires ready { IsReady self.old names.old }
+        ensures { IfOk result (λ r. GivesAll self.old.taken.keys self.new.taken.keys self.new.next.entries names.old names.new wishes.now r.items) }
+    {
+        let mut given = Vec::new(self.alloc);
+        for i in 0..wishes.len() {
+            given.push(self.give(names, wishes[i])?)?;
         }
-        Err(impossible())
-    }
-
-    /// The name that a parameter or object gets.
-    pub(crate) fn give(
-        &mut self,
-        file: &mut FileNames,
-        names: &mut NamePool,
-        wish: Wish,
-    ) -> Result<NameId, Memory> {
-        match wish {
-            Wish::Made(base) => self.make(file, names, base),
-            Wish::Asked(name) => {
-                if file.names.has(name) || self.given.has(name) {
-                    return self.make(file, names, name);
-                }
-                self.given.take(name)?;
-                Ok(name)
-            }
-        }
+        Ok(given)
     }
 }

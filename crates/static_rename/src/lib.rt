@@ -9,6 +9,9 @@
 mod bodies;
 mod files;
 mod fresh;
+mod kept;
+mod locals;
+mod numbers;
 mod renaming;
 mod types;
 

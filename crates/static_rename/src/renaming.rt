@@ -1,117 +1,77 @@
+ghost use Rattle.std.specs.Prelude.{◌≡◌, map, OnOk};
+ghost use Rattle.static_rename.specs.Naming.{Stays};
+ghost use Rattle.static_rename.specs.Local.{IsTable};
+ghost use Rattle.static_rename.specs.Renamed.{IsNamedUnit, AreRenamed};
+ghost use Rattle.static_rename.specs.Unit.{AreUnits};
+
 use crate::bodies::name_bodies;
-use crate::files::{name_static, name_unlinked, take_external, take_host_names, with_linkage};
-use crate::fresh::{FileNames, Fresh, impossible};
-use crate::types::{ClassNames, all_asked, name_enumerator, name_tags, rename_aggregates};
+use crate::files::{Filed, file_units, put_all_given};
+use crate::fresh::impossible;
+use crate::kept::kept_names;
+use crate::locals::FileNames;
+use crate::numbers::unit_number;
+use crate::types::{
+    ClassNames, all_asked, all_stand, name_tags, put_enumerators, rename_aggregates,
+};
 use cil_base::{Bases, Memory, NamePool, UnitNo};
-use cil_tree::GlobalDecl;
 use link_names::{Fronted, Links};
 use std::alloc::Global;
 use type_iso::Classes;
-use typed_tree::Ordinary;
 
-/// The number of a unit.
-fn unit_number(u: usize) -> Result<UnitNo, Memory> {
-    if u > 4294967295 {
-        return Err(impossible());
-    }
-    Ok(UnitNo(u as u32))
-}
-
-/// The names at file scope while they are given.
+/// The names of the classes of units, while they are put in.
 #[derive(Drop)]
-struct Naming<'a> {
+struct Tags<'a> {
     alloc: Global,
-    classes: &'a Classes,
     bases: Bases,
-    fresh: Fresh,
+    classes: &'a Classes,
     aggregates: Vec<ClassNames>,
 }
 
-impl Naming<'_> {
-    /// Gives an object or function with internal linkage, or an enumerator, its name.
-    fn name_ordinary(
-        &mut self,
-        names: &mut NamePool,
-        u: UnitNo,
-        globals: &mut Vec<GlobalDecl>,
-        o: Ordinary,
-    ) -> Result<(), Memory> {
-        match o {
-            Ordinary::Static(e) => name_static(&mut self.fresh, names, self.bases, globals, e),
-            Ordinary::Enumerator(a, i) => name_enumerator(
-                &mut self.fresh,
-                names,
-                self.classes,
-                &mut self.aggregates,
-                (u, a),
-                i,
-            ),
-        }
-    }
-
-    /// Gives what a unit has at file scope, and its other objects with static storage duration, their names.
-    fn name_unit(
-        &mut self,
-        names: &mut NamePool,
-        u: UnitNo,
-        globals: &mut Vec<GlobalDecl>,
-        ordinary: &[Ordinary],
-    ) -> Result<(), Memory> {
-        for o in ordinary {
-            self.name_ordinary(names, u, globals, *o)?;
-        }
-        let linked = with_linkage(self.alloc, ordinary)?;
-        name_unlinked(&mut self.fresh, names, self.bases, globals, &linked)
-    }
-}
-
-/// Gives what a unit has at file scope, and its other objects with static storage duration, their names.
-fn name_file(
-    naming: &mut Naming<'_>,
-    names: &mut NamePool,
-    u: UnitNo,
-    unit: &mut Fronted,
-) -> Result<(), Memory> {
-    naming.name_unit(names, u, &mut unit.cil.globals, &unit.ordinary)
-}
-
-/// Gives what all units have at file scope its names.
-fn name_files(
-    naming: &mut Naming<'_>,
-    names: &mut NamePool,
-    units: &mut Vec<Fronted>,
-) -> Result<(), Memory> {
-    for u in 0..units.len() {
-        let number = unit_number(u)?;
-        name_file(naming, names, number, &mut units[u])?;
-    }
-    Ok(())
-}
-
-/// Gives the aggregates of all units the names of their classes.
-fn name_types(
-    alloc: Global,
-    classes: &Classes,
-    aggregates: &[ClassNames],
-    units: &mut Vec<Fronted>,
-) -> Result<(), Memory> {
-    for u in 0..units.len() {
-        let number = unit_number(u)?;
-        rename_aggregates(alloc, classes, aggregates, number, &mut units[u].cil.graph)?;
-    }
-    Ok(())
-}
-
-/// Gives what the functions of all units declare its names.
-fn name_functions(
-    alloc: Global,
+/// Gives what a unit declares its names.
+#[tactic(auto, using(crate::proofs::UnitLaws::unit_named))]
+fn name_unit(
     file: &mut FileNames,
     names: &mut NamePool,
-    bases: Bases,
+    tags: &Tags<'_>,
+    u: UnitNo,
+    filed: &Filed,
+    unit: &mut Fronted,
+) -> Result<(), Memory>
+    requires table { IsTable file.old names.old }
+    ensures kept { OnOk result (file.new.names.taken.keys ≡ file.old.names.taken.keys) }
+    ensures stays { OnOk result (Stays names.old names.new) }
+    ensures table { OnOk result (IsTable file.new names.new) }
+    ensures named { OnOk result (IsNamedUnit file.old.names.taken.keys names.new tags.now.bases filed.now.things.items filed.now.names.items unit.old unit.new) }
+{
+    put_all_given(&mut unit.cil.globals, filed)?;
+    rename_aggregates(
+        tags.alloc,
+        tags.classes,
+        &tags.aggregates,
+        u,
+        &mut unit.cil.graph,
+    )?;
+    name_bodies(tags.alloc, file, names, tags.bases, &mut unit.cil.globals)
+}
+
+/// Gives what all units declare its names.
+#[tactic(auto, using(crate::proofs::EachLaws::none_yet, crate::proofs::UnitLaws::unit_next, crate::proofs::UnitLaws::units_of, crate::proofs::NamingLaws::stays_twice))]
+fn name_units(
+    file: &mut FileNames,
+    names: &mut NamePool,
+    tags: &Tags<'_>,
+    filed: &[Filed],
     units: &mut Vec<Fronted>,
-) -> Result<(), Memory> {
+) -> Result<(), Memory>
+    requires table { IsTable file.old names.old }
+    ensures stays { OnOk result (Stays names.old names.new) }
+    ensures named { OnOk result (AreUnits file.old.names.taken.keys names.new tags.now.bases filed.now units.old.items units.new.items) }
+{
+    if filed.len() != units.len() {
+        return Err(impossible());
+    }
     for u in 0..units.len() {
-        name_bodies(alloc, file, names, bases, &mut units[u].cil.globals)?;
+        name_unit(file, names, tags, unit_number(u)?, &filed[u], &mut units[u])?;
     }
     Ok(())
 }
@@ -131,28 +91,23 @@ pub fn rename(
     links: &Links,
     classes: &Classes,
     names: &mut NamePool,
-) -> Result<(), Memory> {
+) -> Result<(), Memory>
+    ensures { OnOk result (AreRenamed (map (λ l. l.name) links.now.names.items) names.new units.old.items units.new.items) }
+{
     let bases = names.bases()?;
-    let mut fresh = Fresh::new(alloc);
-    take_external(&mut fresh, links)?;
-    take_host_names(&mut fresh, names)?;
-    let aggregates = all_asked(alloc, units, classes, bases)?;
-    let mut naming = Naming {
+    let mut fresh = kept_names(alloc, links, names)?;
+    let stands = all_stand(alloc, classes, units)?;
+    let filed = file_units(&mut fresh, names, bases, &stands, units)?;
+    let mut aggregates = all_asked(alloc, units, classes, bases)?;
+    put_enumerators(classes, &mut aggregates, &filed)?;
+    name_tags(alloc, names, &mut aggregates)?;
+    let tags = Tags {
         alloc,
-        classes,
         bases,
-        fresh,
+        classes,
         aggregates,
     };
-    name_files(&mut naming, names, units)?;
-    let Naming {
-        fresh,
-        aggregates,
-        ..
-    } = naming;
-    let mut aggregates = aggregates;
-    name_tags(alloc, names, &mut aggregates)?;
-    name_types(alloc, classes, &aggregates, units)?;
     let mut file = FileNames::new(alloc, fresh);
-    name_functions(alloc, &mut file, names, bases, units)
+    name_units(&mut file, names, &tags, &filed, units)?;
+    Ok(())
 }

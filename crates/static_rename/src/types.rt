@@ -1,13 +1,18 @@
-ghost use Rattle.std.specs.Prelude.{◌≡◌};
+ghost use Rattle.std.specs.Prelude.{◌≡◌, OnOk};
 ghost use Rattle.type_graph.specs.Arena.{member_count};
+ghost use Rattle.static_rename.specs.Naming.{Stays};
+ghost use Rattle.static_rename.specs.Renamed.{AreRetagged};
+ghost use Rattle.static_rename.specs.Unit.{RetagsAt};
 
-use crate::files::{name_at, put_name};
+use crate::files::Filed;
 use crate::fresh::{Fresh, Wish, impossible};
+use crate::numbers::unit_number;
 use cil_base::{AggId, Bases, Memory, NameId, NamePool, UnitNo};
 use link_names::Fronted;
 use std::alloc::Global;
 use type_graph::{AggKind, Aggregate, TypeGraph};
 use type_iso::{ClassNo, Classes};
+use typed_tree::Ordinary;
 
 /// The names of a class of aggregates.
 #[derive(Drop)]
@@ -90,42 +95,126 @@ pub(crate) fn all_asked(
     Ok(all)
 }
 
-/// Gives an enumerator its name.
-fn name_in(
-    fresh: &mut Fresh,
-    names: &mut NamePool,
-    class: &mut ClassNames,
-    i: u32,
-) -> Result<(), Memory> {
-    let asked = name_at(&class.enumerators, i)?;
-    let name = fresh.give(names, Wish::Asked(asked))?;
-    put_name(&mut class.enumerators, i, name)
+/// Whether an aggregate stands for its class.
+fn stands(classes: &Classes, u: UnitNo, a: AggId) -> Result<bool, Memory> {
+    match classes.class_of(u, a) {
+        Some(class) => Ok(classes.representative(class) == Some((u, a))),
+        None => Err(impossible()),
+    }
 }
 
-/// Gives an enumerator its name where its enum stands for its class.
-pub(crate) fn name_enumerator(
-    fresh: &mut Fresh,
-    names: &mut NamePool,
+/// Which aggregates of a unit stand for their classes.
+fn stands_in(
+    alloc: Global,
+    classes: &Classes,
+    u: UnitNo,
+    g: &TypeGraph,
+) -> Result<Vec<bool>, Memory> {
+    let mut all = Vec::new(alloc);
+    for a in 0..g.agg_count() {
+        all.push(stands(classes, u, AggId(a))?)?;
+    }
+    Ok(all)
+}
+
+/// For each unit, which of its aggregates stand for their classes.
+pub(crate) fn all_stand(
+    alloc: Global,
+    classes: &Classes,
+    units: &[Fronted],
+) -> Result<Vec<Vec<bool>>, Memory> {
+    let mut all = Vec::new(alloc);
+    for u in 0..units.len() {
+        all.push(stands_in(alloc, classes, unit_number(u)?, &units[u].cil.graph)?)?;
+    }
+    Ok(all)
+}
+
+/// Puts a name into a list.
+fn put_name(all: &mut Vec<NameId>, i: u32, name: NameId) -> Result<(), Memory> {
+    if i as usize >= all.len() {
+        return Err(impossible());
+    }
+    all[i as usize] = name;
+    Ok(())
+}
+
+/// Gives an enumerator its name in its class.
+fn put_enumerator(
     classes: &Classes,
     all: &mut Vec<ClassNames>,
     at: (UnitNo, AggId),
     i: u32,
+    name: NameId,
 ) -> Result<(), Memory> {
     let Some(class) = classes.class_of(at.0, at.1) else {
         return Err(impossible());
     };
-    if classes.representative(class) != Some(at) {
-        return Ok(());
-    }
     if class.0 as usize >= all.len() {
         return Err(impossible());
     }
-    name_in(fresh, names, &mut all[class.0 as usize], i)
+    put_name(&mut all[class.0 as usize].enumerators, i, name)
 }
 
-/// Gives a class its tag.
-fn name_tag(fresh: &mut Fresh, names: &mut NamePool, class: &mut ClassNames) -> Result<(), Memory> {
-    class.tag = fresh.give(names, class.wish)?;
+/// Gives something its name in its class where it is an enumerator.
+fn put_ordinary(
+    classes: &Classes,
+    all: &mut Vec<ClassNames>,
+    u: UnitNo,
+    o: Ordinary,
+    name: NameId,
+) -> Result<(), Memory> {
+    match o {
+        Ordinary::Enumerator(a, i) => put_enumerator(classes, all, (u, a), i, name),
+        Ordinary::Static(..) => Ok(()),
+    }
+}
+
+/// Gives the enumerators of a unit their names in their classes.
+fn put_in(
+    classes: &Classes,
+    all: &mut Vec<ClassNames>,
+    u: UnitNo,
+    filed: &Filed,
+) -> Result<(), Memory> {
+    if filed.things.len() != filed.names.len() {
+        return Err(impossible());
+    }
+    for i in 0..filed.things.len() {
+        put_ordinary(classes, all, u, filed.things[i], filed.names[i])?;
+    }
+    Ok(())
+}
+
+/// Gives the enumerators of all units their names in their classes.
+pub(crate) fn put_enumerators(
+    classes: &Classes,
+    all: &mut Vec<ClassNames>,
+    filed: &[Filed],
+) -> Result<(), Memory> {
+    for u in 0..filed.len() {
+        put_in(classes, all, unit_number(u)?, &filed[u])?;
+    }
+    Ok(())
+}
+
+/// The tags that classes ask for, in their order.
+fn tag_wishes(alloc: Global, all: &[ClassNames]) -> Result<Vec<Wish>, Memory> {
+    let mut wishes = Vec::new(alloc);
+    for k in 0..all.len() {
+        wishes.push(all[k].wish)?;
+    }
+    Ok(wishes)
+}
+
+/// Gives classes their tags.
+fn put_tags(all: &mut Vec<ClassNames>, tags: &[NameId]) -> Result<(), Memory> {
+    if all.len() != tags.len() {
+        return Err(impossible());
+    }
+    for k in 0..all.len() {
+        all[k].tag = tags[k];
+    }
     Ok(())
 }
 
@@ -134,12 +223,13 @@ pub(crate) fn name_tags(
     alloc: Global,
     names: &mut NamePool,
     all: &mut Vec<ClassNames>,
-) -> Result<(), Memory> {
+) -> Result<(), Memory>
+    ensures stays { OnOk result (Stays names.old names.new) }
+{
+    let wishes = tag_wishes(alloc, all)?;
     let mut fresh = Fresh::new(alloc);
-    for k in 0..all.len() {
-        name_tag(&mut fresh, names, &mut all[k])?;
-    }
-    Ok(())
+    let tags = fresh.give_all(names, &wishes)?;
+    put_tags(all, &tags)
 }
 
 /// The names that the members of an aggregate get: those of a struct or union stay.
@@ -170,7 +260,9 @@ fn rename_aggregate(
     g: &mut TypeGraph,
     a: AggId,
     class: &ClassNames,
-) -> Result<(), Memory> {
+) -> Result<(), Memory>
+    ensures { OnOk result (RetagsAt a.0 g.old g.new) }
+{
     if a.0 >= g.agg_count() {
         return Err(impossible());
     }
@@ -182,22 +274,36 @@ fn rename_aggregate(
     Ok(())
 }
 
+/// The names of the class of an aggregate.
+fn class_in<'a>(
+    classes: &Classes,
+    all: &'a [ClassNames],
+    u: UnitNo,
+    a: AggId,
+) -> Result<&'a ClassNames, Memory> {
+    let Some(class) = classes.class_of(u, a) else {
+        return Err(impossible());
+    };
+    match all.get(class.0 as usize) {
+        Some(class) => Ok(class),
+        None => Err(impossible()),
+    }
+}
+
 /// Gives the aggregates of a unit the names of their classes.
+#[tactic(auto, using(crate::proofs::EachLaws::none_yet, crate::proofs::UnitLaws::retagged_next, crate::proofs::UnitLaws::retagged_of))]
 pub(crate) fn rename_aggregates(
     alloc: Global,
     classes: &Classes,
     all: &[ClassNames],
     u: UnitNo,
     g: &mut TypeGraph,
-) -> Result<(), Memory> {
+) -> Result<(), Memory>
+    ensures { OnOk result (AreRetagged g.old g.new) }
+{
     for a in 0..g.agg_count() {
-        let Some(class) = classes.class_of(u, AggId(a)) else {
-            return Err(impossible());
-        };
-        match all.get(class.0 as usize) {
-            Some(class) => rename_aggregate(alloc, g, AggId(a), class)?,
-            None => return Err(impossible()),
-        }
+        let class = class_in(classes, all, u, AggId(a))?;
+        rename_aggregate(alloc, g, AggId(a), class)?;
     }
     Ok(())
 }
