@@ -1,4 +1,4 @@
-use Rattle.std.proofs.Common.{arith}
+use Rattle.std.proofs.Common.{◌+◌, arith}
 use Rattle.lower_parts.proofs.CodeLaws.{last_moves}
 use Rattle.lower_parts.proofs.calls.before_effects.Goals as goal
 
