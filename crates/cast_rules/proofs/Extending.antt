@@ -1,5 +1,8 @@
 -- Device: what stays where types are added alone.
-use Rattle.std.proofs.Common.{◌≡◌, ℕ, ◌<◌, ◌≤◌, ◌+◌, List, length, length-append, refl, ap, ◌∙◌, arith}
+use Rattle.std.proofs.Common.{◌≡◌, ℕ, ◌<◌, ◌≤◌, ◌+◌, List, length, length-append, Option, Some, refl, ap, ◌∙◌, subst, arith}
+use Rattle.std.specs.Prelude.{IfSome}
+use Rattle.type_graph.specs.declared.nodes.QualType.{QualType}
+use Rattle.typed_tree.specs.declared.expressions.TypedExp.{TypedExp}
 use Rattle.type_graph.specs.declared.aggregates.Aggregate.{Aggregate}
 use Rattle.type_graph.specs.declared.nodes.Node.{Node}
 use Rattle.type_graph.specs.Arena.{Graph}
@@ -10,7 +13,7 @@ use Rattle.type_graph.proofs.ShapeLaws.{kept}
 use Rattle.unit_types.specs.Steps.{Makes}
 use Rattle.cast_rules.specs.declared.pairings.Pairing.{Pairing}
 use Rattle.cast_rules.specs.declared.pairings.Pairing.TheVariants as pairing
-use Rattle.cast_rules.specs.Given.{Extends, promoted_shape}
+use Rattle.cast_rules.specs.Given.{Extends, element_shape, promoted_shape}
 use Rattle.cast_rules.specs.Seen.{seen_pair, AreThere}
 use Rattle.cast_rules.specs.Values.{Pointers, PointerNumber, NumberPointer}
 
@@ -51,3 +54,8 @@ promotion_stays g h (PtrType quals s) e = refl
 promotion_stays g h (ArrayType quals s bound) e = refl
 promotion_stays g h (FuncType ret params proto variadic) e = refl
 promotion_stays g h (AggType a) e = ap (λ (aggs : List Aggregate). promoted_shape (record g { aggs = aggs }) (AggType a)) e.aggregates.0
+
+-- what has the type of the element has its shape as it was
+pub element_given : (g h : Graph) (p : Pairing) (ty : QualType) (v : TypedExp) → Extends g h → AreThere g.nodes p → Some (shape h.nodes ty.of.0) ≡ element_shape (seen_pair h.nodes p) → shape h.nodes v.ty.of.0 ≡ shape h.nodes ty.of.0
+    → IfSome (element_shape (seen_pair g.nodes p)) (λ s. shape h.nodes v.ty.of.0 ≡ s)
+element_given g h p ty v e there known is = subst (λ (o : Option Shape). IfSome o (λ s. shape h.nodes v.ty.of.0 ≡ s)) (known ∙ ap element_shape (pair_stays g h p e there)) is

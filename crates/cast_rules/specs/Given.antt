@@ -61,6 +61,14 @@ moved_shape (NumberPointer q t) = Some (PtrType q t)
 moved_shape (Pointers p s q t) = None
 moved_shape Others = None
 
+-- the element that a subscript designates (6.5.2.1p2)
+abbrev pub element_shape : Paired → Option Shape
+element_shape (Numbers left right) = None
+element_shape (PointerNumber p s) = Some s
+element_shape (NumberPointer q t) = Some t
+element_shape (Pointers p s q t) = None
+element_shape Others = None
+
 -- what is subtracted from a pointer: a number leaves it its own type (6.5.6p8), a pointer gives a ptrdiff_t, which is long (6.5.6p9, own)
 abbrev pub lessened_shape : Abi → Paired → Option Shape
 lessened_shape abi (Numbers left right) = None

@@ -1,13 +1,16 @@
 ghost use Rattle.std.specs.Prelude.{◌≡◌, None, List, IfOk, IfSome};
 ghost use Rattle.type_graph.specs.declared.nodes.Node.{Node};
+ghost use Rattle.std.specs.Option.{option_map};
+ghost use Rattle.type_graph.specs.declared.nodes.QualType.{QualType};
 ghost use Rattle.type_graph.specs.Shapes.{PtrType, shape};
 ghost use Rattle.typed_tree.specs.Places.{is_place};
 ghost use Rattle.typed_tree.specs.View.{typed_of};
 ghost use Rattle.cast_rules.specs.Exact.{Refuses};
 ghost use Rattle.cast_rules.specs.Rows.{address_row, indirect_row};
-ghost use Rattle.cast_rules.specs.Given.{IsOf, pointee_shape};
+ghost use Rattle.cast_rules.specs.Given.{IsOf, element_shape, pointee_shape};
 ghost use Rattle.cast_rules.specs.Pairs.{is_subscript, subscript_row};
-ghost use Rattle.cast_rules.specs.Seen.{seen_pair};
+ghost use Rattle.cast_rules.specs.Seen.{seen_pair, AreThere};
+ghost use Rattle.cast_rules.specs.Values.{pair_of};
 
 use crate::arithmetic::{adds_over_incomplete, indexed, is_one_unreadable};
 use crate::conversions::{Pair, both_values, value_of};
@@ -89,7 +92,9 @@ fn indirect_node(alloc: Global, e: TypedExp, t: &mut Types) -> Result<TypedExp, 
 }
 
 /// The pointer's type and the integer of a subscript, in either order.
-fn element(pairing: Pairing) -> Option<QualType> {
+fn element(pairing: Pairing) -> Option<QualType>
+    ensures { (nodes : List Node) → option_map (λ (q : QualType). shape nodes q.of.0) result ≡ element_shape (seen_pair nodes pairing) }
+{
     match pairing {
         Pairing::PointerNumber(p) => Some(p),
         Pairing::NumberPointer(q) => Some(q),
@@ -129,7 +134,8 @@ pub fn subscript(
     right: Operand,
     t: &mut Types,
 ) -> Result<TypedExp, RuleStop>
-    ensures { Refuses (subscript_row t.old left right) result }
+    ensures is { IfOk result (λ v. IfSome (element_shape (pair_of t.old left right)) (λ s. IsOf t.new s v)) }
+    ensures refused { Refuses (subscript_row t.old left right) result }
 {
     allowed(fault_subscript(&left, &right, t))?;
     let pairing = paired(&left, &right, t);
@@ -143,7 +149,9 @@ fn subscript_node(
     left: TypedExp,
     right: TypedExp,
     t: &mut Types,
-) -> Result<TypedExp, LayoutStop> {
+) -> Result<TypedExp, LayoutStop>
+    ensures { AreThere t.old.nodes pairing → IfOk result (λ v. IfSome (element_shape (seen_pair t.old.nodes pairing)) (λ s. IsOf t.new s v)) }
+{
     let Some(ty) = element(pairing) else {
         return Err(impossible());
     };
