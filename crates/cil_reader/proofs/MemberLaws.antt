@@ -1,5 +1,5 @@
 -- Device: steps of the reading of members.
-use Rattle.std.proofs.Common.{◌≡◌, ℕ, zero, suc, ◌<◌, ◌≤◌, Bool, true, false, cond, not, ◌&&◌, ◌||◌, ℤ, pos, ◌<ℤ◌, ◌≤ℤ◌, int_le, List, [], ◌∷◌, ◌++◌, map, length, drop, get_or, slice_get, slice_index_or, is_some, Option, Some, None, Result, Ok, Err, IsErr, IfErr, refl, sym, ap, ◌∙◌, arith, length-append, append_assoc, append-nil, subst, Vec}
+use Rattle.std.proofs.Common.{◌≡◌, ℕ, zero, suc, ◌<◌, ◌≤◌, Bool, true, false, cond, not, ◌&&◌, ◌||◌, ℤ, pos, ◌<ℤ◌, ◌≤ℤ◌, int_le, List, [], ◌∷◌, ◌++◌, map, length, get_or, slice_get, slice_index_or, is_some, Option, Some, None, Result, Ok, Err, IsErr, IfErr, refl, sym, ap, ◌∙◌, arith, length-append, append_assoc, append-nil, subst, Vec}
 use Rattle.std.proofs.lemmas.Int.{ints}
 use Rattle.std.proofs.lemmas.List.Folds.{list_all-append}
 use Rattle.std.specs.List.{list_all, list_any}
@@ -20,7 +20,7 @@ use Rattle.type_graph.specs.declared.nodes.Node.{Node}
 use Rattle.type_graph.specs.declared.nodes.Quals.{Quals}
 use Rattle.type_graph.specs.declared.nodes.Node.TheVariants.{Func}
 use Rattle.type_graph.specs.Shapes.{Shape, IntType, shape}
-use Rattle.type_graph.specs.Arena.{Graph, EachType, NamesBelow, is_struct, members_fit}
+use Rattle.type_graph.specs.Arena.{Graph, EachType, NamesBelow, members_fit}
 use Rattle.type_graph.specs.Growth.{Grows, with_agg}
 use Rattle.type_graph.proofs.GrowthLaws.{grows_none, grows_twice}
 use Rattle.type_graph.proofs.ShapeLaws.{kept}
@@ -43,23 +43,10 @@ use Rattle.cil_reader.specs.Settings.{EachNames, KnownIn, Setting, env_in}
 use Rattle.cil_reader.specs.Instructions.{is_end}
 use Rattle.cil_reader.specs.Fresh.{with_new}
 use Rattle.cil_reader.specs.Pools.{KeepsNames}
-use Rattle.cil_reader.specs.Members.{AreThere, stands_here, may_hold, may_complete, IsMember, member_in, members_in, is_plain, MembersKnown, type_number, FieldsKnown, is_comma, value_at, enumerator_with, member_with, with_member, enumerator_more, with_other, member_more, NextLine, line_of, next_line, members_behind, enumerators_from, enumerators_on, members_apart, members_from, members_on}
+use Rattle.cil_reader.specs.Members.{AreThere, may_hold, may_complete, IsMember, member_in, members_in, is_plain, MembersKnown, type_number, FieldsKnown, is_comma, value_at, enumerator_with, member_with, with_member, enumerator_more, with_other, member_more, NextLine, line_of, next_line, members_behind, enumerators_from, enumerators_on, members_apart, members_from, members_on}
 use Rattle.cil_reader.proofs.LayersLaws.{no_fewer, each_below}
 use Rattle.cil_reader.proofs.SettingsLaws.{known_kept}
 use Rattle.cil_reader.proofs.PoolLaws.{pool_same, pool_twice}
-
-pub member_at_place : (n : ℕ) (ms : List Member) (i : ℕ) (d : Member) → AreThere n ms → i < length ms → (get_or ms i d).ty.of.0 < n
-member_at_place n [] i d e h = absurd (omega arith)
-member_at_place n (m ∷ ms) zero d e h = e.0
-member_at_place n (m ∷ ms) (suc i) d e h = member_at_place n ms i d e.1 (omega arith)
-
--- members from one on fit where this one may stand and those behind it fit
-pub fit_from : (g : Graph) (kind : AggKind) (behind : Bool) (ms : List Member) (i : ℕ) (d : Member) → i < length ms →
-    members_fit g kind behind (drop i ms) ≡ stands_here g (is_struct kind) behind (drop (suc i) ms) (get_or ms i d).ty.of.0 && members_fit g kind true (drop (suc i) ms)
-fit_from g kind behind [] i d h = absurd (omega arith)
-fit_from g kind behind (m ∷ []) zero d h = refl
-fit_from g kind behind (m ∷ n ∷ ms) zero d h = refl
-fit_from g kind behind (m ∷ ms) (suc i) d h = fit_from g kind behind ms i d (omega arith)
 
 pub none_there : (n : ℕ) → AreThere n []
 none_there n = tt

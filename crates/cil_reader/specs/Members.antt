@@ -1,5 +1,5 @@
 -- Device: members of aggregates while they are read, as the graph and the pool of names have them, and their readings by the code's steps.
-use Rattle.std.specs.Prelude.{◌≡◌, ℕ, ℤ, ◌<◌, ◌&&◌, ◌||◌, Bool, true, false, if◌then◌else◌, List, [], ◌∷◌, ◌++◌, Option, Some, None, map, length, slice_get, is_some, pos}
+use Rattle.std.specs.Prelude.{◌≡◌, ℕ, ℤ, ◌<◌, Bool, true, false, if◌then◌else◌, List, [], ◌∷◌, ◌++◌, Option, Some, None, map, length, slice_get, is_some, pos}
 use Rattle.std.specs.List.{list_all}
 use Rattle.std.specs.Option.{option_map, option_and_then}
 use Rattle.cil_base.specs.declared.kinds.IntKind.TheVariants.{Int as int}
@@ -9,7 +9,7 @@ use Rattle.type_graph.specs.declared.aggregates.Aggregate.{Aggregate}
 use Rattle.type_graph.specs.declared.aggregates.Member.{Member}
 use Rattle.type_graph.specs.declared.nodes.Node.{Node}
 use Rattle.type_graph.specs.Shapes.{Shape, IntType, shape}
-use Rattle.type_graph.specs.Arena.{Graph, complete, flexible_shape, members_fit}
+use Rattle.type_graph.specs.Arena.{Graph, members_fit}
 use Rattle.type_graph.specs.Growth.{Grows}
 use Rattle.cil_tree.specs.Names.{is_among, are_different}
 use Rattle.cil_tree.specs.View.{text_at}
@@ -26,14 +26,6 @@ use Rattle.cil_reader.specs.Pools.{KeepsNames}
 abbrev pub AreThere : ℕ → List Member → Type 0
 AreThere n [] = Unit {0}
 AreThere n (m ∷ ms) = (m.ty.of.0 < n) × AreThere n ms
-
-abbrev pub is_empty : List Member → Bool
-is_empty [] = true
-is_empty (m ∷ ms) = false
-
--- a member of that type may stand before these
-abbrev pub stands_here : Graph → Bool → Bool → List Member → ℕ → Bool
-stands_here g in_struct behind rest t = complete g t || (in_struct && (behind && (is_empty rest && flexible_shape g.aggs (shape g.nodes t))))
 
 -- an aggregate is incomplete, and may have these members
 abbrev pub may_hold : Graph → Aggregate → List Member → Bool

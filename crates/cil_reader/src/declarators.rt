@@ -17,7 +17,8 @@ use crate::stop::Stop;
 use crate::words::Word;
 use cil_base::{BinOp, Memory, TypeId};
 use std::alloc::Global;
-use type_graph::{Node, QualType, Quals, TypeGraph, TypeList};
+use type_graph::{Node, TypeGraph, TypeList};
+use unit_types::unqualified;
 
 /// What stands before a declarator's name: a pointer's `*`, or a parenthesis.
 #[derive(Clone, Copy, Debug, PartialEq, Eq)]
@@ -160,18 +161,6 @@ fn behind_parameter<'w, 'a>(words: &'w [Word<'a>]) -> Option<(Follows, &'w [Word
     }
 }
 
-const PLAIN: Quals = Quals {
-    constant: false,
-    restricted: false,
-};
-
-/// A type without qualifiers.
-fn plain(of: TypeId) -> QualType
-    ensures { result ≡ record { quals = unqualified; of = of } }
-{
-    QualType { quals: PLAIN, of }
-}
-
 /// A pointer to a type (C11 6.7.6.1).
 #[tactic(auto, using(crate::proofs::OnwardLaws::extends_by))]
 fn add_pointer(graph: &mut TypeGraph, to: TypeId) -> Result<TypeId, Memory>
@@ -181,7 +170,7 @@ fn add_pointer(graph: &mut TypeGraph, to: TypeId) -> Result<TypeId, Memory>
     ensures on { Extends graph.old graph.new }
     ensures adds { (f : Graph) (ss : List Shape) → AddsParts f graph.old (shape graph.old.nodes to.0 ∷ ss) → IfOk result (λ t. AddsParts f graph.new (shape graph.new.nodes t.0 ∷ ss)) }
 {
-    graph.add_node(Node::Ptr(plain(to)))
+    graph.add_node(Node::Ptr(unqualified(to)))
 }
 
 /// An array of a type, or a function that returns it (C11 6.7.6.2, 6.7.6.3).
@@ -195,7 +184,7 @@ fn add_wrapped(graph: &mut TypeGraph, suffix: Suffix, inner: TypeId) -> Result<T
     ensures adds { (f : Graph) (ss : List Shape) → AddsParts f graph.old (shape graph.old.nodes inner.0 ∷ (layer_types (layer_of graph.old.nodes suffix) ++ ss)) → IfOk result (λ t. AddsParts f graph.new (shape graph.new.nodes t.0 ∷ ss)) }
 {
     match suffix {
-        Suffix::Elements(bound) => graph.add_node(Node::Array(plain(inner), bound)),
+        Suffix::Elements(bound) => graph.add_node(Node::Array(unqualified(inner), bound)),
         Suffix::Called(params, proto, variadic) => graph.add_node(Node::Func {
             proto,
             variadic,
