@@ -3,8 +3,8 @@ use Rattle.cil_reader.proofs.declarators.add_wrapped.Goals as goal
 
 pub returns-in-Elements-clause-adds : goal.returns-in-Elements-clause-adds
 returns-in-Elements-clause-adds c = λ f ss adds.
-    elements_added f c.args.graph.now c.add_node.new.self _ c.add_node.result c.plain.result c.args.inner c.args.suffix c.in-Elements.bound ss
-    c.add_node.ensures.grows c.add_node.ensures.ok c.add_node.ensures.shape c.plain.ensures c.in-Elements.is adds
+    elements_added f c.args.graph.now c.add_node.new.self _ c.add_node.result c.unqualified.result c.args.inner c.args.suffix c.in-Elements.bound ss
+    c.add_node.ensures.grows c.add_node.ensures.ok c.add_node.ensures.shape c.unqualified.ensures c.in-Elements.is adds
 
 pub returns-in-Called-clause-adds : goal.returns-in-Called-clause-adds
 returns-in-Called-clause-adds c = λ f ss adds.
