@@ -13,7 +13,6 @@ use Rattle.cil_base.specs.declared.numbers.TypeId.{TypeId}
 use Rattle.cil_base.specs.Arithmetic.{fits}
 use Rattle.cil_base.specs.Integer.{least, greatest}
 use Rattle.cil_base.specs.NamePool.{Interns}
-use Rattle.type_graph.specs.declared.aggregates.AggKind.{AggKind}
 use Rattle.type_graph.specs.declared.aggregates.Aggregate.{Aggregate}
 use Rattle.type_graph.specs.declared.aggregates.Member.{Member}
 use Rattle.type_graph.specs.declared.nodes.Node.{Node}
