@@ -14,9 +14,9 @@ use crate::stops::{allowed, impossible, made};
 use cil_base::{Code, RuleStop, TypeId};
 use layout_lp64::LayoutStop;
 use std::alloc::Global;
-use type_graph::QualType;
+use type_graph::{QualType, unqualified};
 use typed_tree::TypedExp;
-use unit_types::{Class, Types, unqualified};
+use unit_types::{Class, Types};
 
 /// Two values, in the order of the text.
 #[derive(Drop)]

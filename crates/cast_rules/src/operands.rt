@@ -5,9 +5,9 @@ ghost use Rattle.cast_rules.specs.Types.{kind_in, is_arithmetic, is_enum_kind, i
 ghost use Rattle.cast_rules.specs.Values.{value_in};
 
 use cil_base::{AggId, IntKind, TypeId};
-use type_graph::{AggKind, QualType};
+use type_graph::{AggKind, QualType, unqualified};
 use typed_tree::TypedExp;
-use unit_types::{Class, Types, unqualified};
+use unit_types::{Class, Types};
 
 /// An operand as it is written, before the conversions of C11 6.3.2.1: it may be an lvalue, an array or a function.
 #[derive(Drop)]

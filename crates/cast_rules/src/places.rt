@@ -20,9 +20,9 @@ use crate::stops::{allowed, impossible, made};
 use cil_base::{AggId, Code, RuleStop};
 use layout_lp64::LayoutStop;
 use std::alloc::Global;
-use type_graph::{Member, QualType};
+use type_graph::{Member, QualType, unqualified};
 use typed_tree::TypedExp;
-use unit_types::{Class, Types, joined, unqualified};
+use unit_types::{Class, Types, joined};
 
 /// The first constraint that the address of an operand violates, if there is one (C11 6.5.3.2p1).
 fn fault_address(e: &Operand) -> Option<Code>

@@ -10,7 +10,7 @@ ghost use Rattle.cil_check.specs.Seen.{seen_shape, IsThere, told, at, bare};
 
 use crate::seen::{Seen, is_same, see};
 use cil_base::{AggId, BinOp, IntKind, TypeId, UnOp};
-use type_graph::{AggKind, Member, Node, QualType, Quals, TypeGraph};
+use type_graph::{AggKind, Member, Node, QualType, TypeGraph, unqualified};
 
 /// Whether a kind is int or wider (C11 6.3.1.1p2).
 pub fn is_wide(kind: IntKind) -> bool
@@ -82,19 +82,6 @@ pub fn is_function(g: &TypeGraph, t: TypeId) -> bool
     match g.node(t) {
         Node::Func { .. } => true,
         Node::Void | Node::Int(_) | Node::Ptr(_) | Node::Array(..) | Node::Agg(_) => false,
-    }
-}
-
-/// A type without qualifiers.
-fn unqualified(of: TypeId) -> QualType
-    ensures { result ≡ record { quals = record { constant = false; restricted = false }; of = of } }
-{
-    QualType {
-        quals: Quals {
-            constant: false,
-            restricted: false,
-        },
-        of,
     }
 }
 

@@ -17,8 +17,7 @@ use crate::stop::Stop;
 use crate::words::Word;
 use cil_base::{BinOp, Memory, TypeId};
 use std::alloc::Global;
-use type_graph::{Node, TypeGraph, TypeList};
-use unit_types::unqualified;
+use type_graph::{Node, TypeGraph, TypeList, unqualified};
 
 /// What stands before a declarator's name: a pointer's `*`, or a parenthesis.
 #[derive(Clone, Copy, Debug, PartialEq, Eq)]

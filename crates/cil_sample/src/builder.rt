@@ -8,7 +8,7 @@ use cil_check::check;
 use cil_printer::print;
 use cil_tree::{CilUnit, GlobalDecl, GlobalDef};
 use std::alloc::Global;
-use type_graph::{AggKind, Member, Members, Node, QualType, Quals, TypeGraph, TypeList};
+use type_graph::{AggKind, Member, Members, Node, TypeGraph, TypeList, unqualified};
 
 /// A program that is being built, with the texts of its names.
 #[derive(Drop)]
@@ -25,17 +25,6 @@ pub(crate) struct Part {
     pub anonymous: bool,
     pub ty: TypeId,
     pub value: i32,
-}
-
-/// A type without qualifiers.
-fn unqualified(of: TypeId) -> QualType
-    ensures { result.of ≡ of }
-{
-    let quals = Quals {
-        constant: false,
-        restricted: false,
-    };
-    QualType { quals, of }
 }
 
 /// A member or an enumerator under its name.

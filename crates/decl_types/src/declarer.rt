@@ -12,9 +12,9 @@ use crate::types::{Prototype, function, int, pointer};
 use cil_base::{AggId, EntityId, LocalId, Memory, NameId, NamePool, RuleStop};
 use name_scopes::Scopes;
 use std::alloc::Global;
-use type_graph::{QualType, Quals};
+use type_graph::{PLAIN, QualType, Quals, unqualified};
 use typed_tree::{EntityKind, Ordinary, TypedLocal};
-use unit_types::{PLAIN, Types, unqualified};
+use unit_types::Types;
 
 /// What a unit has declared so far (C11 6.2.1 to 6.2.3, 6.7). After an error of a call it is only dropped.
 #[derive(Drop)]

@@ -11,9 +11,9 @@ use crate::stops::{bad, laid, never};
 use crate::types::{int, qualified};
 use c_tree::Specifier;
 use cil_base::{AggId, Code, IntKind, NameId, NamePool, RuleStop, TypeId};
-use type_graph::{AggKind, Member, QualType, Quals};
+use type_graph::{AggKind, Member, QualType, Quals, unqualified};
 use typed_tree::Ordinary;
-use unit_types::{Types, unqualified};
+use unit_types::Types;
 
 /// The type that keywords name.
 fn basic_type(meaning: BasicMeaning, t: &mut Types) -> Result<QualType, RuleStop>

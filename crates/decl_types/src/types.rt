@@ -5,8 +5,8 @@ ghost use Rattle.decl_types.specs.Refusals.{IsRefusal, of_adjustment, of_array, 
 use crate::stops::{bad, laid, past};
 use cil_base::{Code, IntKind, RuleStop, TypeId, What};
 use std::alloc::Global;
-use type_graph::{QualType, Quals};
-use unit_types::{Class, PLAIN, Types, joined, unqualified};
+use type_graph::{PLAIN, QualType, Quals, unqualified};
+use unit_types::{Class, Types, joined};
 
 /// Whether a type is a function type.
 pub(crate) fn is_function(t: &Types, ty: TypeId) -> bool {

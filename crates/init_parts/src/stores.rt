@@ -9,7 +9,7 @@ use cil_base::{Bytes, Code, NameId};
 use const_eval::eval;
 use decl_types::{MemberPath, is_constant};
 use smallvec::SmallVec;
-use type_graph::{AggKind, QualType};
+use type_graph::{AggKind, QualType, unqualified};
 use typed_parts::{
     Evaluation, WalkStop, Walker, Within, bytes_of, convert, impossible, placed, sized, string_of,
     unevaluated_place, violated,
@@ -18,7 +18,7 @@ use typed_tree::{
     Definition, Path, Step, TypedExp, TypedLiteral, aggregate_part, constant_part, scalar_part,
     string_part,
 };
-use unit_types::{Class, Types, unqualified};
+use unit_types::{Class, Types};
 
 /// Where an item stands: the way to its part, behind the path to the object of its brace list, and the item's first token.
 #[derive(Clone, Copy)]

@@ -2,7 +2,7 @@ use cast_rules::Operand;
 use cil_base::{AggId, EntityId, IntKind, NameId, RuleStop, TypeId};
 use layout_lp64::LayoutStop;
 use std::alloc::Global;
-use type_graph::{AggKind, Member, Members, QualType, Quals};
+use type_graph::{AggKind, Member, Members, QualType, Quals, unqualified};
 use typed_tree::TypedExp;
 use unit_types::Types;
 
@@ -11,17 +11,6 @@ pub(crate) fn made<T>(r: Result<T, LayoutStop>) -> Result<T, RuleStop> {
     match r {
         Ok(x) => Ok(x),
         Err(_) => Err(RuleStop::Memory),
-    }
-}
-
-/// A type without qualifiers.
-pub(crate) fn unqualified(of: TypeId) -> QualType {
-    QualType {
-        quals: Quals {
-            constant: false,
-            restricted: false,
-        },
-        of,
     }
 }
 

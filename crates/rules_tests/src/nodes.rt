@@ -1,6 +1,6 @@
 use crate::forms::{Want, answer, wanted};
 use crate::kit::Sample::{self, *};
-use crate::kit::{Kit, made, unqualified};
+use crate::kit::{Kit, made};
 use cast_rules::{
     Operand, address, align_of, binary, call, cast, conditional, first_unassignable, indirect,
     member, size_of, subscript, value,
@@ -8,6 +8,7 @@ use cast_rules::{
 use cil_base::{Abi, BinOp, Code, EntityId, Fault, RuleStop, TypeId};
 use std::alloc::Global;
 use std::process::Abort;
+use type_graph::unqualified;
 use typed_tree::{TypedExp, TypedNode};
 use unit_types::Types;
 

@@ -17,4 +17,4 @@ mod nodes;
 pub use aggregates::{AggKind, Aggregate, Member, Members};
 pub use graph::TypeGraph;
 pub use layout::Layout;
-pub use nodes::{Node, QualType, Quals, TypeList};
+pub use nodes::{Node, PLAIN, QualType, Quals, TypeList, unqualified};

@@ -19,6 +19,19 @@ pub struct QualType {
     pub of: TypeId,
 }
 
+/// No qualifiers.
+pub const PLAIN: Quals = Quals {
+    constant: false,
+    restricted: false,
+};
+
+/// The unqualified version of a type (C11 6.2.5p26); an array's elements keep their qualifiers, which the array has not (6.7.3p9).
+pub fn unqualified(of: TypeId) -> QualType
+    ensures { result ≡ record { quals = record { constant = false; restricted = false }; of = of } }
+{
+    QualType { quals: PLAIN, of }
+}
+
 /// The types of a function's parameters in order, which contracts see as a list.
 #[derive(Debug, Drop)]
 pub struct TypeList {

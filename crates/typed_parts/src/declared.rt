@@ -5,8 +5,8 @@ use crate::walker::Walker;
 use c_tree::{MemberDeclaration, MemberDeclarator, Parameter, Qualifier, Specifier};
 use cil_base::{AggId, Code, Fault, NameId, RuleStop};
 use decl_types::{Behind, Declared, Form, Heading, MemberAt, NewName};
-use type_graph::{QualType, Quals};
-use unit_types::{Class, PLAIN};
+use type_graph::{PLAIN, QualType, Quals};
+use unit_types::Class;
 
 /// The token of `restrict` among specifiers.
 fn restrict_at(ss: &[Specifier]) -> Option<u32> {

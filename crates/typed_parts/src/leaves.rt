@@ -3,9 +3,8 @@ use crate::walker::{Evaluation, Walker};
 use cil_base::{Bytes, Code, IntKind, NameId};
 use decl_types::Declaring;
 use literal_values::{character_value, integer_value, string_bytes};
-use type_graph::QualType;
+use type_graph::{QualType, unqualified};
 use typed_tree::{Definition, Path, TypedExp, initialiser, string_part};
-use unit_types::unqualified;
 
 /// An integer constant of a kind.
 fn constant(w: &mut Walker, at: u32, kind: IntKind, v: i128) -> Result<TypedExp, WalkStop> {

@@ -11,8 +11,7 @@ use crate::expressions::{Branches, Logic, StepForm, TypedExp, TypedNode};
 use crate::initialisers::TypedInit;
 use cil_base::{AggId, BinOp, EntityId, LocalId, Memory, TypeId, UnOp};
 use std::alloc::Global;
-use type_graph::QualType;
-use unit_types::unqualified;
+use type_graph::{QualType, unqualified};
 
 /// A node in its box.
 fn made(alloc: Global, ty: QualType, effect: bool, node: TypedNode) -> Result<TypedExp, Memory>

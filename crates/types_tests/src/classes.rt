@@ -3,8 +3,8 @@ use layout_lp64::LayoutStop;
 use std::alloc::Global;
 use std::process::Abort;
 use std::test::Fail;
-use type_graph::{AggKind, Member, Members, QualType, Quals};
-use unit_types::{Class, Types, can_complete, members_fit, unqualified};
+use type_graph::{AggKind, Member, Members, QualType, Quals, unqualified};
+use unit_types::{Class, Types, can_complete, members_fit};
 
 const CONST: Quals = Quals {
     constant: true,

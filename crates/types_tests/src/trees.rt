@@ -2,13 +2,12 @@ use cil_base::{AggId, BinOp, EntityId, LocalId, Memory, TypeId};
 use std::alloc::Global;
 use std::mem::size_of;
 use std::process::Abort;
-use type_graph::QualType;
+use type_graph::{QualType, unqualified};
 use typed_tree::{
     Branches, Path, StepForm, TypedExp, TypedInit, TypedNode, TypedStmt, assign, binary, call,
     compound, compute, conditional, decay, declaration, entity, evaluation, initialiser, integer,
     literal, load, local, member, scalar_part, selection, step, subscript,
 };
-use unit_types::unqualified;
 
 const INT: TypeId = TypeId(0);
 

@@ -1,8 +1,8 @@
 use cil_base::{AggId, Memory, TypeId};
 use map_graph::map_graph;
 use std::alloc::Global;
-use type_graph::{Member, Members, TypeGraph};
-use unit_types::{can_complete, unqualified};
+use type_graph::{Member, Members, TypeGraph, unqualified};
+use unit_types::can_complete;
 
 /// What a branch answers that never comes.
 pub(crate) fn impossible() -> Memory {

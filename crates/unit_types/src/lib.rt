@@ -15,5 +15,5 @@ mod types;
 
 pub use class::Class;
 pub use members::{can_complete, members_fit};
-pub use quals::{PLAIN, joined, unqualified};
+pub use quals::joined;
 pub use types::Types;

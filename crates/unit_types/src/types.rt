@@ -16,19 +16,21 @@ ghost use Rattle.type_compat.specs.Composed.{composite_shape};
 ghost use Rattle.type_compat.specs.Parts.{GainsParts};
 ghost use Rattle.layout_lp64.specs.Tables.{InStep, AllFit};
 ghost use Rattle.unit_types.specs.Constants.{is_array, HasConstantMember, IsModifiable};
-ghost use Rattle.unit_types.specs.Normal.{is_normal, qualified};
+ghost use Rattle.unit_types.specs.Normal.{IsNormal, is_normal, qualified};
 
 use crate::class::Class;
 use crate::constants::{ConstantMembers, are_constant, has_constant, has_constant_member};
 use crate::members::{can_complete, is_complete, is_normal};
 use crate::parts::{Parts, add, add_agg, complete, compose};
-use crate::quals::{joined, unqualified};
+use crate::quals::joined;
 use cil_base::{Abi, AggId, IntKind, NameId, TypeId};
 use layout_lp64::LayoutStop;
 use std::alloc::Global;
 use std::marker::Model;
 use type_compat::compatible;
-use type_graph::{AggKind, Member, Members, Node, QualType, Quals, TypeGraph, TypeList};
+use type_graph::{
+    AggKind, Member, Members, Node, QualType, Quals, TypeGraph, TypeList, unqualified,
+};
 
 /// The types of a translation unit. Contracts see the arena of its types, whose layouts are known.
 #[derive(Drop)]
@@ -91,9 +93,10 @@ impl Types {
         }
     }
 
-    /// The arena of the types.
+    /// The arena of the types, each of whose qualified types is in normal form (C11 6.7.3p9).
     pub fn graph(&self) -> &TypeGraph
-        ensures { result.now ≡ self.now }
+        ensures arena { result.now ≡ self.now }
+        ensures normal { IsNormal self.now }
     {
         &self.parts.graph
     }
