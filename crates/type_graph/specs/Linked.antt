@@ -1,14 +1,39 @@
 -- Device: nodes stand in chains by their hashes, so that a node is found in constant time.
-use Rattle.std.specs.Prelude.{◌≡◌, ℕ, zero, suc, ◌*◌, ◌-◌, ◌%◌, ◌<◌, ◌≤◌, cond, eqb, List, [], ◌∷◌, ◌++◌, Some, None, length, slice_get, ◌⊎◌}
-use Rattle.std.specs.List.{fold}
-use Rattle.std.specs.Hash.FoldHasher.{initial, write, finish}
+use Rattle.std.specs.Prelude.{◌≡◌, ℕ, zero, suc, ◌+◌, ◌*◌, ◌-◌, ◌%◌, ◌<◌, ◌≤◌, cond, eqb, Bool, List, [], ◌∷◌, ◌++◌, Option, Some, None, length, slice_get, ◌⊎◌}
+use Rattle.cil_base.specs.Integer.{rank_of, is_signed}
+use Rattle.cil_base.specs.declared.numbers.TypeId.{TypeId}
 use Rattle.type_graph.specs.declared.nodes.Node.{Node}
+use Rattle.type_graph.specs.declared.nodes.Quals.{Quals}
+use Rattle.type_graph.specs.declared.nodes.Node.TheVariants.{Void, Int, Ptr, Array, Func, Agg}
 use Rattle.type_graph.specs.declared.chains.Chains.{Chains}
-use Rattle.type_graph.specs.contracts.nodes.NodeHash.TheImpl.{ghosts}
 
--- what the hasher makes of a node
+-- a hash with one number more, in 64 bits
+abbrev pub mixed : ℕ → ℕ → ℕ
+mixed h x = h % 4294967296 * 2654435769 + x
+
+-- a hash with the numbers of types
+abbrev pub mixed_all : ℕ → List TypeId → ℕ
+mixed_all h [] = h
+mixed_all h (t ∷ ts) = mixed_all (mixed h t.0) ts
+
+abbrev pub flag : Bool → ℕ
+flag b = cond b 1 0
+
+abbrev pub quals_hash : Quals → ℕ
+quals_hash q = 2 * flag q.constant + flag q.restricted
+
+abbrev pub bound_hash : Option ℕ → ℕ
+bound_hash None = 4294967295
+bound_hash (Some n) = n % 4294967296
+
+-- the hash of a node
 unfoldable pub node_hash : Node → ℕ
-node_hash n = finish (fold write initial (ghosts.hash_input n))
+node_hash Void = 0
+node_hash (Int kind) = mixed 1 (2 * rank_of kind + flag (is_signed kind))
+node_hash (Ptr q) = mixed (2 + 8 * quals_hash q.quals) q.of.0
+node_hash (Array q bound) = mixed (mixed (3 + 8 * quals_hash q.quals) q.of.0) (bound_hash bound)
+node_hash (Func proto variadic ret params) = mixed_all (mixed 4 ret.0) params
+node_hash (Agg a) = mixed 5 a.0
 
 -- which of so many chains the node at a place belongs to
 abbrev pub chain_at : ℕ → List Node → ℕ → ℕ

@@ -1,19 +1,61 @@
 ghost use Rattle.std.specs.Prelude.{◌≡◌, ℕ, suc, ◌+◌, ◌*◌, ◌%◌, ◌^◌, ◌<◌, ◌≤◌, Some, [], length, replicate, MatchOption, IfOk, IfErr, OnOk, OnErr, slice_get};
-ghost use Rattle.type_graph.specs.Linked.{node_hash, IsLinked, IsChained, HasRoom, HadRoom, IsAhead};
+ghost use Rattle.type_graph.specs.Linked.{node_hash, mixed, mixed_all, quals_hash, bound_hash, IsLinked, IsChained, HasRoom, HadRoom, IsAhead};
 
-use crate::nodes::Node;
-use cil_base::Memory;
+use crate::nodes::{Node, Quals};
+use cil_base::{Memory, TypeId};
 use std::alloc::Global;
-use std::hash::{FoldHasher, Hash, Hasher};
+
+/// A hash with one number more, in 64 bits.
+fn mixed(hash: u64, x: u32) -> u64
+    ensures { result ≡ mixed hash x }
+{
+    (hash % 4294967296) * 2654435769 + x as u64
+}
+
+/// A hash with the numbers of types.
+fn mixed_all(start: u64, types: &[TypeId]) -> u64
+    ensures { result ≡ mixed_all start types.now }
+{
+    let mut hash = start;
+    for t in types {
+        hash = mixed(hash, t.0);
+    }
+    hash
+}
+
+/// What qualifiers add to a hash.
+fn quals_hash(q: Quals) -> u64
+    ensures { result ≡ quals_hash q }
+{
+    2 * q.constant as u64 + q.restricted as u64
+}
+
+/// What the bound of an array adds to a hash.
+fn bound_hash(bound: Option<u64>) -> u32
+    ensures { result ≡ bound_hash bound }
+{
+    match bound {
+        None => u32::MAX,
+        Some(n) => (n % 4294967296) as u32,
+    }
+}
 
 /// The hash of a node.
 #[tactic(auto, unfolding(crate::specs::Linked::node_hash))]
 fn hash_of(n: &Node) -> u64
     ensures { result ≡ node_hash n.now }
 {
-    let mut state = FoldHasher::default();
-    n.hash(&mut state);
-    state.finish()
+    match n {
+        Node::Void => 0,
+        Node::Int(kind) => mixed(1, 2 * kind.rank() as u32 + kind.is_signed() as u32),
+        Node::Ptr(q) => mixed(2 + 8 * quals_hash(q.quals), q.of.0),
+        Node::Array(q, bound) => {
+            let of = mixed(3 + 8 * quals_hash(q.quals), q.of.0);
+            mixed(of, bound_hash(*bound))
+        }
+        Node::Func { ret, params, .. } => mixed_all(mixed(4, ret.0), params.as_slice()),
+        Node::Agg(a) => mixed(5, a.0),
+    }
 }
 
 /// Which of so many chains a node belongs to.

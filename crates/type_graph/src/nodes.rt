@@ -1,8 +1,7 @@
-ghost use Rattle.std.specs.Prelude.{◌≡◌, List};
+ghost use Rattle.std.specs.Prelude.{◌≡◌, false, List};
 ghost use Rattle.cil_base.specs.declared.numbers.TypeId.{TypeId};
 
 use cil_base::{AggId, IntKind, TypeId};
-use std::hash::{Hash, Hasher};
 use std::marker::Model;
 
 /// The qualifiers of a type (C11 6.7.3) that are kept: `const` and `restrict`.
@@ -90,29 +89,13 @@ impl Eq for TypeList {
     ghost laws = { Prim.search (comparing, rules) };
 }
 
-impl Hash for TypeList {
-    ghost use Rattle.std.specs.Hash as fed;
-    ghost use Rattle.std.specs.Hash.{on_Alike, items_Alike, same_Alike};
-    ghost use Rattle.std.proofs.lemmas.Bool.Decides.{Decides-eqb};
-    ghost use Rattle.cil_base.specs.declared.numbers.TypeId.{TypeId};
-
-    ghost hash_input = { fed.slice (λ (t : TypeId). fed.u32 t.0) };
-
-    ghost respects_eq = { (items_Alike (on_Alike (λ (t : TypeId). t.0) (same_Alike fed.u32 Decides-eqb))).fed };
-
-    fn hash<H: Hasher>(&self, state: &mut H) {
-        self.kept.hash(state);
-    }
-}
-
 /// A type (C11 6.2.5), whose parts are named by their numbers.
 #[derive(Debug, PartialEq, Eq, Drop)]
-#[derive_where(Hash)]
 pub enum Node {
     /// `void` (6.2.5p19).
     Void,
     /// An integer type (6.2.5p4 to p7, p15).
-    Int(#[derive_where(skip(Hash))] IntKind),
+    Int(IntKind),
     /// A pointer (6.2.5p20).
     Ptr(QualType),
     /// An array, with the number of its elements where its bound is known (6.2.5p20, p22).
