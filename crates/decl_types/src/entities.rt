@@ -1,11 +1,10 @@
-ghost use Rattle.std.specs.Prelude.{◌≡◌, IfErr};
+ghost use Rattle.std.specs.Prelude.{◌≡◌, ◌<◌, length, IfErr, OnOk};
 ghost use Rattle.cil_base.specs.declared.faults.RuleStop.TheVariants as stop;
 
 use crate::declared::Linkage;
 use crate::stops::{narrow, never};
 use crate::types::is_function;
 use cil_base::{Code, EntityId, Memory, NameId, RuleStop, TypeId};
-use indexmap::IndexMap;
 use std::alloc::Global;
 use type_graph::QualType;
 use typed_tree::{EntityKind, Ordinary};
@@ -80,11 +79,21 @@ pub(crate) fn kind_of(linkage: Linkage) -> EntityKind {
     }
 }
 
-/// The entities of a unit by their numbers, and the number of each name with linkage.
+/// The entities of a unit by their numbers, and by the number of each name what it stands for with linkage.
 #[derive(Drop)]
 pub(crate) struct Entities {
     list: Vec<DeclaredEntity>,
-    linked: IndexMap<NameId, EntityId>,
+    linked: Vec<Option<EntityId>>,
+}
+
+/// Makes a table longer than a name's number.
+fn grow(linked: &mut Vec<Option<EntityId>>, n: NameId) -> Result<(), Memory>
+    ensures { OnOk result (n.0 < length linked.new.items) }
+{
+    while linked.len() <= n.0 as usize {
+        linked.push(None)?;
+    }
+    Ok(())
 }
 
 impl Entities {
@@ -92,7 +101,7 @@ impl Entities {
     pub(crate) fn new(alloc: Global) -> Self {
         Entities {
             list: Vec::new(alloc),
-            linked: IndexMap::new(alloc),
+            linked: Vec::new(alloc),
         }
     }
 
@@ -113,7 +122,7 @@ impl Entities {
 
     /// The entity of a name with linkage, with its number.
     pub(crate) fn linked(&self, n: NameId) -> Option<(EntityId, DeclaredEntity)> {
-        let e = *self.linked.get(&n)?;
+        let e = (*self.linked.get(n.0 as usize)?)?;
         let entity = self.get(e)?;
         Some((e, entity))
     }
@@ -127,8 +136,9 @@ impl Entities {
 
     /// A new entity whose name has linkage.
     pub(crate) fn add_linked(&mut self, entity: DeclaredEntity) -> Result<EntityId, Memory> {
+        grow(&mut self.linked, entity.name)?;
         let e = self.add(entity)?;
-        self.linked.insert(entity.name, e)?;
+        self.linked[entity.name.0 as usize] = Some(e);
         Ok(e)
     }
 

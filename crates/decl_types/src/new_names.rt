@@ -9,7 +9,7 @@ pub struct NewName {
 
 /// Whether a text begins with `__builtin_`.
 fn is_builtin(text: &[u8]) -> bool {
-    text.starts_with(b"__builtin_")
+    text.len() > 2 && text[1] == b'_' && text.starts_with(b"__builtin_")
 }
 
 /// Whether a name begins with `__builtin_`, and may not be declared (own).

@@ -1,5 +1,5 @@
 -- Device: layouts follow an arena that grows.
-use Rattle.std.proofs.Common.{◌≡◌, ℕ, ◌<◌, ◌≤◌, false, List, Some, length, slice_get, ap, subst}
+use Rattle.std.proofs.Common.{◌≡◌, ℕ, ◌<◌, ◌≤◌, false, List, Some, length, slice_get, ap, sym, subst, inl, inr, arith}
 use Rattle.type_graph.specs.Shapes.{Shape, shape}
 use Rattle.type_graph.specs.Arena.{Graph, IsArena, complete, complete_shape, flexible_shape}
 use Rattle.cil_base.specs.declared.numbers.AggId.{AggId}
@@ -8,6 +8,7 @@ use Rattle.type_graph.specs.declared.aggregates.Member.{Member}
 use Rattle.type_graph.specs.declared.nodes.Node.{Node}
 use Rattle.type_graph.specs.Growth.{Grows, KeepsAggregates, AddsNode, with_members}
 use Rattle.type_graph.proofs.Lists.{get_there}
+use Rattle.type_graph.proofs.GrowthLaws.{added_as}
 use Rattle.type_graph.proofs.ShapeLaws.{shape_past}
 use Rattle.type_compat.specs.Parts.{GainsParts}
 use Rattle.layout_lp64.specs.declared.layouts.Layouts.{Layouts}
@@ -19,6 +20,13 @@ use Rattle.unit_types.specs.Steps.{StopsWith, StopsMaking, StopsCompleting}
 
 pub were_in_step : (l : Layouts) (g h : Graph) → InStep l g → IsArena g → Grows g h → WereInStep l h
 were_in_step l g h step w grows = record { before = g; arena = w; step = step; grows = grows }
+
+-- where a known type is asked for, the arena stays
+kept_as : (g h : Graph) (n : Node) (t : ℕ) → Grows g h → AddsNode g h n t → t < length g.nodes → h ≡ g
+kept_as g h n t grows adds there = elim (added_as g h n t grows adds) as (λ _. h ≡ g) [ inl same ↦ same | inr new ↦ absurd (omega (arith, new.1, there)) ]
+
+pub still_in_step : (l : Layouts) (g h : Graph) (n : Node) (t : ℕ) → InStep l g → Grows g h → AddsNode g h n t → t < length g.nodes → InStep l h
+still_in_step l g h n t step grows adds there = subst (InStep l) (sym (kept_as g h n t grows adds there)) step
 
 -- what is beyond the types is no complete type
 pub complete_past : (g : Graph) (t : ℕ) → length g.nodes ≤ t → complete g t ≡ false

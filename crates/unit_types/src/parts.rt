@@ -60,7 +60,7 @@ fn keep_up(alloc: Global, parts: &mut Parts) -> Result<(), LayoutStop>
 }
 
 /// The number of a type. After `TooBig` there are no types.
-#[tactic(auto, using(type_graph::proofs::GrowthLaws::gains_one, crate::proofs::StepLaws::were_in_step, crate::proofs::StepLaws::stops_added, crate::proofs::NormalLaws::normal_added, crate::proofs::ConstantLaws::keeps_same, crate::proofs::ConstantLaws::keeps_grown))]
+#[tactic(auto, using(type_graph::proofs::GrowthLaws::gains_one, crate::proofs::StepLaws::were_in_step, crate::proofs::StepLaws::still_in_step, crate::proofs::StepLaws::stops_added, crate::proofs::NormalLaws::normal_added, crate::proofs::ConstantLaws::keeps_same, crate::proofs::ConstantLaws::keeps_grown))]
 pub(crate) fn add(alloc: Global, parts: &mut Parts, n: Node) -> Result<TypeId, LayoutStop>
     requires step { InStep parts.old.layouts parts.old.graph }
     requires normal { IsNormal parts.old.graph }
@@ -73,9 +73,11 @@ pub(crate) fn add(alloc: Global, parts: &mut Parts, n: Node) -> Result<TypeId, L
     ensures normal { IsNormal parts.new.graph }
     ensures constants { KeepsKnown parts.old.graph parts.new.graph }
 {
-    // What is known of an arena is known where it is read.
-    let _types = parts.graph.len();
+    let known = parts.graph.len();
     let t = parts.graph.add_node(n)?;
+    if t.0 < known {
+        return Ok(t);
+    }
     keep_up(alloc, parts)?;
     Ok(t)
 }
