@@ -136,8 +136,8 @@ impl Entities {
 
     /// A new entity whose name has linkage.
     pub(crate) fn add_linked(&mut self, entity: DeclaredEntity) -> Result<EntityId, Memory> {
-        grow(&mut self.linked, entity.name)?;
         let e = self.add(entity)?;
+        grow(&mut self.linked, entity.name)?;
         self.linked[entity.name.0 as usize] = Some(e);
         Ok(e)
     }
