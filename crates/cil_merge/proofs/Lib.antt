@@ -1,1 +1,4 @@
 pub mod MergingLaws
+pub mod GainLaws
+pub mod ClassLaws
+pub mod ListingLaws

@@ -1,1 +1,5 @@
 pub mod Merging
+pub mod Listing
+pub mod Classes
+pub mod Merged
+pub mod Numbering

@@ -1,3 +1,9 @@
+ghost use Rattle.std.specs.Prelude.{◌≡◌, ◌<◌, [], None, Some, map, length, slice_get, OnOk, IfOk};
+ghost use Rattle.type_graph.specs.declared.aggregates.Aggregate.{Aggregate};
+ghost use Rattle.type_graph.specs.Growth.{Grows, with_members};
+ghost use Rattle.cil_merge.specs.Classes.{IsAggregate, IsMember, AreMembers, AreTypes, HasTypes};
+ghost use Rattle.cil_merge.specs.Numbering.{GainsTypes, AreBegun, AreOnWay, Completes};
+
 use crate::numbers::{impossible, type_in, unit_number};
 use cil_base::{Abi, AggId, Memory, TypeId, UnitNo};
 use link_names::Fronted;
@@ -14,37 +20,63 @@ pub(crate) struct Arena {
     pub(crate) types: Vec<Vec<TypeId>>,
 }
 
-/// A class by its place.
-fn class_number(k: usize) -> Result<ClassNo, Memory> {
+/// The number of a class.
+fn class_number(k: usize) -> Result<u32, Memory>
+    ensures { IfOk result (λ n. n ≡ k) }
+{
     if k > 4294967295 {
         return Err(impossible());
     }
-    Ok(ClassNo(k as u32))
+    Ok(k as u32)
 }
 
-/// The aggregate that stands for a class, and its unit.
-fn representative<'a>(
-    units: &'a [Fronted],
-    classes: &Classes,
-    k: usize,
-) -> Result<(UnitNo, &'a Aggregate), Memory> {
-    let Some((u, a)) = classes.representative(class_number(k)?) else {
-        return Err(impossible());
-    };
-    let Some(unit) = units.get(u.0 as usize) else {
-        return Err(impossible());
-    };
+/// The structs, unions and enums that stand for the classes, in their order: each by its unit and its number there.
+fn representatives(alloc: Global, classes: &Classes) -> Result<Vec<(UnitNo, AggId)>, Memory> {
+    let mut all = Vec::new(alloc);
+    for k in 0..classes.count() {
+        let Some(found) = classes.representative(ClassNo(class_number(k)?)) else {
+            return Err(impossible());
+        };
+        all.push(found)?;
+    }
+    Ok(all)
+}
+
+/// A unit.
+fn unit_at(units: &[Fronted], u: UnitNo) -> Result<&Fronted, Memory>
+    ensures { IfOk result (λ f. slice_get units.now u.0 ≡ Some f.now) }
+{
+    match units.get(u.0 as usize) {
+        Some(unit) => Ok(unit),
+        None => Err(impossible()),
+    }
+}
+
+/// A struct, union or enum of a unit.
+fn aggregate(units: &[Fronted], u: UnitNo, a: AggId) -> Result<&Aggregate, Memory>
+    ensures { IfOk result (λ x. IsAggregate units.now (u, a) x.now) }
+{
+    let unit = unit_at(units, u)?;
     if a.0 >= unit.cil.graph.agg_count() {
         return Err(impossible());
     }
-    Ok((u, unit.cil.graph.agg(a)))
+    Ok(unit.cil.graph.agg(a))
 }
 
 /// An aggregate for each class, in the order of the classes, without members.
-fn add_classes(units: &[Fronted], classes: &Classes, graph: &mut TypeGraph) -> Result<(), Memory> {
-    for k in 0..classes.count() {
-        let (_u, aggregate) = representative(units, classes, k)?;
-        graph.add_agg(aggregate.kind, aggregate.tag)?;
+#[tactic(auto, using(crate::proofs::ClassLaws::none_begun, crate::proofs::ClassLaws::begun_next, crate::proofs::ClassLaws::begun_all))]
+fn add_classes(
+    units: &[Fronted],
+    stands: &[(UnitNo, AggId)],
+    graph: &mut TypeGraph,
+) -> Result<(), Memory>
+    requires { graph.old.aggs ≡ [] }
+    ensures { OnOk result (AreBegun units.now stands.now (length stands.now) graph.new.aggs) }
+{
+    for k in 0..stands.len() {
+        let at = stands[k];
+        let x = aggregate(units, at.0, at.1)?;
+        graph.add_agg(x.kind, x.tag)?;
     }
     Ok(())
 }
@@ -55,7 +87,9 @@ fn class_table(
     classes: &Classes,
     u: UnitNo,
     graph: &TypeGraph,
-) -> Result<Vec<AggId>, Memory> {
+) -> Result<Vec<AggId>, Memory>
+    ensures { IfOk result (λ table. length table.items ≡ length graph.now.aggs) }
+{
     let mut table = Vec::new(alloc);
     for a in 0..graph.agg_count() {
         let Some(class) = classes.class_of(u, AggId(a)) else {
@@ -67,12 +101,16 @@ fn class_table(
 }
 
 /// The numbers that the types of all units have in the program.
+#[tactic(auto, using(crate::proofs::ClassLaws::none_mapped, crate::proofs::ClassLaws::mapped_all, crate::proofs::GainLaws::gains_none))]
 fn map_units(
     alloc: Global,
     units: &[Fronted],
     classes: &Classes,
     graph: &mut TypeGraph,
-) -> Result<Vec<Vec<TypeId>>, Memory> {
+) -> Result<Vec<Vec<TypeId>>, Memory>
+    ensures types { IfOk result (λ all. AreTypes units.now graph.new (map (λ v. v.items) all.items) (length units.now)) }
+    ensures gains { OnOk result (GainsTypes graph.old graph.new) }
+{
     let mut all = Vec::new(alloc);
     for u in 0..units.len() {
         let from = &units[u].cil.graph;
@@ -83,7 +121,10 @@ fn map_units(
 }
 
 /// A member with its type in the program.
-fn mapped_member(types: &[TypeId], m: Member) -> Result<Member, Memory> {
+#[tactic(auto, using(crate::proofs::ClassLaws::member_is))]
+fn mapped_member(types: &[TypeId], m: Member) -> Result<Member, Memory>
+    ensures { IfOk result (IsMember types.now m) }
+{
     let ty = QualType {
         quals: m.ty.quals,
         of: type_in(types, m.ty.of)?,
@@ -92,16 +133,22 @@ fn mapped_member(types: &[TypeId], m: Member) -> Result<Member, Memory> {
 }
 
 /// Members with their types in the program.
-fn mapped_members(alloc: Global, types: &[TypeId], members: &[Member]) -> Result<Members, Memory> {
+#[tactic(auto, using(crate::proofs::ClassLaws::no_members, crate::proofs::ClassLaws::members_next, crate::proofs::ClassLaws::members_all))]
+fn mapped_members(alloc: Global, types: &[TypeId], members: &[Member]) -> Result<Members, Memory>
+    ensures { IfOk result (λ ms. AreMembers types.now members.now ms (length members.now)) }
+{
     let mut mapped = Vec::new(alloc);
-    for m in members {
-        mapped.push(mapped_member(types, *m)?)?;
+    for i in 0..members.len() {
+        mapped.push(mapped_member(types, members[i])?)?;
     }
     Ok(Members::new(mapped))
 }
 
 /// The table of a unit.
-fn table_of(all: &[Vec<TypeId>], u: UnitNo) -> Result<&[TypeId], Memory> {
+#[tactic(auto, using(crate::proofs::ClassLaws::table_is))]
+fn table_of(all: &[Vec<TypeId>], u: UnitNo) -> Result<&[TypeId], Memory>
+    ensures { IfOk result (λ table. slice_get (map (λ v. v.items) all.now) u.0 ≡ Some table.now) }
+{
     match all.get(u.0 as usize) {
         Some(table) => Ok(table),
         None => Err(impossible()),
@@ -109,27 +156,53 @@ fn table_of(all: &[Vec<TypeId>], u: UnitNo) -> Result<&[TypeId], Memory> {
 }
 
 /// Gives an aggregate of the program its members.
-fn complete(graph: &mut TypeGraph, a: AggId, members: Members) -> Result<(), Memory> {
+#[tactic(auto, using(type_graph::proofs::GrowthLaws::grows_none))]
+fn complete(graph: &mut TypeGraph, a: AggId, members: Members) -> Result<(), Memory>
+    ensures there { OnOk result (a.0 < length graph.old.aggs) }
+    ensures members { OnOk result ((x : Aggregate) → slice_get graph.old.aggs a.0 ≡ Some x → graph.new ≡ with_members graph.old a x members) }
+    ensures grows { Grows graph.old graph.new }
+{
     if !can_complete(graph, a, members.as_slice()) {
         return Err(impossible());
     }
     graph.complete(a, members)
 }
 
+/// Gives the aggregate of a class the members of the one that stands for it.
+fn complete_class(
+    alloc: Global,
+    units: &[Fronted],
+    stands: (UnitNo, AggId),
+    types: &[Vec<TypeId>],
+    k: usize,
+    graph: &mut TypeGraph,
+) -> Result<(), Memory>
+    ensures { OnOk result (Completes units.now (map (λ v. v.items) types.now) stands k graph.old graph.new) }
+{
+    let x = aggregate(units, stands.0, stands.1)?;
+    let Some(members) = &x.members else {
+        return Ok(());
+    };
+    let mapped = mapped_members(alloc, table_of(types, stands.0)?, members.as_slice())?;
+    complete(graph, AggId(class_number(k)?), mapped)?;
+    Ok(())
+}
+
 /// Gives the aggregates of the program their members, in the order of the classes.
+#[tactic(auto, using(crate::proofs::ClassLaws::on_way_next, crate::proofs::ClassLaws::on_way_all, type_graph::proofs::GrowthLaws::grows_none, type_graph::proofs::GrowthLaws::grows_twice))]
 fn complete_classes(
     alloc: Global,
     units: &[Fronted],
-    classes: &Classes,
+    stands: &[(UnitNo, AggId)],
     types: &[Vec<TypeId>],
     graph: &mut TypeGraph,
-) -> Result<(), Memory> {
-    for k in 0..classes.count() {
-        let (u, aggregate) = representative(units, classes, k)?;
-        if let Some(members) = &aggregate.members {
-            let mapped = mapped_members(alloc, table_of(types, u)?, members.as_slice())?;
-            complete(graph, AggId(class_number(k)?.0), mapped)?;
-        }
+) -> Result<(), Memory>
+    requires { AreBegun units.now stands.now (length stands.now) graph.old.aggs }
+    ensures classes { OnOk result (AreOnWay units.now (map (λ v. v.items) types.now) stands.now (length stands.now) graph.new.aggs) }
+    ensures grows { OnOk result (Grows graph.old graph.new) }
+{
+    for k in 0..stands.len() {
+        complete_class(alloc, units, stands[k], types, k, graph)?;
     }
     Ok(())
 }
@@ -140,10 +213,13 @@ pub(crate) fn arena_of(
     units: &[Fronted],
     classes: &Classes,
     abi: Abi,
-) -> Result<Arena, Memory> {
+) -> Result<Arena, Memory>
+    ensures { IfOk result (λ r. HasTypes units.now r.graph) }
+{
     let mut graph = TypeGraph::new_for(alloc, abi);
-    add_classes(units, classes, &mut graph)?;
+    let stands = representatives(alloc, classes)?;
+    add_classes(units, &stands, &mut graph)?;
     let types = map_units(alloc, units, classes, &mut graph)?;
-    complete_classes(alloc, units, classes, &types, &mut graph)?;
+    complete_classes(alloc, units, &stands, &types, &mut graph)?;
     Ok(Arena { graph, types })
 }

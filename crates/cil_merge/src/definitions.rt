@@ -1,5 +1,8 @@
+ghost use Rattle.std.specs.Prelude.{◌≡◌, map, OnOk};
+ghost use Rattle.cil_merge.specs.Listing.{mark};
+
 use crate::numbers::impossible;
-use cil_base::Memory;
+use cil_base::{EntityId, Memory};
 use cil_bodies::{Mapping, map_definition};
 use cil_tree::{GlobalDecl, GlobalDef};
 use std::alloc::Global;
@@ -22,12 +25,32 @@ fn give_definition(
     global: &mut GlobalDecl,
     def: GlobalDef,
     m: &Mapping<'_>,
-) -> Result<(), Memory> {
+) -> Result<(), Memory>
+    ensures { mark global.new ≡ mark global.old }
+{
     if !defines_more(&def, &global.def) {
         return Ok(());
     }
     global.def = def;
     map_definition(alloc, &mut global.def, m)
+}
+
+/// Gives it to the global with a number.
+#[tactic(auto, using(crate::proofs::ListingLaws::marks_set))]
+fn give_at(
+    alloc: Global,
+    all: &mut Vec<GlobalDecl>,
+    number: EntityId,
+    def: GlobalDef,
+    m: &Mapping<'_>,
+) -> Result<(), Memory>
+    ensures { map mark all.new.items ≡ map mark all.old.items }
+{
+    let i = number.0 as usize;
+    if i >= all.len() {
+        return Err(impossible());
+    }
+    give_definition(alloc, &mut all[i], def, m)
 }
 
 /// Gives the globals of the program the definitions that a unit has for them.
@@ -36,17 +59,15 @@ pub(crate) fn give_definitions(
     all: &mut Vec<GlobalDecl>,
     globals: Vec<GlobalDecl>,
     m: &Mapping<'_>,
-) -> Result<(), Memory> {
+) -> Result<(), Memory>
+    ensures { OnOk result (map mark all.new.items ≡ map mark all.old.items) }
+{
     let mut e = 0;
     for global in globals {
         let Some(found) = m.uses.get(e) else {
             return Err(impossible());
         };
-        let i = found.entity.0 as usize;
-        if i >= all.len() {
-            return Err(impossible());
-        }
-        give_definition(alloc, &mut all[i], global.def, m)?;
+        give_at(alloc, all, found.entity, global.def, m)?;
         e = e + 1;
     }
     Ok(())

@@ -1,5 +1,8 @@
-ghost use Rattle.std.specs.Prelude.{◌≡◌, None, OnOk, IfErr};
+ghost use Rattle.std.specs.Prelude.{◌≡◌, None, map, OnOk, IfOk, IfErr};
 ghost use Rattle.link_names.specs.Linking.{declared_from, grouped, first_twice};
+ghost use Rattle.cil_merge.specs.Listing.{mark};
+ghost use Rattle.cil_merge.specs.Numbering.{GainsTypes};
+ghost use Rattle.cil_merge.specs.Merged.{IsJoined, IsMerged};
 ghost use Rattle.cil_merge.specs.Merging.{IsMergeRefusal};
 
 use crate::arena::{Arena, arena_of};
@@ -24,20 +27,28 @@ fn add_unit(
     unit: CilUnit,
     types: &[TypeId],
     numbers: &[EntityId],
-) -> Result<(), Memory> {
+) -> Result<(), Memory>
+    ensures marks { OnOk result (map mark all.new.items ≡ map mark all.old.items) }
+    ensures gains { OnOk result (GainsTypes graph.old graph.new) }
+{
     let uses = uses_of(alloc, graph, all, &unit, types, numbers)?;
     let m = Mapping { types, uses: &uses };
-    give_definitions(alloc, all, unit.globals, &m)
+    give_definitions(alloc, all, unit.globals, &m)?;
+    Ok(())
 }
 
 /// Adds the definitions of all units to the globals of the program.
+#[tactic(auto, using(crate::proofs::GainLaws::gains_none, crate::proofs::GainLaws::gains_twice))]
 fn add_units(
     alloc: Global,
     arena: &mut Arena,
     all: &mut Vec<GlobalDecl>,
     units: Vec<Fronted>,
     numbers: &[Vec<EntityId>],
-) -> Result<(), Memory> {
+) -> Result<(), Memory>
+    ensures marks { OnOk result (map mark all.new.items ≡ map mark all.old.items) }
+    ensures gains { OnOk result (GainsTypes arena.old.graph arena.new.graph) }
+{
     let mut u = 0;
     for unit in units {
         let (Some(types), Some(numbers)) = (arena.types.get(u), numbers.get(u)) else {
@@ -55,7 +66,9 @@ fn joined(
     units: Vec<Fronted>,
     classes: &Classes,
     mode: Mode,
-) -> Result<CilUnit, Memory> {
+) -> Result<CilUnit, Memory>
+    ensures { IfOk result (IsJoined units.items) }
+{
     let mut arena = arena_of(alloc, &units, classes, mode.abi)?;
     let globals = all_globals(alloc, &units, &arena)?;
     let mut all = globals.all;
@@ -74,10 +87,12 @@ fn merged(
     classes: &Classes,
     names: &mut NamePool,
     mode: Mode,
-) -> Result<CilUnit, Memory> {
+) -> Result<CilUnit, Memory>
+    ensures { IfOk result (IsMerged (map (λ l. l.name) links.now.names.items) names.new units.items) }
+{
     let mut units = units;
     rename(alloc, &mut units, links, classes, names)?;
-    joined(alloc, units, classes, mode)
+    Ok(joined(alloc, units, classes, mode)?)
 }
 
 /// The program that units become (C11 5.1.1.1): each external name is one object or function (6.2.2p2), each class of structs, unions and
@@ -85,7 +100,7 @@ fn merged(
 ///
 /// It refuses with `Duplicate` where two units define one name, and else with `Incompatible` where two declare one with types that do not
 /// correspond (6.2.7p2), at the first declaration in the later unit, with that in the earlier one as the other place.
-#[tactic(auto, using(crate::proofs::MergingLaws::duplicate_refused, crate::proofs::MergingLaws::clash_refused))]
+#[tactic(auto, using(crate::proofs::MergingLaws::duplicate_refused, crate::proofs::MergingLaws::clash_refused, crate::proofs::MergingLaws::merged_is))]
 pub fn merge(
     alloc: Global,
     units: Vec<Fronted>,
@@ -93,6 +108,7 @@ pub fn merge(
     mode: Mode,
 ) -> Result<CilUnit, Stop>
     ensures once { OnOk result (first_twice mode.common (grouped (declared_from 0 units.items)) ≡ None) }
+    ensures merged { IfOk result (IsMerged (map (λ l. l.0) (grouped (declared_from 0 units.items))) names.new units.items) }
     ensures refused { IfErr result (IsMergeRefusal mode.common (grouped (declared_from 0 units.items))) }
 {
     let links = links(alloc, &units, mode)?;

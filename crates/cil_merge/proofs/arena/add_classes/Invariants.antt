@@ -1,0 +1,5 @@
+use Rattle.cil_merge.specs.Numbering.{AreBegun}
+use Rattle.cil_merge.proofs.arena.add_classes.Given as goal
+
+abbrev pub invariant-loop-k : goal.invariant-loop-k
+invariant-loop-k l = AreBegun l.units l.stands l.k l.graph.aggs
