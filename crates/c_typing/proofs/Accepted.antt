@@ -249,3 +249,47 @@ accepted_60 = refl
 accepted_61 : outcome (codes "int f(const int x); int f(int x) { return x; }") ≡ Some None
 unfolding outcome
 accepted_61 = refl
+
+accepted_62 : outcome (codes "_Static_assert(-(unsigned char)1 < 0 && (unsigned short)1 - 2 < 0 && ~(_Bool)0 < 0 && ((unsigned char)1 << 0) - 2 < 0, \"\");") ≡ Some None
+unfolding outcome
+accepted_62 = refl
+
+accepted_63 : outcome (codes "_Static_assert(-1 > 0u && -1L < 1u && !(-1 < 1ul) && -1LL > 0ul, \"\");") ≡ Some None
+unfolding outcome
+accepted_63 = refl
+
+accepted_64 : outcome (codes "_Static_assert(sizeof(1 ? (char)1 : (short)1) == 4 && sizeof(1 ? 1 : 1L) == 8 && sizeof(-(char)1) == 4 && sizeof(+(char)1) == 4 && sizeof((char)1) == 1, \"\");") ≡ Some None
+unfolding outcome
+accepted_64 = refl
+
+accepted_65 : outcome (codes "_Static_assert(sizeof((char)1 << 1L) == 4 && sizeof(1L << 1) == 8 && sizeof(1L < 2L) == 4 && sizeof(!1L) == 4 && sizeof(1L && 1L) == 4, \"\");") ≡ Some None
+unfolding outcome
+accepted_65 = refl
+
+accepted_66 : outcome (codes "_Static_assert((char)200 == -56 && (unsigned char)-1 == 255 && (_Bool)0x100 == 1 && (short)65535 == -1 && (int)4294967295 == -1 && (unsigned)-1 == 4294967295, \"\");") ≡ Some None
+unfolding outcome
+accepted_66 = refl
+
+accepted_67 : outcome (codes "_Static_assert(-7 / 2 == -3 && -7 % 2 == -1 && -8 >> 1 == -4 && (1u << 31) == 2147483648 && 7 / -2 == -3, \"\");") ≡ Some None
+unfolding outcome
+accepted_67 = refl
+
+accepted_68 : outcome (codes "extern int a[3]; extern int a[]; _Static_assert(sizeof a == 12, \"\"); int f(void) { extern int a[]; return sizeof(char [sizeof a == 12 ? 1 : -1]); }") ≡ Some None
+unfolding outcome
+accepted_68 = refl
+
+accepted_69 : outcome (codes "int (*f(void))[3]; int (*f())[]; _Static_assert(sizeof *f() == 12, \"\");") ≡ Some None
+unfolding outcome
+accepted_69 = refl
+
+accepted_70 : outcome (codes "int i; int f(void) { for (long i = 0; ; ) break; return sizeof(char [sizeof i == 4 ? 1 : -1]); }") ≡ Some None
+unfolding outcome
+accepted_70 = refl
+
+accepted_71 : outcome (codes "struct s { char c; short d[3]; union { char e; long f; }; struct { int g; char h; } k; }; _Static_assert(sizeof(struct s) == 24 && _Alignof(struct s) == 8, \"\");") ≡ Some None
+unfolding outcome
+accepted_71 = refl
+
+accepted_72 : outcome (codes "static int f(void); int n = sizeof(int [1 ? 2 : f()]) + _Alignof(int [1 ? 2 : f()]);") ≡ Some None
+unfolding outcome
+accepted_72 = refl

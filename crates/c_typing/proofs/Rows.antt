@@ -853,3 +853,131 @@ row_210 = refl
 row_211 : first (codes "struct { char a[2147483647], b; } x;") ≡ Some (Limit limit.ObjectSize, 0)
 unfolding first outcome
 row_211 = refl
+
+row_212 : first (codes "struct s; long f(struct s *p, int *q) { return p - q; }") ≡ Some (Constraint code.Incomplete, 17)
+unfolding first outcome
+row_212 = refl
+
+row_213 : first (codes "struct s; struct t; long f(struct s *p, struct t *q) { return q - p; }") ≡ Some (Constraint code.Incomplete, 21)
+unfolding first outcome
+row_213 = refl
+
+row_214 : first (codes "struct s; void f(struct s *p, struct s *q) { p -= q; }") ≡ Some (Constraint code.Incomplete, 17)
+unfolding first outcome
+row_214 = refl
+
+row_215 : first (codes "struct s; void f(struct s *p, int *q) { q -= p; }") ≡ Some (Constraint code.Incomplete, 16)
+unfolding first outcome
+row_215 = refl
+
+row_216 : first (codes "struct s; void f(struct s *p, int n) { n += p; }") ≡ Some (Constraint code.Incomplete, 15)
+unfolding first outcome
+row_216 = refl
+
+row_217 : first (codes "struct s; long f(struct s *p, struct s *q) { return p + q; }") ≡ Some (Constraint code.Operand, 18)
+unfolding first outcome
+row_217 = refl
+
+row_218 : first (codes "struct s; long f(struct s *p) { return 1 - p; }") ≡ Some (Constraint code.Operand, 13)
+unfolding first outcome
+row_218 = refl
+
+row_219 : first (codes "struct s; int f(struct s *p, int *q) { return p < q; }") ≡ Some (Constraint code.Operand, 17)
+unfolding first outcome
+row_219 = refl
+
+row_220 : first (codes "long f(int (*p)(void), int (*q)(void)) { return p - q; }") ≡ Some (Constraint code.Operand, 23)
+unfolding first outcome
+row_220 = refl
+
+row_221 : first (codes "typedef int *T[2]; T restrict x;") ≡ Some (Constraint code.Restrict, 9)
+unfolding first outcome
+row_221 = refl
+
+row_222 : first (codes "struct s { int a[0] : 3; };") ≡ Some (Constraint code.ArraySize, 6)
+unfolding first outcome
+row_222 = refl
+
+row_223 : first (codes "struct s { int a; int a : 3; };") ≡ Some (Excluded feature.BitField, 8)
+unfolding first outcome
+row_223 = refl
+
+row_224 : first (codes "_Static_assert(\"a\", \"\\400\");") ≡ Some (Constraint code.IntegerRange, 4)
+unfolding first outcome
+row_224 = refl
+
+row_225 : first (codes "int x; _Static_assert(x, \"\\400\");") ≡ Some (Constraint code.IntegerRange, 7)
+unfolding first outcome
+row_225 = refl
+
+row_226 : first (codes "int x; _Static_assert(x, \"\");") ≡ Some (Constraint code.NotConstant, 5)
+unfolding first outcome
+row_226 = refl
+
+row_227 : first (codes "void f(int x) { case x: ; }") ≡ Some (Constraint code.NotConstant, 8)
+unfolding first outcome
+row_227 = refl
+
+row_228 : first (codes "void f(int x) { case \"a\": ; }") ≡ Some (Constraint code.NotConstant, 8)
+unfolding first outcome
+row_228 = refl
+
+row_229 : first (codes "void f(int x) { case 1: ; }") ≡ Some (Constraint code.Outside, 7)
+unfolding first outcome
+row_229 = refl
+
+row_230 : first (codes "int a[1] = { 1, y };") ≡ Some (Constraint code.Undeclared, 9)
+unfolding first outcome
+row_230 = refl
+
+row_231 : first (codes "int a[1] = { 1, { y } };") ≡ Some (Constraint code.Initialiser, 9)
+unfolding first outcome
+row_231 = refl
+
+row_232 : first (codes "int a[1] = { 1, \"\\400\" };") ≡ Some (Constraint code.IntegerRange, 9)
+unfolding first outcome
+row_232 = refl
+
+row_233 : first (codes "int a[1] = { [1] = y };") ≡ Some (Constraint code.Initialiser, 7)
+unfolding first outcome
+row_233 = refl
+
+row_234 : first (codes "int x = { 1, y };") ≡ Some (Constraint code.Undeclared, 6)
+unfolding first outcome
+row_234 = refl
+
+row_235 : first (codes "struct s { int n; int a[]; } x = { 1, y };") ≡ Some (Constraint code.Undeclared, 17)
+unfolding first outcome
+row_235 = refl
+
+row_236 : first (codes "struct s { int n; int a[]; } x = { .a = y };") ≡ Some (Constraint code.Undeclared, 18)
+unfolding first outcome
+row_236 = refl
+
+row_237 : first (codes "struct s { int n; int a[]; } x = { 1, { y } };") ≡ Some (Excluded feature.FlexibleInit, 17)
+unfolding first outcome
+row_237 = refl
+
+row_238 : first (codes "struct s { int n; char a[]; } x = { 1, \"\\400\" };") ≡ Some (Constraint code.IntegerRange, 17)
+unfolding first outcome
+row_238 = refl
+
+row_239 : first (codes "struct s { char a[2]; } x = { .a = \"abc\" };") ≡ Some (Constraint code.Initialiser, 13)
+unfolding first outcome
+row_239 = refl
+
+row_240 : first (codes "char a[2][2] = { [1] = \"abc\" };") ≡ Some (Constraint code.Initialiser, 10)
+unfolding first outcome
+row_240 = refl
+
+row_241 : first (codes "char a[2][2] = { [1] = { \"abc\" } };") ≡ Some (Constraint code.Initialiser, 15)
+unfolding first outcome
+row_241 = refl
+
+row_242 : first (codes "char a[2][2] = { [1] = \"\\400\" };") ≡ Some (Constraint code.IntegerRange, 14)
+unfolding first outcome
+row_242 = refl
+
+row_243 : first (codes "struct s; int f(struct s *p) { return (*p)->x; }") ≡ Some (Constraint code.Incomplete, 13)
+unfolding first outcome
+row_243 = refl

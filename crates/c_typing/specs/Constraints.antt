@@ -3,6 +3,7 @@ use Rattle.std.specs.Prelude.{ℕ, suc, Bool, true, false, not, ◌&&◌, ◌||�
 use Rattle.std.specs.Option.{option_and_then}
 use Rattle.cil_base.specs.declared.faults.Code.{Code}
 use Rattle.cil_base.specs.declared.faults.Code.TheVariants.{IntegerRange, Undeclared, Label, Redeclared, Conflict, Specifiers, Tag, Incomplete, FunctionType, ArraySize, NotConstant, EnumRange, Assertion, Initialiser, NotLvalue, NotModifiable, Operand as OperandCode, Assignment, Member as MemberCode, Call, Cast, Return, Outside, Case, Condition, Reserved, Restrict, Register, Defined}
+use Rattle.cil_base.specs.declared.operators.BinOp.TheVariants.{Add}
 use Rattle.cil_base.specs.declared.operators.UnOp.{UnOp}
 use Rattle.cil_base.specs.declared.operators.UnOp.TheVariants.{Neg, Compl, Not}
 use Rattle.type_graph.specs.Shapes.{Shape, Shapes, NoTypes, MoreTypes}
@@ -10,7 +11,7 @@ use Rattle.typed_tree.specs.Tree.{shape_in}
 use Rattle.typed_tree.specs.Places.{is_place}
 use Rattle.c_typing.specs.Types.{Types, pointee, is_void, is_function, is_object, is_scalar, complete, any_of}
 use Rattle.c_typing.specs.Conversions.{Operand, shape_of, kind_of, assignable, is_unreadable, is_lvalue}
-use Rattle.c_typing.specs.Operators.{binary_sides, subscript_sides, compound_sides, step_shape, branch_shape, points_to_incomplete, steps_over_incomplete, is_additive, is_modifiable}
+use Rattle.c_typing.specs.Operators.{binary_sides, subscript_sides, compound_sides, step_shape, branch_shape, points_to_incomplete, steps_over_incomplete, is_modifiable}
 use Rattle.c_typing.specs.Nodes.{Node, NameNode, ConstantNode, IndexNode, CallNode, MemberNode, ArrowNode, StepNode, AddressNode, IndirectNode, PlusNode, UnaryNode, BinaryNode, LogicalNode, ConditionalNode, AssignNode, ComputeNode, CommaNode, CastNode, SizeofNode, AlignofNode, TestNode, SwitchNode, ValueNode, ConvertNode, Callee, callee_of}
 
 -- 1: a constant has no type of its list (6.4.4p2), or an escape is above the greatest byte (6.4.4.4p9)
@@ -38,7 +39,7 @@ has_no_size t s = is_object s && not (complete t s)
 abbrev pub is_incomplete : Types → Node → Bool
 is_incomplete t (NameNode found) = false
 is_incomplete t (ConstantNode made) = false
-is_incomplete t (IndexNode a b) = is_unreadable t a || (is_unreadable t b || (is_some (subscript_sides t a b) && (points_to_incomplete t (pointee (shape_of a)) || points_to_incomplete t (pointee (shape_of b)))))
+is_incomplete t (IndexNode a b) = is_unreadable t a || (is_unreadable t b || steps_over_incomplete t Add a b)
 is_incomplete t (CallNode f xs) = is_unreadable t f || (any_of (is_unreadable t) xs || has_incomplete_result t (callee_of f))
 is_incomplete t (MemberNode x path) = false
 is_incomplete t (ArrowNode x path) = is_unreadable t x
@@ -51,7 +52,7 @@ is_incomplete t (BinaryNode op a b) = is_unreadable t a || (is_unreadable t b ||
 is_incomplete t (LogicalNode op a b) = is_unreadable t a || is_unreadable t b
 is_incomplete t (ConditionalNode c a b) = is_unreadable t c || (is_unreadable t a || is_unreadable t b)
 is_incomplete t (AssignNode a b) = is_unreadable t b
-is_incomplete t (ComputeNode op a b) = is_unreadable t b || (is_additive op && (is_some (compound_sides t op a b) && points_to_incomplete t (pointee (shape_of a))))
+is_incomplete t (ComputeNode op a b) = is_unreadable t b || steps_over_incomplete t op a b
 is_incomplete t (CommaNode a b) = is_unreadable t a || is_unreadable t b
 is_incomplete t (CastNode to x) = is_unreadable t x
 is_incomplete t (SizeofNode s) = has_no_size t s

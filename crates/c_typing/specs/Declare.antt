@@ -255,7 +255,7 @@ no_initialiser (Some i) = refuses_if true code.Initialiser (init_at i)
 -- an initialiser, and the type that the object has behind it (6.7.9p22)
 abbrev pub initialised_by : Bool → ℕ → CType → InitTree → Walk (CType × Inits)
 initialised_by static at c i = do
-  f ← initialise static false (init_at i) (whole_part c) (beginning c) i
+  f ← initialise static (whole_part c) (beginning c) i
   c' ← filled at (init_at i) c f
   pure (c', inits f.steps)
 

@@ -1,5 +1,5 @@
 -- Definition: translation units (C11 6.9): functions, tentative definitions at the unit's end, and the first fault of a unit in the order of the walk.
-use Rattle.std.specs.Prelude.{ℕ, suc, Bool, true, false, not, ◌&&◌, nat_lt, List, [], ◌∷◌, Option, Some, None, length, map, codes, is_some, if◌then◌else◌}
+use Rattle.std.specs.Prelude.{ℕ, suc, Bool, true, false, not, ◌&&◌, nat_lt, nat_le, List, [], ◌∷◌, Option, Some, None, length, map, codes, is_some, if◌then◌else◌}
 use Rattle.std.specs.Str.{bytes_eq}
 use Rattle.cil_base.specs.declared.kinds.Abi.{Abi}
 use Rattle.cil_base.specs.declared.kinds.IntKind.TheVariants.{Int as int}
@@ -7,6 +7,7 @@ use Rattle.cil_base.specs.declared.numbers.NameId.{NameId}
 use Rattle.cil_base.specs.declared.faults.Fault.{Fault}
 use Rattle.cil_base.specs.declared.faults.Code.{Code}
 use Rattle.cil_base.specs.declared.faults.Code.TheVariants as code
+use Rattle.cil_base.specs.declared.faults.What.TheVariants as limit
 use Rattle.cil_base.specs.Integer.{ulong_of}
 use Rattle.type_graph.specs.Shapes.{Shape, VoidType, IntType, PtrType, ArrayType, FuncType, NoTypes, MoreTypes}
 use Rattle.typed_tree.specs.Statements.{Stmt}
@@ -15,9 +16,9 @@ use Rattle.c_tree.specs.Syntax.{SpecifierTrees, DeclaratorTree, Declared, Absent
 use Rattle.c_tree.specs.Units.{BlockItems, ExternalTree, Definition as FunctionDefinition, External as ExternalDeclaration, UnitTree}
 use Rattle.c_typing.specs.Types.{CType, Types, plain, unqualified, is_function, complete}
 use Rattle.c_typing.specs.Specifiers.{AtFile, Defining, class_of, is_inline}
-use Rattle.c_typing.specs.Scopes.{External, Internal, Static, Entity, Scope, Env, Found, Good, Bad, Walk, ◌>>=◌, pure, asks, changes, refuses_if, types_of, left, changes_entity, empty_scope}
+use Rattle.c_typing.specs.Scopes.{External, Internal, Static, Entity, Scope, Env, Found, Good, Bad, Walk, ◌>>=◌, pure, asks, changes, refuses_if, exceeds_if, types_of, left, changes_entity, empty_scope}
 use Rattle.c_typing.specs.Declarators.{Derivation, FunctionOf, declared_in, place_in, is_bare, built, last_of}
-use Rattle.c_typing.specs.Steps.{base_with}
+use Rattle.c_typing.specs.Steps.{base_with, greatest_locals}
 use Rattle.c_typing.specs.Walk.{named, derived}
 use Rattle.c_typing.specs.Declare.{AFunction, head_of, links, inherited, function_linkage, same_linkage}
 use Rattle.c_typing.specs.Statements.{declaration, items, in_sequence, labels_in_items, gotos_in_items, refuses_lost}
@@ -34,13 +35,14 @@ own_parameters (Array at d b) = own_parameters d
 own_parameters (Function at d ps variadic) = if is_bare d then ps else own_parameters d
 own_parameters (Unprototyped at d names) = own_parameters d
 
--- the parameters of a function definition have complete types (6.7.6.3p4)
-abbrev pub refuses_incomplete : Types → ParameterTrees → List Local → Walk (Unit {0})
-refuses_incomplete t NoParameters ls = pure tt
-refuses_incomplete t (MoreParameters p ps) [] = pure tt
-refuses_incomplete t (MoreParameters (Parameter ss d) ps) (l ∷ ls) = do
+-- the parameters of a function definition, with n before them, have complete types (6.7.6.3p4), and are not too many (own)
+abbrev pub refuses_parameters : Types → ℕ → ParameterTrees → List Local → Walk (Unit {0})
+refuses_parameters t n NoParameters ls = pure tt
+refuses_parameters t n (MoreParameters p ps) [] = pure tt
+refuses_parameters t n (MoreParameters (Parameter ss d) ps) (l ∷ ls) = do
   _ ← refuses_if (not (complete t l.shape)) code.Incomplete (place_in ss d)
-  refuses_incomplete t ps ls
+  _ ← exceeds_if (nat_le greatest_locals n) limit.Locals (place_in ss d)
+  refuses_parameters t (suc n) ps ls
 
 abbrev pub prototype_scope : Option Derivation → Scope
 prototype_scope (Some (FunctionOf p)) = p.scope
@@ -69,7 +71,7 @@ abbrev pub walks_body : ℕ → Shape → Option Derivation → ParameterTrees �
 walks_body n result d ps body = do
   t ← types_of
   _ ← enters_function d
-  _ ← refuses_incomplete t ps (prototype_locals d)
+  _ ← refuses_parameters t 0 ps (prototype_locals d)
   ss ← items (record { result = result; labels = labels_in_items body; in_loop = false; in_breakable = false }) body
   _ ← refuses_lost (labels_in_items body) (gotos_in_items body)
   f ← asks (typed_function (length (prototype_locals d)) body ss)

@@ -1,5 +1,5 @@
 -- Definition: the types to which the operands of an operator go, and that of its result (C11 6.5), none where its constraint excludes the operands.
-use Rattle.std.specs.Prelude.{Bool, true, false, not, ◌&&◌, ◌||◌, Option, Some, None, is_some, if◌then◌else◌}
+use Rattle.std.specs.Prelude.{Bool, true, false, not, ◌&&◌, ◌||◌, Option, Some, None, if◌then◌else◌}
 use Rattle.std.specs.Option.{option_map}
 use Rattle.cil_base.specs.declared.kinds.IntKind.{IntKind}
 use Rattle.cil_base.specs.declared.kinds.IntKind.TheVariants.{Int as int}
@@ -117,15 +117,16 @@ abbrev pub points_to_incomplete : Types → Option CType → Bool
 points_to_incomplete t None = false
 points_to_incomplete t (Some p) = is_object p.shape && not (complete t p.shape)
 
--- an additive operator
-abbrev pub is_additive : BinOp → Bool
-is_additive Add = true
-is_additive Sub = true
-is_additive _ = false
-
--- pointer arithmetic over an incomplete object type (6.5.6p2, p3): of operands that the operator takes
+-- pointer arithmetic over an incomplete object type: a pointer and an integer that are added, an integer that is subtracted from a pointer (6.5.6p2, p3), and two pointers of which one is subtracted from the other, whether or not they point to compatible types
 abbrev pub steps_over_incomplete : Types → BinOp → Operand → Operand → Bool
-steps_over_incomplete t op a b = is_additive op && (is_some (binary_sides t op a b) && (points_to_incomplete t (pointee (shape_of a)) || points_to_incomplete t (pointee (shape_of b))))
+steps_over_incomplete t op a b = by op (kind_of t a) (kind_of t b) (pointee (shape_of a)) (pointee (shape_of b))
+  where
+    by : BinOp → Option IntKind → Option IntKind → Option CType → Option CType → Bool
+    by Add None (Some j) p q = points_to_incomplete t p
+    by Add (Some k) None p q = points_to_incomplete t q
+    by Sub None (Some j) p q = points_to_incomplete t p
+    by Sub None None (Some p) (Some q) = points_to_incomplete t (Some p) || points_to_incomplete t (Some q)
+    by _ _ _ _ _ = false
 
 -- the element that a subscript designates (6.5.2.1p1): one operand is a pointer, the other an integer
 abbrev pub subscript_sides : Types → Operand → Operand → Option Sides

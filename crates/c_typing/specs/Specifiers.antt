@@ -188,9 +188,8 @@ with_quals q p s = record { quals = joined q p; shape = s }
 abbrev pub qualified : Quals → CType → CType
 qualified q c = with_quals q c.quals c.shape
 
--- `restrict` stands on a pointer to an object type, or on an array of such (6.7.3p2, p9)
+-- `restrict` stands on a pointer to an object type (6.7.3p2), and on no array of such (own, where p9 would give it to the elements)
 abbrev pub takes_restrict : Shape → Bool
-takes_restrict (ArrayType q s bound) = takes_restrict s
 takes_restrict (PtrType q s) = is_object s
 takes_restrict _ = false
 

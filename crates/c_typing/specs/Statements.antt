@@ -1,23 +1,24 @@
 -- Definition: the walk over declarations and statements (C11 6.7, 6.8) in the order of the text: the typed statements that they are, and their first fault.
-use Rattle.std.specs.Prelude.{ℕ, suc, Bool, true, false, not, ◌&&◌, nat_eq, List, [], ◌∷◌, ◌++◌, Option, Some, None, length, is_some, if◌then◌else◌}
+use Rattle.std.specs.Prelude.{ℕ, ℤ, suc, Bool, true, false, not, ◌&&◌, nat_eq, List, [], ◌∷◌, ◌++◌, Option, Some, None, length, is_some, if◌then◌else◌}
 use Rattle.std.specs.Ordering.{int_eq}
 use Rattle.cil_base.specs.declared.kinds.IntKind.{IntKind}
 use Rattle.cil_base.specs.declared.kinds.IntKind.TheVariants.{Int as int}
 use Rattle.cil_base.specs.declared.numbers.NameId.{NameId}
 use Rattle.cil_base.specs.declared.faults.Code.TheVariants as code
-use Rattle.type_graph.specs.Shapes.{Shape, IntType}
+use Rattle.cil_base.specs.Integer.{wrapped}
+use Rattle.type_graph.specs.Shapes.{Shape}
 use Rattle.typed_tree.specs.Tree.{Typed, shape_in}
 use Rattle.typed_tree.specs.Statements.{Stmt, Stmts, Done, Seq, Expr, Block, Label, Goto as Jump, Break as Leave, Continue as Next, Return as Give, Default as Otherwise, Case as When, If as Choose, Switch as Select, While as Repeat, Do as RepeatBehind, For as Iterate}
 use Rattle.c_tree.specs.Syntax.{ExprTree, SpecifierTrees, DeclaratorTree, InitTree}
 use Rattle.c_tree.specs.Units.{DeclarationTree, Declares, Asserts, ForStart, StartExpr, StartDeclaration, StmtTree, Labelled, Case, Default, Compound, Expression, If, IfElse, Switch, While, Do, For, Goto, Continue, Break, Return, BlockItem, Declaring, Doing, BlockItems, NoItems, MoreItems}
 use Rattle.c_typing.specs.Types.{Types, any_of, is_void, kind_in, same_name}
-use Rattle.c_typing.specs.Conversions.{Operand, value_as}
+use Rattle.c_typing.specs.Conversions.{Operand, value_of}
 use Rattle.c_typing.specs.Evaluation.{integer_value}
 use Rattle.c_typing.specs.Specifiers.{Position, InBlock, InFor, count_specifiers}
 use Rattle.c_typing.specs.Nodes.{TestNode, SwitchNode, ValueNode, ConvertNode}
 use Rattle.c_typing.specs.Scopes.{Env, Cases, Walk, ◌>>=◌, pure, asks, changes, refuses_if, required, types_of, scoped}
 use Rattle.c_typing.specs.Declarators.{at_of, declared_in, place_in, built}
-use Rattle.c_typing.specs.Steps.{at_node, by_node, base_with, known_integer, asserted, refuses_reserved, Base}
+use Rattle.c_typing.specs.Steps.{at_node, by_node, base_with, asserted, refuses_reserved, Base}
 use Rattle.c_typing.specs.Walk.{expr, named, derived}
 use Rattle.c_typing.specs.Declare.{declares}
 
@@ -54,8 +55,7 @@ declaration p (Declares at ss xs) = do
   declarators ss b xs
 declaration p (Asserts at c message_at message) = do
   x ← expr c
-  n ← known_integer (at_of c) x
-  _ ← asserted at n message_at message
+  _ ← asserted at (at_of c) x message_at message
   pure []
 
 -- where a statement stands: the type that its function returns, the labels of the function in the order of the text, whether a loop, or a loop or a switch, is around it
@@ -182,15 +182,24 @@ own_switch at = do
 abbrev pub changes_switch : Cases → Walk (Unit {0})
 changes_switch c = changes (λ (env : Env). record env { switches = c ∷ without_first env.switches })
 
--- a case constant is converted to the promoted type of the switch (6.8.4.2p5); no two are equal (p3)
-abbrev pub case_value : ℕ → ℕ → Operand → Walk Stmt
-case_value at e_at x = do
-  c ← own_switch at
-  t ← types_of
-  v ← required (if is_some (kind_in t (shape_in x.typed)) then integer_value t (value_as (IntType c.kind) x) else None) code.NotConstant e_at
+-- the expression of a case is an integer constant expression (6.8.4.2p3, 6.6p6), also where no switch is around it
+abbrev pub case_constant : Types → Operand → Option ℤ
+case_constant t x = if is_some (kind_in t (shape_in x.typed)) then integer_value t (value_of x.typed) else None
+
+-- no two case constants of a switch are equal (6.8.4.2p3)
+abbrev pub new_case : ℕ → Cases → ℤ → Walk Stmt
+new_case at c v = do
   _ ← refuses_if (any_of (int_eq v) c.values) code.Case at
   _ ← changes_switch (record c { values = v ∷ c.values })
   pure (When c.kind v)
+
+-- a case constant is converted to the promoted type of the switch (6.8.4.2p5, 6.3.1.3)
+abbrev pub case_value : ℕ → ℕ → Operand → Walk Stmt
+case_value at e_at x = do
+  t ← types_of
+  n ← required (case_constant t x) code.NotConstant e_at
+  c ← own_switch at
+  new_case at c (wrapped c.kind n)
 
 -- at most one default (6.8.4.2p3)
 abbrev pub default_label : ℕ → Walk Stmt

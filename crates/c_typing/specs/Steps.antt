@@ -366,14 +366,15 @@ known_integer at x = do
   t ← types_of
   required (integer_value t (value_of x.typed)) code.NotConstant at
 
--- a static assertion (6.7.10p2), behind its message, which is a string literal
+-- a static assertion (6.7.10p2): behind its expression and its message, which is a string literal
 abbrev pub is_zero_integer : ℤ → Bool
 is_zero_integer (pos zero) = true
 is_zero_integer _ = false
 
-abbrev pub asserted : ℕ → ℤ → ℕ → List (List ℕ) → Walk (Unit {0})
-asserted at n message_at message = do
+abbrev pub asserted : ℕ → ℕ → Operand → ℕ → List (List ℕ) → Walk (Unit {0})
+asserted at e_at x message_at message = do
   _ ← refuses_if (not (is_some (string_literal message))) code.IntegerRange message_at
+  n ← known_integer e_at x
   refuses_if (is_zero_integer n) code.Assertion at
 
 -- the members in their order, of which there is one at least (6.7.2.1p8)
@@ -435,14 +436,18 @@ abbrev pub count_locals : Env → ℕ
 count_locals env = length env.locals + length env.literals
 
 -- an object with automatic storage duration, which has the next number
-abbrev pub declares_local : NameId → ℕ → CType → Bool → Walk ℕ
-declares_local x at c register = do
-  full ← asks (λ (env : Env). nat_le greatest_locals (count_locals env))
-  _ ← exceeds_if full limit.Locals at
+abbrev pub numbers_local : NameId → CType → Bool → Walk ℕ
+numbers_local x c register = do
   n ← asks (λ (env : Env). length env.locals)
   _ ← changes (λ (env : Env). record env { locals = env.locals ++ record { name = x; quals = c.quals; shape = c.shape } ∷ [] })
   _ ← changes (with_name x (Automatic n c register))
   pure n
+
+abbrev pub declares_local : NameId → ℕ → CType → Bool → Walk ℕ
+declares_local x at c register = do
+  full ← asks (λ (env : Env). nat_le greatest_locals (count_locals env))
+  _ ← exceeds_if full limit.Locals at
+  numbers_local x c register
 
 abbrev pub is_register : SpecifierTrees → Bool
 is_register ss = elim (class_of ss) [ None ↦ false | Some c ↦ is_one c ]
@@ -451,7 +456,7 @@ is_register ss = elim (class_of ss) [ None ↦ false | Some c ↦ is_one c ]
     is_one Register = true
     is_one _ = false
 
--- a parameter is declared in the prototype's scope (6.2.1p4), an unnamed one is not
+-- a parameter is declared in the prototype's scope (6.2.1p4), an unnamed one is not; those of a function definition alone count for its limit (own)
 abbrev pub declares_parameter : SpecifierTrees → ℕ → Option (NameId × ℕ) → CType → Quals → Walk Parameters → Walk Parameters
 declares_parameter ss at None c q more = do
   _ ← refuses_if (is_void c.shape) code.Incomplete at
@@ -462,7 +467,7 @@ declares_parameter ss at (Some x) c q more = do
   _ ← refuses_if (is_some seen) code.Redeclared x.1
   _ ← refuses_if (is_void c.shape) code.Incomplete x.1
   _ ← refuses_reserved x.0 x.1
-  _ ← declares_local x.0 x.1 (adjusted q c) (is_register ss)
+  _ ← numbers_local x.0 (adjusted q c) (is_register ss)
   ps ← more
   pure (with_parameter (adjusted q c).shape true ps)
 
@@ -536,12 +541,12 @@ with_value static at p x f = do
   s ← init_step (takes_whole t p.type.shape (AValue x)) static at p x
   pure (with_whole t p s 1 f)
 
--- a literal for an array of characters (6.7.9p14)
-abbrev pub with_literal : ℕ → Part → Option (List ℕ) → Filling → Walk Filling
-with_literal at p None f = faults (Constraint code.IntegerRange) at
-with_literal at p (Some bytes) f = do
+-- a literal for an array of characters (6.7.9p14), in an item with that first token
+abbrev pub with_literal : ℕ → ℕ → Part → Option (List ℕ) → Filling → Walk Filling
+with_literal first at p None f = faults (Constraint code.IntegerRange) at
+with_literal first at p (Some bytes) f = do
   t ← types_of
-  _ ← refuses_if (not (has_room (bound_of_array p.type.shape) bytes)) code.Initialiser at
+  _ ← refuses_if (not (has_room (bound_of_array p.type.shape) bytes)) code.Initialiser first
   pure (reaching (length bytes) p (with_bytes t p (fitting (bound_of_array p.type.shape) bytes) f))
   where
     reaching : ℕ → Part → Filling → Filling

@@ -49,6 +49,11 @@ item_at NoDesignators i = init_at i
 item_at (MoreDesignators (AtIndex at e) ds) i = at
 item_at (MoreDesignators (AtMember at m) ds) i = at
 
+-- the `{` of a brace list stands before its first item
+abbrev pub brace_at : ItemTrees → ℕ
+brace_at NoItems = 0
+brace_at (MoreItems (Item ds i) is) = item_at ds i - 1
+
 -- the aggregate of the innermost brace list, in which designators begin (6.7.9p18)
 abbrev pub outermost : List Frame → Option (Part × List Frame)
 outermost [] = None
@@ -61,28 +66,46 @@ designated_index t n x = if is_array x.0.type.shape && int_le (pos 0) n then des
 abbrev pub designated_member : Types → NameId → Part × List Frame → Option (Part × List Frame)
 designated_member t m x = option_and_then (λ hops. designated_along t x.0 hops x.1) (member_path t m x.0.type.shape)
 
--- the part that an expression is for: an item descends to one that it fits, an initialiser alone does not
-abbrev pub target : Bool → ℕ → Given → Part → Filling → Walk (Part × List Frame)
-target false first g p f = pure (p, f.frames)
-target true first g p f = do
+-- the part that an item is for: the one that its designators name, else the next one (6.7.9p17)
+abbrev pub part_for : ℕ → Option (Part × List Frame) → Filling → Walk (Part × List Frame)
+part_for first (Some x) f = pure x
+part_for first None f = do
   t ← types_of
-  x ← required (down_to (nesting_of t p.type.shape) t g (p, f.frames)) code.Initialiser first
-  _ ← excludes_if (in_flexible x) feature.FlexibleInit first
-  pure x
+  required (next_part t f.frames) code.Initialiser first
 
-abbrev pub literal_for : Bool → ℕ → Part → Filling → List (List ℕ) → Walk Operand → Walk Filling
-literal_for static at p f texts walk = do
+-- an item without braces descends to a part that it fits (6.7.9p20), which is none of a flexible array (own)
+abbrev pub fitted : ℕ → Given → Part × List Frame → Walk (Part × List Frame)
+fitted first g x = do
   t ← types_of
-  if is_character_array t p.type.shape then with_literal at p (string_literal texts) f else (walk >>= (λ a. with_value static at p a f))
+  y ← required (down_to (nesting_of t x.0.type.shape) t g x) code.Initialiser first
+  _ ← excludes_if (in_flexible y) feature.FlexibleInit first
+  pure y
 
-abbrev pub single_for : Bool → Bool → ℕ → ℕ → Part → Filling → Option (List (List ℕ)) → Walk Operand → Walk Filling
-single_for static inner first at p f None walk = do
+-- a literal that is not in parentheses is the bytes of an array of characters, and an expression for another part (6.7.9p14)
+abbrev pub literal_for : Bool → ℕ → ℕ → Part → Filling → List (List ℕ) → Walk Operand → Walk Filling
+literal_for static first at p f texts walk = do
+  t ← types_of
+  if is_character_array t p.type.shape then with_literal first at p (string_literal texts) f else (walk >>= (λ a. with_value static at p a f))
+
+-- an expression for an object
+abbrev pub object_by : Bool → ℕ → Part → Filling → Option (List (List ℕ)) → Walk Operand → Walk Filling
+object_by static at p f None walk = do
   a ← walk
-  x ← target inner first (AValue a) p f
-  with_value static at x.0 a (record f { frames = x.1 })
-single_for static inner first at p f (Some texts) walk = do
-  x ← target inner first ALiteral p f
-  literal_for static at x.0 (record f { frames = x.1 }) texts walk
+  with_value static at p a f
+object_by static at p f (Some texts) walk = literal_for static at at p f texts walk
+
+-- an expression as an item: it comes before the part that it is for
+abbrev pub item_by : Bool → ℕ → ℕ → Option (Part × List Frame) → Filling → Option (List (List ℕ)) → Walk Operand → Walk Filling
+item_by static first at d f None walk = do
+  a ← walk
+  x ← part_for first d f
+  y ← fitted first (AValue a) x
+  with_value static at y.0 a (record f { frames = y.1 })
+item_by static first at d f (Some texts) walk = do
+  _ ← refuses_if (not (is_some (string_literal texts))) code.IntegerRange at
+  x ← part_for first d f
+  y ← fitted first ALiteral x
+  literal_for static first at y.0 (record f { frames = y.1 }) texts walk
 
 -- a brace list for a part: an aggregate becomes zero first, a scalar has one item (6.7.9p11, p16, p19)
 abbrev pub with_brace : Types → Part → Filling → Filling
@@ -98,7 +121,7 @@ abbrev pub braces_for : Bool → Part → Filling → Option (ℕ × List (List 
 braces_for static p f None walk = braced p f walk
 braces_for static p f (Some x) walk = do
   t ← types_of
-  if is_character_array t p.type.shape then with_literal x.0 p (string_literal x.1) f else braced p f walk
+  if is_character_array t p.type.shape then with_literal x.0 x.0 p (string_literal x.1) f else braced p f walk
 
 -- compound literals (6.5.2.5p5): an object without a name, of the function, or with static storage duration outside functions
 
@@ -131,7 +154,7 @@ literal_object false at c f = do
   n ← number_of_literal evaluated at c
   pure (operand (place c (any_of step_acts f.steps) (LiteralObject n (inits f.steps))))
 
--- an initialiser that is done: not too many scalars (own), and a type that is not too big
+-- an initialiser that is done: not too many scalars, at its first token, and a type that is not too big, at that of what is declared (own)
 abbrev pub filled : ℕ → ℕ → CType → Filling → Walk CType
 filled at init c f = do
   t ← types_of
@@ -139,9 +162,9 @@ filled at init c f = do
   _ ← exceeds_if (is_too_big t (completed f.reach c).shape) limit.ObjectSize at
   pure (completed f.reach c)
 
-abbrev pub compound_literal : Bool → ℕ → CType → Filling → Walk Operand
-compound_literal static at c f = do
-  c' ← filled at at c f
+abbrev pub compound_literal : Bool → ℕ → ℕ → CType → Filling → Walk Operand
+compound_literal static at init c f = do
+  c' ← filled at init c f
   literal_object static at c' f
 
 abbrev mutual
@@ -177,7 +200,7 @@ abbrev mutual
     t ← types_of
     _ ← refuses_if (not (may_be_initialised t c)) code.Incomplete at
     f ← braces_for static (whole_part c) (beginning c) (alone items) (λ g. items_in static items g)
-    compound_literal static at c f
+    compound_literal static at (brace_at items) c f
   expr (Prefix at op e) = do
     a ← expr e
     at_node (by_operand at (at_of e)) (StepNode (prefix_form op) a)
@@ -188,10 +211,10 @@ abbrev mutual
     a ← unevaluated (expr e)
     at_node (by_sized at (at_of e)) (SizeofNode (shape_in a.typed))
   expr (SizeofType at ss d) = do
-    c ← type_with ss d (base_with NoStorage ss (named false ss)) (derived false d)
+    c ← unevaluated (type_with ss d (base_with NoStorage ss (named false ss)) (derived false d))
     at_node (by_sized at (at_of_specifiers ss)) (SizeofNode c.shape)
   expr (AlignofType at ss d) = do
-    c ← type_with ss d (base_with NoStorage ss (named false ss)) (derived false d)
+    c ← unevaluated (type_with ss d (base_with NoStorage ss (named false ss)) (derived false d))
     at_node (by_sized at (at_of_specifiers ss)) (AlignofNode c.shape)
   expr (Cast at ss d e) = do
     c ← type_with ss d (base_with NoStorage ss (named false ss)) (derived false d)
@@ -265,8 +288,7 @@ abbrev mutual
     member_declarators k end ss x b' ds
   member k end b (MemberAssert at c message_at message) = do
     x ← expr c
-    n ← known_integer (at_of c) x
-    _ ← asserted at n message_at message
+    _ ← asserted at (at_of c) x message_at message
     pure b
 
   member_declarators : AggKind → Bool → SpecifierTrees → Base → Body → MemberDeclaratorTrees → Walk Body
@@ -275,14 +297,15 @@ abbrev mutual
     b' ← member_declarator k (end && is_no_line ds) ss x b d
     member_declarators k end ss x b' ds
 
-  -- a bit-field is excluded at its colon (own)
+  -- a bit-field is excluded at its colon, behind its declarator (own)
   member_declarator : AggKind → Bool → SpecifierTrees → Base → Body → MemberDeclaratorTree → Walk Body
   member_declarator k last ss x b (Plain d) = do
     ds ← derived false d
     c ← built (place_in ss d) ds x.type
     names_member k last (declared_in d) c b
   member_declarator k last ss x b (BitField d width) = do
-    _ ← derived false d
+    ds ← derived false d
+    _ ← built (place_in ss d) ds x.type
     faults (Excluded feature.BitField) (at_of width - 1)
 
   -- enumerators (6.7.2.2)
@@ -348,31 +371,35 @@ abbrev mutual
     ds ← derived true d
     one_parameter (first && is_last ps) ss d b ds (parameters false ps)
 
-  -- an initialiser for a part of the object (6.7.9): an expression or a brace list. `inner` where it is an item of a list, whose first token is `first`
-  pub initialise : Bool → Bool → ℕ → Part → Filling → InitTree → Walk Filling
-  initialise static inner first p f (Single e) = single_for static inner first (at_of e) p f (literal_in e) (expr e)
-  initialise static inner first p f (Braces at is comma) = braces_for static p f (alone is) (λ g. items_in static is g)
+  -- an initialiser for an object (6.7.9): an expression or a brace list
+  pub initialise : Bool → Part → Filling → InitTree → Walk Filling
+  initialise static p f (Single e) = object_by static (at_of e) p f (literal_in e) (expr e)
+  initialise static p f (Braces at is comma) = braces_for static p f (alone is) (λ g. items_in static is g)
 
   -- the items of a brace list, each for the next part or for the one that it designates (6.7.9p17)
   items_in : Bool → ItemTrees → Filling → Walk Filling
   items_in static NoItems f = pure f
   items_in static (MoreItems (Item ds i) is) f = do
-    x ← part_for ds (item_at ds i) f
-    _ ← excludes_if (in_flexible x) feature.FlexibleInit (item_at ds i)
-    g ← initialise static true (item_at ds i) x.0 (record f { frames = x.1 }) i
+    d ← designation (item_at ds i) f ds
+    g ← item static (item_at ds i) d f i
     items_in static is g
 
-  -- the part that an item is for
-  part_for : DesignatorTrees → ℕ → Filling → Walk (Part × List Frame)
-  part_for NoDesignators at f = do
-    t ← types_of
-    required (next_part t f.frames) code.Initialiser at
-  part_for (MoreDesignators d ds) at f = do
+  -- an item, with its first token and the part that its designators name
+  item : Bool → ℕ → Option (Part × List Frame) → Filling → InitTree → Walk Filling
+  item static first d f (Single e) = item_by static first (at_of e) d f (literal_in e) (expr e)
+  item static first d f (Braces at is comma) = do
+    x ← part_for first d f
+    _ ← excludes_if (in_flexible x) feature.FlexibleInit first
+    braces_for static x.0 (record f { frames = x.1 }) (alone is) (λ g. items_in static is g)
+
+  designation : ℕ → Filling → DesignatorTrees → Walk (Option (Part × List Frame))
+  designation at f NoDesignators = pure None
+  designation at f (MoreDesignators d ds) = do
     x ← designator at (outermost f.frames) d
     designators at x ds
 
-  designators : ℕ → Option (Part × List Frame) → DesignatorTrees → Walk (Part × List Frame)
-  designators at x NoDesignators = required x code.Initialiser at
+  designators : ℕ → Option (Part × List Frame) → DesignatorTrees → Walk (Option (Part × List Frame))
+  designators at x NoDesignators = pure x
   designators at x (MoreDesignators d ds) = do
     y ← designator at x d
     designators at y ds
