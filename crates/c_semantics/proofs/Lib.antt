@@ -1,5 +1,4 @@
 mod Rows
-mod Several
 mod Tentative
 mod Words
 pub mod Matched

@@ -9,3 +9,4 @@ pub mod Common
 pub mod Units
 pub mod Laws
 pub mod Text
+pub mod Programs

@@ -2,7 +2,6 @@
 use Rattle.std.specs.Prelude.{ℕ, suc, true, false, List, [], ◌∷◌, Option, Some, None, map, codes}
 use Rattle.std.specs.Option.{option_map, option_and_then}
 use Rattle.cil_base.specs.declared.kinds.Abi.{Abi}
-use Rattle.cil_base.specs.declared.kinds.Abi.TheVariants.{Lp64}
 use Rattle.cil_base.specs.declared.kinds.Mode.{Mode}
 use Rattle.cil_base.specs.declared.runs.Outcome.{Outcome}
 use Rattle.c_tree.specs.Units.{UnitTree}
@@ -47,8 +46,3 @@ runs_with abi texts words bytes n = runs_in (record { common = false; abi = abi 
 unfoldable pub runs_in_common : Abi → List (List ℕ) → ℕ → Option Outcome
 unfolding runs_in
 runs_in_common abi texts n = runs_in (record { common = true; abi = abi }) texts [] [] n
-
--- one unit without words and input
-unfoldable pub runs : List ℕ → ℕ → Option Outcome
-unfolding runs_with
-runs text n = runs_with Lp64 (text ∷ []) [] [] n

@@ -2,7 +2,6 @@
 use Rattle.std.specs.Prelude.{ℕ, false, List, [], ◌∷◌, Option, codes}
 use Rattle.std.specs.Option.{option_map}
 use Rattle.cil_base.specs.declared.kinds.Abi.{Abi}
-use Rattle.cil_base.specs.declared.kinds.Abi.TheVariants.{Lp64}
 use Rattle.cil_base.specs.declared.runs.Outcome.{Outcome}
 use Rattle.c_tree.specs.Units.{UnitTree}
 use Rattle.c_semantics.specs.Text.{parsed_all}
@@ -15,7 +14,3 @@ ran abi words bytes n x = RunTyped (typed_units x.1 abi x.0) (record { common = 
 unfoldable pub runs_with : Abi → List (List ℕ) → List (List ℕ) → List ℕ → ℕ → Option Outcome
 unfolding parsed_all
 runs_with abi texts words bytes n = option_map (ran abi words bytes n) (parsed_all 0 (codes "a.c" ∷ []) texts)
-
-unfoldable pub runs : List ℕ → ℕ → Option Outcome
-unfolding runs_with
-runs text n = runs_with Lp64 (text ∷ []) [] [] n
