@@ -981,3 +981,15 @@ row_242 = refl
 row_243 : first (codes "struct s; int f(struct s *p) { return (*p)->x; }") ≡ Some (Constraint code.Incomplete, 13)
 unfolding first outcome
 row_243 = refl
+
+row_244 : first (codes "int a[2] = { [0][1] = 1 };") ≡ Some (Constraint code.Initialiser, 10)
+unfolding first outcome
+row_244 = refl
+
+row_245 : first (codes "struct s { int a; } x = { .a.b = 1 };") ≡ Some (Constraint code.Initialiser, 12)
+unfolding first outcome
+row_245 = refl
+
+row_246 : first (codes "struct s { int a[2]; } x = { .a[1][0] = 1 };") ≡ Some (Constraint code.Initialiser, 18)
+unfolding first outcome
+row_246 = refl

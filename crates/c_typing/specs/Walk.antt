@@ -380,7 +380,7 @@ abbrev mutual
   items_in : Bool → ItemTrees → Filling → Walk Filling
   items_in static NoItems f = pure f
   items_in static (MoreItems (Item ds i) is) f = do
-    d ← designation (item_at ds i) f ds
+    d ← designation f ds
     g ← item static (item_at ds i) d f i
     items_in static is g
 
@@ -392,27 +392,27 @@ abbrev mutual
     _ ← excludes_if (in_flexible x) feature.FlexibleInit first
     braces_for static x.0 (record f { frames = x.1 }) (alone is) (λ g. items_in static is g)
 
-  designation : ℕ → Filling → DesignatorTrees → Walk (Option (Part × List Frame))
-  designation at f NoDesignators = pure None
-  designation at f (MoreDesignators d ds) = do
-    x ← designator at (outermost f.frames) d
-    designators at x ds
+  designation : Filling → DesignatorTrees → Walk (Option (Part × List Frame))
+  designation f NoDesignators = pure None
+  designation f (MoreDesignators d ds) = do
+    x ← designator (outermost f.frames) d
+    designators x ds
 
-  designators : ℕ → Option (Part × List Frame) → DesignatorTrees → Walk (Option (Part × List Frame))
-  designators at x NoDesignators = pure x
-  designators at x (MoreDesignators d ds) = do
-    y ← designator at x d
-    designators at y ds
+  designators : Option (Part × List Frame) → DesignatorTrees → Walk (Option (Part × List Frame))
+  designators x NoDesignators = pure x
+  designators x (MoreDesignators d ds) = do
+    y ← designator x d
+    designators y ds
 
-  -- `[ n ]` and `. m` (6.7.9p6, p7)
-  designator : ℕ → Option (Part × List Frame) → DesignatorTree → Walk (Option (Part × List Frame))
-  designator at x (AtIndex at' e) = do
+  -- `[ n ]` and `. m` (6.7.9p6, p7), each at its own token
+  designator : Option (Part × List Frame) → DesignatorTree → Walk (Option (Part × List Frame))
+  designator x (AtIndex at e) = do
     i ← expr e
     n ← known_integer (at_of e) i
     t ← types_of
     y ← required (option_and_then (designated_index t n) x) code.Initialiser at
     pure (Some y)
-  designator at x (AtMember at' m) = do
+  designator x (AtMember at m) = do
     t ← types_of
     y ← required (option_and_then (designated_member t m) x) code.Initialiser at
     pure (Some y)
