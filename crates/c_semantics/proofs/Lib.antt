@@ -1,5 +1,4 @@
 mod Rows
-mod Tentative
 mod Words
 pub mod Matched
 pub mod Nodes

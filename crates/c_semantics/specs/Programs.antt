@@ -294,3 +294,16 @@ environments =
     -- the fill of the host
     ∷ units (codes "void *__builtin_memset(void *, int, unsigned long); int main(void) { int a[2]; __builtin_memset(a, 1, sizeof a); return a[1] == 16843009; }" ∷ []) [] [] 9 (Exit 1 [])
     ∷ []
+
+-- units of which tentative definitions are common
+abbrev pub common_definitions : List Program
+common_definitions =
+    -- a tentative definition beside another one
+    units (codes "int n = 7;" ∷ codes "int n; int main(void) { return n; }" ∷ []) [] [] 9 (Exit 7 [])
+    -- tentative definitions alone
+    ∷ units (codes "int n; void set(void) { n = 4; }" ∷ codes "int n; void set(void); int main(void) { set(); return n; }" ∷ []) [] [] 9 (Exit 4 [])
+    -- the greatest of the sizes
+    ∷ units (codes "int a[1]; int f(void) { return a[0]; }" ∷ codes "extern int a[]; int f(void); int main(void) { a[2] = 3; return a[2] + f(); }" ∷ codes "int a[3];" ∷ []) [] [] 9 (Exit 3 [])
+    -- a definition is followed by zero bytes
+    ∷ units (codes "int a[1] = { 5 };" ∷ codes "extern int a[]; int main(void) { return a[0] + a[2]; }" ∷ codes "int a[3];" ∷ []) [] [] 9 (Exit 5 [])
+    ∷ []

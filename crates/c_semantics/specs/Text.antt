@@ -41,8 +41,3 @@ runs_in mode texts words bytes n = option_map (ran mode words bytes n) (parsed_a
 unfoldable pub runs_with : Abi → List (List ℕ) → List (List ℕ) → List ℕ → ℕ → Option Outcome
 unfolding runs_in
 runs_with abi texts words bytes n = runs_in (record { common = false; abi = abi }) texts words bytes n
-
--- where tentative definitions are common
-unfoldable pub runs_in_common : Abi → List (List ℕ) → ℕ → Option Outcome
-unfolding runs_in
-runs_in_common abi texts n = runs_in (record { common = true; abi = abi }) texts [] [] n

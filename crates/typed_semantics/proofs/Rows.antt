@@ -1,8 +1,8 @@
 -- Programs have the outcomes that they are to have, as the typed units of their syntax trees.
-use Rattle.std.specs.Prelude.{◌≡◌, refl}
+use Rattle.std.specs.Prelude.{◌≡◌, refl, true}
 use Rattle.cil_base.specs.declared.kinds.Abi.TheVariants.{Lp64}
-use Rattle.c_semantics.specs.Programs.{first_programs, turns, names_and_ends, expressions, literals_and_statics, jumps, switches, pointers_and_calls, unions_and_bytes, conversions, blocks, initialisers_and_bounds, linked_units, environments, outcomes_by, outcomes_of}
-use Rattle.typed_semantics.specs.Text.{runs_with}
+use Rattle.c_semantics.specs.Programs.{first_programs, turns, names_and_ends, expressions, literals_and_statics, jumps, switches, pointers_and_calls, unions_and_bytes, conversions, blocks, initialisers_and_bounds, linked_units, environments, common_definitions, outcomes_by, outcomes_of}
+use Rattle.typed_semantics.specs.Text.{runs_in, runs_with}
 
 first_programs_run : outcomes_by (runs_with Lp64) first_programs ≡ outcomes_of first_programs
 unfolding runs_with
@@ -59,3 +59,7 @@ linked_units_run = refl
 environments_run : outcomes_by (runs_with Lp64) environments ≡ outcomes_of environments
 unfolding runs_with
 environments_run = refl
+
+common_definitions_run : outcomes_by (runs_in (record { common = true; abi = Lp64 })) common_definitions ≡ outcomes_of common_definitions
+unfolding runs_in
+common_definitions_run = refl
