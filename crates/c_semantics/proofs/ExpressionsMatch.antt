@@ -19,7 +19,7 @@ use Rattle.c_semantics.specs.Walks.{named_type, designators}
 use Rattle.c_semantics.specs.Operations.{Object, Rest}
 use Rattle.c_semantics.specs.Expressions.{passed_shape, parameters_behind, dot_path, arrow_path, c_exp, c_arguments, c_init, c_init_items}
 use Rattle.c_semantics.proofs.Matched.{Matched, Ready, gives_matched, undefined_matched}
-use Rattle.c_semantics.proofs.Nodes.{tested_m, logical_m, unit_object_m, of_number_m, of_name_m, of_index_m, of_call_m, of_arguments_m, of_member_m, of_arrow_m, of_cast_m, of_binary_m, of_conditional_m, of_comma_m, of_unary_m, of_assign_m, of_step_m, of_literal_m, of_value_m, of_lone_m, then_rest_m}
+use Rattle.c_semantics.proofs.Nodes.{tested_m, logical_m, unit_object_m, of_number_m, measured_m, of_name_m, of_index_m, of_call_m, of_arguments_m, of_member_m, of_arrow_m, of_cast_m, of_binary_m, of_conditional_m, of_comma_m, of_unary_m, of_assign_m, of_step_m, of_literal_m, of_value_m, of_lone_m, then_rest_m}
 
 -- what is found by a walk is found on both sides
 pub found_m : {A B : Type 0} {n more : ℕ} {base : List ℕ} (count : A → ℕ) (h : Here) {f g : A → Here → State → Result B} → ((a : A) (k : Here) → Matched n more base (f a k) (g a k)) → (r : Found (A × Env))
@@ -57,12 +57,12 @@ mutual
   exp_m a r (Member at e m) h = operand_m (expr e) h (λ x k. of_member_m a k.arrays (dot_path k.env.types m x) (exp_m a r e h))
   exp_m a r (Arrow at e m) h = operand_m (expr e) h (λ x k. of_arrow_m a k.arrays (arrow_path k.env.types m x) x (exp_m a r e h))
   exp_m a r (Postfix at e op) h = operand_m (expr e) h (λ x k. of_step_m a k.env.types (postfix_form op) x (exp_m a r e h))
-  exp_m a r (CompoundLiteral at ss d items comma) h = parts_m (named_type ss d) h (λ c k. operand_m (expr (CompoundLiteral at ss d items comma)) h (λ x j. of_literal_m a x k (λ o q. items_m a r o items q)))
+  exp_m a r (CompoundLiteral at ss d items comma) h = parts_m (named_type ss d) h (λ c k. operand_m (expr (CompoundLiteral at ss d items comma)) h (λ x j. of_literal_m a x.typed k (λ o q. items_m a r o items q)))
   exp_m a r (Prefix at op e) h = operand_m (expr e) h (λ x k. of_step_m a k.env.types (prefix_form op) x (exp_m a r e h))
   exp_m a r (Unary at op e) h = operand_m (expr e) h (λ x k. of_unary_m a k.env.types op x (exp_m a r e h))
-  exp_m a r (SizeofExpr at e) h = operand_m (unevaluated (expr e)) h (λ x k. of_number_m (option_map pos (size_in k.env.types (shape_in x.typed))))
-  exp_m a r (SizeofType at ss d) h = parts_m (named_type ss d) h (λ c k. of_number_m (option_map pos (size_in k.env.types c.shape)))
-  exp_m a r (AlignofType at ss d) h = parts_m (named_type ss d) h (λ c k. of_number_m (option_map pos (alignment_in k.env.types c.shape)))
+  exp_m a r (SizeofExpr at e) h = operand_m (unevaluated (expr e)) h (λ x k. measured_m (size_in k.env.types (shape_in x.typed)))
+  exp_m a r (SizeofType at ss d) h = parts_m (unevaluated (named_type ss d)) h (λ c k. measured_m (size_in k.env.types c.shape))
+  exp_m a r (AlignofType at ss d) h = parts_m (unevaluated (named_type ss d)) h (λ c k. measured_m (alignment_in k.env.types c.shape))
   exp_m a r (Cast at ss d e) h = parts_m (named_type ss d) h (λ c k. operand_m (expr e) k (λ x j. of_cast_m a c.shape x (exp_m a r e k)))
   exp_m a r (Binary at op e f) h = operand_m (expr e) h (λ x k. operand_m (expr f) k (λ y j. of_binary_m a j.env.types op x y (exp_m a r e h) (exp_m a r f k)))
   exp_m a r (Logical at op e f) h = operand_m (expr e) h (λ x k. operand_m (expr f) k (λ y j. logical_m (logic_of op) (tested_m a x (exp_m a r e h)) (tested_m a y (exp_m a r f k))))

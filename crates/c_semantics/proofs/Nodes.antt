@@ -14,7 +14,7 @@ use Rattle.execution.specs.Calls.{Enter}
 use Rattle.execution.specs.Runs.{writable}
 use Rattle.typed_tree.specs.declared.expressions.Logic.{Logic}
 use Rattle.typed_tree.specs.declared.expressions.StepForm.{StepForm}
-use Rattle.typed_tree.specs.Tree.{Inits, NoInits, MoreInits, Zero, Scalar, Constant', Aggregate, Bytes}
+use Rattle.typed_tree.specs.Tree.{Typed, Has, Integer, Local, Literal, Entity, Load, Decay, Address as Addressed, Indirect, Subscript, Member, Convert, Unary, Binary, Logical, Conditional, Comma, Assign, Compute, Step, Call, Inits, NoInits, MoreInits, Zero, Scalar, Constant', Aggregate, Bytes}
 use Rattle.c_tree.specs.declared.words.UnaryOp.{UnaryOp}
 use Rattle.c_tree.specs.declared.words.UnaryOp.TheVariants.{Address, Indirection, Plus, Minus, Complement, Not as Negation}
 use Rattle.c_typing.specs.Types.{Types, Hop, is_array}
@@ -27,8 +27,8 @@ use Rattle.c_typing.specs.Scopes.{Denotes, TypedefName, EnumerationConstant, Aut
 use Rattle.cil_semantics.specs.Values.{single_in}
 use Rattle.c_semantics.specs.Values.{as_type, unary_value, binary_value, value_at, stored, zeroed, filled, part_from, object_pointer, is_const}
 use Rattle.c_semantics.specs.Places.{Activation, Here, local_of, literal_number}
-use Rattle.c_semantics.specs.Operations.{Action, Seen, At, Is, is_value, valued, placed, used, taken, pointed, tested, indirect, operated, computed, subscripted, decided, logical, chosen, array_object, member, along, assigned, compound, operator_of, result_of, stepped, called, unit_object, local_object, literal_in, Object, part_changes, initialised, Rest, zeroes, steps_of, stores_value, next_step}
-use Rattle.c_semantics.specs.Expressions.{denoted, of_number, of_name, of_index, of_call, of_arguments, of_member, of_arrow, of_cast, of_binary, of_conditional, of_comma, of_unary, of_assign, of_step, literal_object, of_literal, of_value, of_lone, then_rest}
+use Rattle.c_semantics.specs.Operations.{Action, Seen, At, Is, is_value, valued, placed, used, taken, pointed, tested, indirect, operated, computed, subscripted, decided, logical, chosen, array_object, member, along, assigned, compound, operator_of, result_of, stepped, called, unit_object, local_object, Object, literal_object, part_changes, initialised, Rest, zeroes, steps_of, stores_value, next_step}
+use Rattle.c_semantics.specs.Expressions.{denoted, of_number, measured, of_name, of_index, of_call, of_arguments, of_member, of_arrow, of_cast, of_binary, of_conditional, of_comma, of_unary, of_assign, of_step, of_literal, of_value, of_lone, then_rest}
 use Rattle.c_semantics.proofs.Matched.{Matched, Ready, gives_matched, undefined_matched, known_matched, seen_matched, memory_matched, changes_matched, bind_matched, enter_matched}
 
 pub valued_m : {n more : ℕ} {base : List ℕ} (a : Activation) (s : Shape) (x : Seen) → Matched n more base (valued a s x) (valued a s x)
@@ -89,8 +89,8 @@ along_m a i (h ∷ hs) x = bind_matched (member_m a i h x) (λ y. along_m a i hs
 pub assigned_m : {n more : ℕ} {base : List ℕ} (a : Activation) (s : Shape) (at : Value) (d : Datum) → Matched n more base (assigned a s at d) (assigned a s at d)
 assigned_m a s at d = bind_matched {A = Unit {0}} (changes_matched (stored a.types s at d)) (λ u. bind_matched {A = Datum} (seen_matched (λ m. value_at a.types m s at)) (λ e. gives_matched (Is e)))
 
-pub compound_m : {n more : ℕ} {base : List ℕ} (a : Activation) (op : BinOp) (z : Sides) (s : Shape) (at : Value) {go to : Action Datum} → Matched n more base go to → Matched n more base (compound a op z s at go) (compound a op z s at to)
-compound_m a op z s at m = bind_matched {A = Datum} (seen_matched (λ x. value_at a.types x s at)) (λ old. bind_matched {A = Datum} (known_matched (as_type a.types s z.left old)) (λ d. bind_matched {A = Datum} m (λ e. bind_matched {A = Datum} (computed_m a op z.left z.right d e) (λ x. bind_matched {A = Datum} (known_matched (as_type a.types z.result s x)) (λ y. assigned_m a s at y)))))
+pub compound_m : {n more : ℕ} {base : List ℕ} (a : Activation) (op : BinOp) (by r s : Shape) (at : Value) {go to : Action Datum} → Matched n more base go to → Matched n more base (compound a op by r s at go) (compound a op by r s at to)
+compound_m a op by r s at m = bind_matched {A = Datum} (seen_matched (λ x. value_at a.types x s at)) (λ old. bind_matched {A = Datum} (known_matched (as_type a.types s by old)) (λ d. bind_matched {A = Datum} m (λ e. bind_matched {A = Datum} (computed_m a op by r d e) (λ x. bind_matched {A = Datum} (known_matched (as_type a.types by s x)) (λ y. assigned_m a s at y)))))
 
 pub stepped_m : {n more : ℕ} {base : List ℕ} (a : Activation) (form : StepForm) (by s : Shape) (at : Value) → Matched n more base (stepped a form by s at) (stepped a form by s at)
 stepped_m a form by s at = bind_matched {A = Datum} (seen_matched (λ x. value_at a.types x s at)) (λ old. bind_matched {A = Datum} (known_matched (as_type a.types s by old)) (λ d. bind_matched {A = Datum} (computed_m a (operator_of form) by int_shape d (Single (Int (pos 1)))) (λ x. bind_matched {A = Datum} (known_matched (as_type a.types by s x)) (λ y. bind_matched {A = Seen} (assigned_m a s at y) (λ z. gives_matched (result_of form old z))))))
@@ -138,6 +138,10 @@ denoted_m a (Static i c) = unit_object_m a i
 pub of_number_m : {n more : ℕ} {base : List ℕ} (o : Option ℤ) → Matched n more base (of_number o) (of_number o)
 of_number_m o = bind_matched (known_matched o) (λ v. gives_matched _)
 
+pub measured_m : {n more : ℕ} {base : List ℕ} (o : Option ℕ) → Matched n more base (measured o) (measured o)
+measured_m None = gives_matched _
+measured_m (Some size) = gives_matched _
+
 pub of_name_m : {n more : ℕ} {base : List ℕ} (a : Activation) (o : Option Denotes) → Matched n more base (of_name a o) (of_name a o)
 of_name_m a o = bind_matched (known_matched o) (λ d. denoted_m a d)
 
@@ -178,13 +182,33 @@ of_unary_m a t Negation x m = bind_matched (used_m a x m) (λ d. operated_m a No
 
 pub of_assign_m : {n more : ℕ} {base : List ℕ} (a : Activation) (t : Types) (op : Option BinOp) (x y : Operand) {go to next also : Action Seen} → Matched n more base go to → Matched n more base next also → Matched n more base (of_assign a t op x y go next) (of_assign a t op x y to also)
 of_assign_m a t None x y m k = bind_matched m (λ l. bind_matched (placed_m l) (λ at. bind_matched (taken_m a y _ k) (λ d. assigned_m a _ at d)))
-of_assign_m a t (Some op) x y m k = bind_matched (known_matched _) (λ z. bind_matched m (λ l. bind_matched (placed_m l) (λ at. compound_m a op z _ at (taken_m a y _ k))))
+of_assign_m a t (Some op) x y m k = bind_matched (known_matched _) (λ z. bind_matched m (λ l. bind_matched (placed_m l) (λ at. compound_m a op z.left z.right _ at (taken_m a y _ k))))
 
 pub of_step_m : {n more : ℕ} {base : List ℕ} (a : Activation) (t : Types) (form : StepForm) (x : Operand) {go to : Action Seen} → Matched n more base go to → Matched n more base (of_step a t form x go) (of_step a t form x to)
 of_step_m a t form x m = bind_matched (known_matched _) (λ by. bind_matched m (λ y. bind_matched (placed_m y) (λ at. stepped_m a form by _ at)))
 
-pub of_literal_m : {n more : ℕ} {base : List ℕ} (a : Activation) (x : Operand) (h : Here) {go to : Object → Rest → Action Rest} → ((o : Object) (r : Rest) → Matched n more base (go o r) (to o r)) → Matched n more base (of_literal a x h go) (of_literal a x h to)
-of_literal_m a x h m = bind_matched {A = ℕ × Inits} (known_matched (literal_in x.typed)) (λ l. bind_matched {A = Unit {0}} (initialised_m (literal_object a l.0 x) (steps_of_m a (literal_object a l.0 x) l.1 h m)) (λ u. gives_matched (local_object a (literal_number a l.0))))
+pub of_literal_m : {n more : ℕ} {base : List ℕ} (a : Activation) (e : Typed) (h : Here) {go to : Object → Rest → Action Rest} → ((o : Object) (r : Rest) → Matched n more base (go o r) (to o r)) → Matched n more base (of_literal a e h go) (of_literal a e h to)
+of_literal_m a (Has q s effect (Literal n is)) h m =
+    bind_matched {A = Unit {0}} (initialised_m (literal_object a n (record { quals = q; shape = s })) (steps_of_m a (literal_object a n (record { quals = q; shape = s })) is h m)) (λ u. gives_matched _)
+of_literal_m a (Has q s effect (Entity n)) h m = unit_object_m a n
+of_literal_m a (Has q s effect (Integer n)) h m = undefined_matched
+of_literal_m a (Has q s effect (Local n)) h m = undefined_matched
+of_literal_m a (Has q s effect (Load e)) h m = undefined_matched
+of_literal_m a (Has q s effect (Decay e)) h m = undefined_matched
+of_literal_m a (Has q s effect (Addressed e)) h m = undefined_matched
+of_literal_m a (Has q s effect (Indirect e)) h m = undefined_matched
+of_literal_m a (Has q s effect (Subscript l r)) h m = undefined_matched
+of_literal_m a (Has q s effect (Member e g i)) h m = undefined_matched
+of_literal_m a (Has q s effect (Convert e)) h m = undefined_matched
+of_literal_m a (Has q s effect (Unary op e)) h m = undefined_matched
+of_literal_m a (Has q s effect (Binary op l r)) h m = undefined_matched
+of_literal_m a (Has q s effect (Logical op l r)) h m = undefined_matched
+of_literal_m a (Has q s effect (Conditional x y z)) h m = undefined_matched
+of_literal_m a (Has q s effect (Comma l r)) h m = undefined_matched
+of_literal_m a (Has q s effect (Assign l r)) h m = undefined_matched
+of_literal_m a (Has q s effect (Compute op at l r)) h m = undefined_matched
+of_literal_m a (Has q s effect (Step form at e)) h m = undefined_matched
+of_literal_m a (Has q s effect (Call f es)) h m = undefined_matched
 
 pub of_value_m : {n more : ℕ} {base : List ℕ} (a : Activation) (s : Shape) (x : Operand) (k : Here) {go to : Action Seen} → Matched n more base go to → Matched n more base (of_value a s x k go) (of_value a s x k to)
 of_value_m a s x k m = bind_matched (taken_m a x s m) (λ d. gives_matched _)

@@ -10,7 +10,7 @@ use Rattle.cil_base.specs.declared.numbers.NameId.{NameId}
 use Rattle.cil_base.specs.declared.operators.BinOp.{BinOp}
 use Rattle.cil_base.specs.declared.operators.UnOp.TheVariants.{Neg, Compl, Not}
 use Rattle.typed_tree.specs.declared.expressions.StepForm.{StepForm}
-use Rattle.typed_tree.specs.Tree.{shape_in, quals_in}
+use Rattle.typed_tree.specs.Tree.{Typed, Has, Literal, Entity, shape_in}
 use Rattle.c_tree.specs.declared.words.UnaryOp.{UnaryOp}
 use Rattle.c_tree.specs.declared.words.UnaryOp.TheVariants.{Address, Indirection, Plus, Minus, Complement, Not as Negation}
 use Rattle.c_tree.specs.Syntax.{ExprTree, Name, Integer, Character, Literals, Parentheses, Index, Call, Member, Arrow, Postfix, CompoundLiteral, Prefix, Unary, SizeofExpr, SizeofType, AlignofType, Cast, Binary, Logical, Conditional, Assign, Comma, ExprTrees, NoExprs, MoreExprs, InitTree, Single as Lone, Braces, Item, ItemTrees, NoItems, MoreItems}
@@ -23,9 +23,9 @@ use Rattle.c_typing.specs.Scopes.{Denotes, TypedefName, EnumerationConstant, Aut
 use Rattle.c_typing.specs.Steps.{logic_of, postfix_form, prefix_form}
 use Rattle.c_typing.specs.Walk.{expr, exprs}
 use Rattle.c_semantics.specs.Values.{kind_of, cast_value}
-use Rattle.c_semantics.specs.Places.{Activation, Here, local_of, literal_number, array_number, with_parts, with_operand, with_operands}
+use Rattle.c_semantics.specs.Places.{Activation, Here, literal_number, array_number, with_parts, with_operand, with_operands}
 use Rattle.c_semantics.specs.Walks.{named_type, designators}
-use Rattle.c_semantics.specs.Operations.{Action, ◌>>=◌, gives, known, Seen, Is, is_value, is_number, placed, used, taken, pointed, tested, indirect, operated, computed, subscripted, logical, chosen, along, assigned, compound, stepped, called, unit_object, local_object, literal_in, Object, initialised, Rest, zeroes, steps_of, next_step}
+use Rattle.c_semantics.specs.Operations.{Action, ◌>>=◌, gives, known, Seen, Is, is_value, is_number, placed, used, taken, pointed, tested, indirect, operated, computed, subscripted, logical, chosen, along, assigned, compound, stepped, called, unit_object, local_object, Object, literal_object, initialised, Rest, zeroes, steps_of, next_step}
 
 -- an identifier is an lvalue, a function or a constant (6.5.1p2, 6.4.4.3)
 abbrev pub denoted : Activation → Denotes → Action Seen
@@ -47,11 +47,16 @@ parameters_behind (MoreTypes p ps) = ps
 abbrev pub cast_to : Activation → Shape → Shape → Datum → Action Seen
 cast_to a from to d = known (option_map Is (elim (same_shape from to && not (is_void to)) [ true ↦ Some d | false ↦ option_map Single (cast_value a.types to d) ]))
 
--- a constant, and the result of `sizeof` and `_Alignof`
+-- a constant (6.4.4)
 abbrev pub of_number : Option ℤ → Action Seen
 of_number n = do
   v ← known n
   gives (is_number v)
+
+-- a size or an alignment (6.5.3.4p2, p3); what has none violates a constraint, and its number counts for nothing
+abbrev pub measured : Option ℕ → Action Seen
+measured None = gives (is_number (pos 0))
+measured (Some n) = gives (is_number (pos n))
 
 abbrev pub of_name : Activation → Option Denotes → Action Seen
 of_name a found = do
@@ -163,7 +168,7 @@ of_assign a t (Some op) x y left right = do
   z ← known (compound_sides t op x y)
   l ← left
   at ← placed l
-  compound a op z (shape_in x.typed) at (taken a y z.right right)
+  compound a op z.left z.right (shape_in x.typed) at (taken a y z.right right)
 
 -- ++ and -- (6.5.2.4, 6.5.3.1)
 abbrev pub of_step : Activation → Types → StepForm → Operand → Action Seen → Action Seen
@@ -173,15 +178,13 @@ of_step a t form x go = do
   at ← placed y
   stepped a form by (shape_in x.typed) at
 
--- a compound literal is an object of the block, which is initialised each time it is reached (6.5.2.5p5, p16)
-abbrev pub literal_object : Activation → ℕ → Operand → Object
-literal_object a n x = record { name = local_of a (literal_number a n); type = record { quals = quals_in x.typed; shape = shape_in x.typed } }
-
-abbrev pub of_literal : Activation → Operand → Here → (Object → Rest → Action Rest) → Action Seen
-of_literal a x h go = do
-  l ← known (literal_in x.typed)
-  _ ← initialised (literal_object a l.0 x) (steps_of a (literal_object a l.0 x) l.1 h go)
-  gives (local_object a (literal_number a l.0))
+-- a compound literal is an object of the block, which is initialised each time it is reached (6.5.2.5p5, p16); outside functions it is an object of the unit
+abbrev pub of_literal : Activation → Typed → Here → (Object → Rest → Action Rest) → Action Seen
+of_literal a (Has q s effect (Literal n is)) h go = do
+  _ ← initialised (literal_object a n (record { quals = q; shape = s })) (steps_of a (literal_object a n (record { quals = q; shape = s })) is h go)
+  gives (local_object a (literal_number a n))
+of_literal a (Has q s effect (Entity n)) h go = unit_object a n
+of_literal a (Has q s effect form) h go = λ t. Undefined t
 
 -- an expression of an initialiser, with the place behind it
 abbrev pub of_value : Activation → Shape → Operand → Here → Action Seen → Action (Datum × Here)
@@ -212,13 +215,13 @@ abbrev mutual
   c_exp a enter (Member at e m) h s = with_operand (expr e) h (λ x k. of_member a k.arrays (dot_path k.env.types m x) (c_exp a enter e h)) s
   c_exp a enter (Arrow at e m) h s = with_operand (expr e) h (λ x k. of_arrow a k.arrays (arrow_path k.env.types m x) x (c_exp a enter e h)) s
   c_exp a enter (Postfix at e op) h s = with_operand (expr e) h (λ x k. of_step a k.env.types (postfix_form op) x (c_exp a enter e h)) s
-  c_exp a enter (CompoundLiteral at ss d items comma) h s = with_parts (named_type ss d) h (λ c k. with_operand (expr (CompoundLiteral at ss d items comma)) h (λ x j. of_literal a x k (λ o. c_init_items a enter o items))) s
+  c_exp a enter (CompoundLiteral at ss d items comma) h s = with_parts (named_type ss d) h (λ c k. with_operand (expr (CompoundLiteral at ss d items comma)) h (λ x j. of_literal a x.typed k (λ o. c_init_items a enter o items))) s
   c_exp a enter (Prefix at op e) h s = with_operand (expr e) h (λ x k. of_step a k.env.types (prefix_form op) x (c_exp a enter e h)) s
   c_exp a enter (Unary at op e) h s = with_operand (expr e) h (λ x k. of_unary a k.env.types op x (c_exp a enter e h)) s
   -- the operand is not evaluated (6.5.3.4p2)
-  c_exp a enter (SizeofExpr at e) h s = with_operand (unevaluated (expr e)) h (λ x k. of_number (option_map pos (size_in k.env.types (shape_in x.typed)))) s
-  c_exp a enter (SizeofType at ss d) h s = with_parts (named_type ss d) h (λ c k. of_number (option_map pos (size_in k.env.types c.shape))) s
-  c_exp a enter (AlignofType at ss d) h s = with_parts (named_type ss d) h (λ c k. of_number (option_map pos (alignment_in k.env.types c.shape))) s
+  c_exp a enter (SizeofExpr at e) h s = with_operand (unevaluated (expr e)) h (λ x k. measured (size_in k.env.types (shape_in x.typed))) s
+  c_exp a enter (SizeofType at ss d) h s = with_parts (unevaluated (named_type ss d)) h (λ c k. measured (size_in k.env.types c.shape)) s
+  c_exp a enter (AlignofType at ss d) h s = with_parts (unevaluated (named_type ss d)) h (λ c k. measured (alignment_in k.env.types c.shape)) s
   c_exp a enter (Cast at ss d e) h s = with_parts (named_type ss d) h (λ c k. with_operand (expr e) k (λ x j. of_cast a c.shape x (c_exp a enter e k))) s
   c_exp a enter (Binary at op l r) h s = with_operand (expr l) h (λ x k. with_operand (expr r) k (λ y j. of_binary a j.env.types op x y (c_exp a enter l h) (c_exp a enter r k))) s
   c_exp a enter (Logical at op l r) h s = with_operand (expr l) h (λ x k. with_operand (expr r) k (λ y j. logical (logic_of op) (tested a x (c_exp a enter l h)) (tested a y (c_exp a enter r k)))) s

@@ -19,7 +19,7 @@ use Rattle.execution.specs.Runs.{writable}
 use Rattle.typed_tree.specs.declared.expressions.Logic.{Logic}
 use Rattle.typed_tree.specs.declared.expressions.StepForm.{StepForm}
 use Rattle.typed_tree.specs.declared.expressions.StepForm.TheVariants.{PreIncrement, PreDecrement, PostIncrement, PostDecrement}
-use Rattle.typed_tree.specs.Tree.{Typed, Has, Literal, Inits, NoInits, MoreInits, Zero, Scalar, Constant', Aggregate, Bytes, shape_in}
+use Rattle.typed_tree.specs.Tree.{Inits, NoInits, MoreInits, Zero, Scalar, Constant', Aggregate, Bytes, shape_in}
 use Rattle.c_typing.specs.Types.{CType, Hop, is_array}
 use Rattle.c_typing.specs.Conversions.{Operand, shape_of}
 use Rattle.c_typing.specs.Evaluation.{decided_by}
@@ -28,7 +28,7 @@ use Rattle.c_typing.specs.Nodes.{int_shape}
 use Rattle.c_typing.specs.Operators.{Sides}
 use Rattle.cil_semantics.specs.Values.{single_in}
 use Rattle.c_semantics.specs.Values.{kind_of, as_type, unary_value, binary_value, holds_of, value_at, member_at, member_value, member_bytes, part_from, is_const, stored, zeroed, filled, object_pointer}
-use Rattle.c_semantics.specs.Places.{Activation, Here, local_of}
+use Rattle.c_semantics.specs.Places.{Activation, Here, local_of, literal_number}
 
 infixl 10 ◌>>=◌
 -- what is done in a state
@@ -173,14 +173,14 @@ assigned a s at d = do
   e ← seen (λ m. value_at a.types m s at)
   gives (Is e)
 
--- compound assignment (6.5.16.2p3): the old value is read before the right operand is evaluated (own)
-abbrev pub compound : Activation → BinOp → Sides → Shape → Value → Action Datum → Action Seen
-compound a op z s at right = do
+-- compound assignment (6.5.16.2p3) computes in the type `by`: the old value is read before the right operand is evaluated (own)
+abbrev pub compound : Activation → BinOp → Shape → Shape → Shape → Value → Action Datum → Action Seen
+compound a op by r s at right = do
   old ← seen (λ m. value_at a.types m s at)
-  d ← known (as_type a.types s z.left old)
+  d ← known (as_type a.types s by old)
   e ← right
-  x ← computed a op z.left z.right d e
-  y ← known (as_type a.types z.result s x)
+  x ← computed a op by r d e
+  y ← known (as_type a.types by s x)
   assigned a s at y
 
 -- ++ and -- add 1 and subtract it in the type `by` (6.5.2.4p2, 6.5.3.1p2)
@@ -221,17 +221,16 @@ unit_object a n = do
 abbrev pub local_object : Activation → ℕ → Seen
 local_object a n = At (object_pointer (local_of a n) 0)
 
--- the number of a compound literal in its function, and its initialiser
-abbrev pub literal_in : Typed → Option (ℕ × Inits)
-literal_in (Has q s effect (Literal n init)) = Some (n, init)
-literal_in (Has q s effect form) = None
-
 -- initialisers (6.7.9)
 
 -- an object that is initialised
 pub record Object : Type 0 where
   pub name : ObjName
   pub type : CType
+
+-- that of a compound literal in a function (6.5.2.5p5)
+abbrev pub literal_object : Activation → ℕ → CType → Object
+literal_object a n c = record { name = local_of a (literal_number a n); type = c }
 
 -- what is done to a part of it
 abbrev pub part_changes : Activation → Object → Path → (Shape → Value → Memory → Option Memory) → Action (Unit {0})

@@ -64,7 +64,7 @@ abbrev mutual
   arrays_in_arguments NoArguments = 0
   arrays_in_arguments (MoreArguments e es) = arrays_in e + arrays_in_arguments es
 
-  arrays_in_init : Init → ℕ
+  pub arrays_in_init : Init → ℕ
   arrays_in_init (Zero p) = 0
   arrays_in_init (Scalar p e) = arrays_in e
   arrays_in_init (Constant' p c) = 0

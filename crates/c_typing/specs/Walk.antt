@@ -377,7 +377,7 @@ abbrev mutual
   initialise static p f (Braces at is comma) = braces_for static p f (alone is) (λ g. items_in static is g)
 
   -- the items of a brace list, each for the next part or for the one that it designates (6.7.9p17)
-  items_in : Bool → ItemTrees → Filling → Walk Filling
+  pub items_in : Bool → ItemTrees → Filling → Walk Filling
   items_in static NoItems f = pure f
   items_in static (MoreItems (Item ds i) is) f = do
     d ← designation f ds
@@ -385,27 +385,27 @@ abbrev mutual
     items_in static is g
 
   -- an item, with its first token and the part that its designators name
-  item : Bool → ℕ → Option (Part × List Frame) → Filling → InitTree → Walk Filling
+  pub item : Bool → ℕ → Option (Part × List Frame) → Filling → InitTree → Walk Filling
   item static first d f (Single e) = item_by static first (at_of e) d f (literal_in e) (expr e)
   item static first d f (Braces at is comma) = do
     x ← part_for first d f
     _ ← excludes_if (in_flexible x) feature.FlexibleInit first
     braces_for static x.0 (record f { frames = x.1 }) (alone is) (λ g. items_in static is g)
 
-  designation : Filling → DesignatorTrees → Walk (Option (Part × List Frame))
+  pub designation : Filling → DesignatorTrees → Walk (Option (Part × List Frame))
   designation f NoDesignators = pure None
   designation f (MoreDesignators d ds) = do
     x ← designator (outermost f.frames) d
     designators x ds
 
-  designators : Option (Part × List Frame) → DesignatorTrees → Walk (Option (Part × List Frame))
+  pub designators : Option (Part × List Frame) → DesignatorTrees → Walk (Option (Part × List Frame))
   designators x NoDesignators = pure x
   designators x (MoreDesignators d ds) = do
     y ← designator x d
     designators y ds
 
   -- `[ n ]` and `. m` (6.7.9p6, p7), each at its own token
-  designator : Option (Part × List Frame) → DesignatorTree → Walk (Option (Part × List Frame))
+  pub designator : Option (Part × List Frame) → DesignatorTree → Walk (Option (Part × List Frame))
   designator x (AtIndex at e) = do
     i ← expr e
     n ← known_integer (at_of e) i

@@ -13,8 +13,8 @@ use Rattle.typed_tree.specs.Tree.{Typed, Form, Has, Integer, Local, Literal, Ent
 use Rattle.c_typing.specs.Types.{CType, Hop}
 use Rattle.c_typing.specs.Operators.{sides}
 use Rattle.c_semantics.specs.Values.{kind_of, cast_value, holds_of}
-use Rattle.c_semantics.specs.Places.{Activation, local_of, literal_number, array_number, arrays_in}
-use Rattle.c_semantics.specs.Operations.{Action, ◌>>=◌, gives, known, seen, Seen, Is, is_value, is_number, single, valued, placed, indirect, operated, computed, subscripted, logical, chosen, member, assigned, compound, stepped, called, unit_object, local_object, Object, zero_part, fill_part, store_part, initialised}
+use Rattle.c_semantics.specs.Places.{Activation, literal_number, array_number, arrays_in}
+use Rattle.c_semantics.specs.Operations.{Action, ◌>>=◌, gives, known, seen, Seen, Is, is_value, is_number, single, valued, placed, indirect, operated, computed, subscripted, logical, chosen, member, assigned, compound, stepped, called, unit_object, local_object, Object, literal_object, zero_part, fill_part, store_part, initialised}
 
 -- the value of what an expression gives (6.3.2.1p2 to p4)
 abbrev pub value_of : Activation → Typed → Action Seen → Action Datum
@@ -105,7 +105,7 @@ abbrev pub of_compute : Activation → BinOp → Shape → Typed → Typed → A
 of_compute a op by l r left right = do
   x ← left
   at ← placed x
-  compound a op (sides by (shape_in r) by) (shape_in l) at (value_of a r right)
+  compound a op by (shape_in r) (shape_in l) at (value_of a r right)
 
 abbrev pub of_step : Activation → StepForm → Shape → Typed → Action Seen → Action Seen
 of_step a form by e go = do
@@ -135,9 +135,6 @@ stores a o p go = do
   d ← go
   store_part a o p d
 
-abbrev pub literal_object : Activation → ℕ → CType → Object
-literal_object a n c = record { name = local_of a (literal_number a n); type = c }
-
 abbrev mutual
   -- `k` arrays in values stand before the expression in its function
   pub t_exp : Activation → Enter → Typed → ℕ → State → Result Seen
@@ -165,7 +162,7 @@ abbrev mutual
   t_form a enter c (Step form at e) k st = of_step a form at e (t_exp a enter e k) st
   t_form a enter c (Call f es) k st = of_call a enter c.shape f (t_exp a enter f k) (t_arguments a enter es (k + arrays_in f)) st
 
-  t_arguments : Activation → Enter → Arguments → ℕ → State → Result (List Argument)
+  pub t_arguments : Activation → Enter → Arguments → ℕ → State → Result (List Argument)
   t_arguments a enter NoArguments k st = Goes [] st
   t_arguments a enter (MoreArguments e es) k st = of_arguments a e (t_exp a enter e k) (t_arguments a enter es (k + arrays_in e)) st
 

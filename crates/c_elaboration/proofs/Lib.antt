@@ -1,0 +1,14 @@
+pub mod Actions
+pub mod GraphTypes
+pub mod Shapes
+pub mod Operands
+pub mod Values
+pub mod Unviolated
+pub mod Forms
+pub mod Members
+pub mod Operators
+pub mod Recorded
+pub mod Initialisers
+pub mod Fillings
+pub mod Expressions
+pub mod InStatements
