@@ -1,0 +1,99 @@
+-- Device: of units that link alike, whose functions keep the order of memories, each run of the first list allows that of the second.
+use Rattle.std.proofs.Common.{◌≡◌, ℕ, zero, suc, List, [], ◌∷◌, Option, Some, None, option_map, slice_get, inl, refl, sym, subst}
+use Rattle.cil_base.specs.declared.kinds.Mode.{Mode}
+use Rattle.cil_base.specs.Outcome.{Allows}
+use Rattle.byte_mem.specs.Steps.{◌>>=◌}
+use Rattle.execution.specs.Data.{Argument}
+use Rattle.execution.specs.Calls.{Start, NotMain, WithoutWords, WithWords, Function, Meaning, Object, Code, Host, Linked, meant, calls}
+use Rattle.execution.specs.Linking.{Linkable, linked, main_entity}
+use Rattle.execution.specs.Runs.{main_arguments, main_call, code_in, start_state, result_with, outcome_in, run_linked, run}
+use Rattle.execution.specs.Likeness.{Past, Computes, LikeMeaning, LikeArguments}
+use Rattle.execution.specs.Bounds.{TameUnits}
+use Rattle.execution.proofs.LinkLaws.{linked_tame}
+use Rattle.execution.proofs.Ordered.{BelowRun, ordered, OrderedCalls, OrderedFunctions, calls_ordered, ordered_allows}
+use Rattle.simulation_laws.specs.Changes.{itself}
+use Rattle.simulation_laws.specs.Starts.{AlikeOption, AlikeUnits, AlikeLinked, StartAlike}
+use Rattle.simulation_laws.proofs.StartsAlike.{starts_alike}
+
+-- functions that keep the order, and begin a program alike
+pub record KeepsRuns (f g : Function) : Type 0 where
+  pub keeps : OrderedFunctions itself f g
+  pub start : g.start ≡ f.start
+
+like_keeps : (m n : Meaning) → LikeMeaning KeepsRuns m n → LikeMeaning (OrderedFunctions itself) m n
+like_keeps (Object r bs) (Object q cs) h = h
+like_keeps (Object r bs) (Code g) h = h
+like_keeps (Object r bs) (Host b) h = h
+like_keeps (Code f) (Object q cs) h = h
+like_keeps (Code f) (Code g) h = h.keeps
+like_keeps (Code f) (Host b) h = h
+like_keeps (Host a) (Object q cs) h = h
+like_keeps (Host a) (Code g) h = h
+like_keeps (Host a) (Host b) h = h
+
+computes_keeps : (o u : Option Meaning) → Computes Past (LikeMeaning KeepsRuns) o u → Computes Past (LikeMeaning (OrderedFunctions itself)) o u
+computes_keeps None u h = tt
+computes_keeps (Some m) u h = (h.0, like_keeps m h.0 h.1, h.2)
+
+-- the call of main
+
+arguments_itself : (start : Start) (words : List (List ℕ)) (xs : List Argument) → main_arguments start words ≡ Some xs → LikeArguments (ordered itself) xs xs
+arguments_itself NotMain words xs e = cc
+arguments_itself WithoutWords words xs e = subst (λ (ys : List Argument). LikeArguments (ordered itself) ys ys) (same [] xs e) tt
+  where
+    same : (p q : List Argument) → Some p ≡ Some q → p ≡ q
+    same p q e = cc
+arguments_itself WithWords words xs e = subst (λ (ys : List Argument). LikeArguments (ordered itself) ys ys) (same _ xs e) (refl, refl, (refl, refl, tt))
+  where
+    same : (p q : List Argument) → Some p ≡ Some q → p ≡ q
+    same p q e = cc
+
+module _ (mode : Mode) (words : List (List ℕ)) (input : List ℕ) (n : ℕ) (us vs : List (List Linkable)) (s : StartAlike KeepsRuns us vs) (tame : TameUnits vs) where
+  called : OrderedCalls itself (calls (linked us)) (calls (linked vs))
+  called = calls_ordered itself (λ a b e. e) (λ i. refl) (λ act i. refl) (linked us) (linked vs) (linked_tame vs tame) (λ v w b. computes_keeps (meant (linked us) v) (meant (linked vs) w) (s.named v w b))
+
+  starts : BelowRun itself (start_state mode.abi (linked us) words input n) (start_state mode.abi (linked vs) words input n)
+  starts = record { memory = s.memory mode.abi words input n; input = refl; at_end = refl; out = refl; left = refl; next = refl; live = refl; heap = refl }
+
+  with_main : (entity : ℕ) (f g : Function) → KeepsRuns f g → (o : Option (List Argument)) → main_arguments f.start words ≡ o
+      → Allows (outcome_in (option_map (result_with mode.abi (linked us) entity words input n) (o >>= λ xs. Some (f, xs)))) (outcome_in (option_map (result_with mode.abi (linked vs) entity words input n) (o >>= λ xs. Some (g, xs))))
+  with_main entity f g k None e = inl refl
+  with_main entity f g k (Some xs) e =
+      ordered_allows itself (calls (linked us) (main_call mode.abi entity xs) (start_state mode.abi (linked us) words input n)) (calls (linked vs) (main_call mode.abi entity xs) (start_state mode.abi (linked vs) words input n))
+      (called tt (main_call mode.abi entity xs) (main_call mode.abi entity xs) (start_state mode.abi (linked us) words input n) (start_state mode.abi (linked vs) words input n)
+      (record { abi = refl; callee = refl; result = refl; arguments = arguments_itself f.start words xs e }) starts)
+
+  at_main : (entity : ℕ) (m q : Option Meaning) → AlikeOption KeepsRuns m q
+      → Allows (outcome_in (option_map (result_with mode.abi (linked us) entity words input n) (code_in m >>= λ f. main_arguments f.start words >>= λ xs. Some (f, xs))))
+      (outcome_in (option_map (result_with mode.abi (linked vs) entity words input n) (code_in q >>= λ f. main_arguments f.start words >>= λ xs. Some (f, xs))))
+  at_main entity None None h = inl refl
+  at_main entity None (Some q) h = absurd h
+  at_main entity (Some m) None h = absurd h
+  at_main entity (Some (Object r bs)) (Some (Object q cs)) h = inl refl
+  at_main entity (Some (Object r bs)) (Some (Code g)) h = absurd h
+  at_main entity (Some (Object r bs)) (Some (Host b)) h = absurd h
+  at_main entity (Some (Code f)) (Some (Object q cs)) h = absurd h
+  at_main entity (Some (Code f)) (Some (Host b)) h = absurd h
+  at_main entity (Some (Host a)) (Some (Object q cs)) h = absurd h
+  at_main entity (Some (Host a)) (Some (Code g)) h = absurd h
+  at_main entity (Some (Host a)) (Some (Host b)) h = inl refl
+  at_main entity (Some (Code f)) (Some (Code g)) h =
+      subst (λ (x : Start). Allows (outcome_in (option_map (result_with mode.abi (linked us) entity words input n) (main_arguments f.start words >>= λ xs. Some (f, xs))))
+      (outcome_in (option_map (result_with mode.abi (linked vs) entity words input n) (main_arguments x words >>= λ xs. Some (g, xs))))) (sym h.start)
+      (with_main entity f g h (main_arguments f.start words) refl)
+
+  looked_up : (entity e : ℕ) (ms ns : Linked) → AlikeLinked KeepsRuns ms ns
+      → Allows (outcome_in (option_map (result_with mode.abi (linked us) entity words input n) (slice_get ms e >>= code_in >>= λ f. main_arguments f.start words >>= λ xs. Some (f, xs))))
+      (outcome_in (option_map (result_with mode.abi (linked vs) entity words input n) (slice_get ns e >>= code_in >>= λ f. main_arguments f.start words >>= λ xs. Some (f, xs))))
+  looked_up entity e [] [] h = inl refl
+  looked_up entity e [] (q ∷ ns) h = absurd h
+  looked_up entity e (m ∷ ms) [] h = absurd h
+  looked_up entity zero (m ∷ ms) (q ∷ ns) h = at_main entity m q h.0
+  looked_up entity (suc e) (m ∷ ms) (q ∷ ns) h = looked_up entity e ms ns h.1
+
+  allowed : Allows (run us mode words input n) (run vs mode words input n)
+  allowed = subst (λ (e : ℕ). Allows (run us mode words input n) (run_linked mode.abi (linked vs) e words input n)) (sym s.main) (looked_up (main_entity us) (main_entity us) (linked us) (linked vs) s.linked)
+
+-- the outcome of the second list is one that the first allows
+pub units_allowed : (us vs : List (List Linkable)) → AlikeUnits KeepsRuns us vs → TameUnits vs → (mode : Mode) (words : List (List ℕ)) (input : List ℕ) (n : ℕ) → Allows (run us mode words input n) (run vs mode words input n)
+units_allowed us vs h tame mode words input n = allowed mode words input n us vs (starts_alike KeepsRuns us vs h) tame
