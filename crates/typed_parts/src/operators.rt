@@ -122,10 +122,18 @@ fn pointee(w: &Walker, of: TypeId) -> Option<QualType> {
     }
 }
 
+/// Why a type whose value is no pointer has no member: where it is incomplete, there is no value (C11 6.3.2.1p2).
+fn no_pointer(w: &Walker, of: TypeId) -> Code {
+    match w.types.class(of) {
+        Class::Agg(..) if !w.types.is_complete(of) => Code::Incomplete,
+        _ => Code::Member,
+    }
+}
+
 /// `e -> name` (C11 6.5.2.3).
 pub fn arrow(w: &mut Walker, at: u32, pointer: TypedExp, n: NameId) -> Result<TypedExp, WalkStop> {
     let Some(to) = pointee(w, pointer.ty().of) else {
-        return Err(violated(at, Code::Member));
+        return Err(violated(at, no_pointer(w, pointer.ty().of)));
     };
     let path = member_path(w, at, to.of, n)?;
     let of = placed(
