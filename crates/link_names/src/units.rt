@@ -32,6 +32,8 @@ pub struct Fronted {
 }
 
 impl HasGraph for Fronted {
+    ghost graph_of = { λ f. f.cil.graph };
+
     fn graph(&self) -> &TypeGraph {
         &self.cil.graph
     }

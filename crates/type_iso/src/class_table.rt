@@ -1,3 +1,6 @@
+ghost use Rattle.std.specs.Prelude.{◌≡◌, option_map};
+ghost use Rattle.type_iso.specs.Classes.{class_in};
+
 use crate::web::First;
 use cil_base::{AggId, UnitNo};
 
@@ -20,9 +23,11 @@ impl Classes {
     }
 
     /// The class of an aggregate, if it is there.
-    pub fn class_of(&self, u: UnitNo, a: AggId) -> Option<ClassNo> {
+    pub fn class_of(&self, u: UnitNo, a: AggId) -> Option<ClassNo>
+        ensures { option_map (λ k. k.0) result ≡ class_in self.now u.0 a.0 }
+    {
         let first = self.firsts.get(u.0 as usize)?;
-        let class = self.of.get(first.aggregate.checked_add(a.0)? as usize)?;
+        let class = self.of.get(first.aggregate as usize + a.0 as usize)?;
         Some(ClassNo(*class))
     }
 

@@ -1,8 +1,11 @@
-use crate::numbers::{at, impossible, put};
+ghost use Rattle.std.specs.Prelude.{◌≡◌, ℕ, ◌<◌, length, IfOk, OnOk};
+ghost use Rattle.type_iso.specs.Forests.{root, IsForest, joined};
+
+use crate::numbers::{at, counted, impossible, put};
 use cil_base::Memory;
 use std::alloc::Global;
 
-/// Classes of numbers that are joined: each number leads to its class's least one.
+/// Numbers in trees: each leads to a lesser one of its class, and the least of a class, its root, to itself.
 #[derive(Drop)]
 pub(crate) struct Forest {
     parents: Vec<u32>,
@@ -10,16 +13,22 @@ pub(crate) struct Forest {
 
 impl Forest {
     /// Each number is a class of its own.
-    pub(crate) fn new(alloc: Global, count: u32) -> Result<Self, Memory> {
-        let mut parents = Vec::new(alloc);
-        for x in 0..count {
-            parents.push(x)?;
-        }
-        Ok(Forest { parents })
+    pub(crate) fn new(alloc: Global, count: u32) -> Result<Self, Memory>
+        ensures forest { IfOk result (λ f. IsForest f.parents.items) }
+        ensures own { IfOk result (λ f. (x : ℕ) → root f.parents.items x ≡ x) }
+    {
+        Ok(Forest {
+            parents: counted(alloc, count)?,
+        })
     }
 
-    /// The class of a number: its least member.
-    pub(crate) fn find(&mut self, x: u32) -> Result<u32, Memory> {
+    /// The root of a number. Those on the way skip their parents, so that the ways stay short.
+    pub(crate) fn find(&mut self, x: u32) -> Result<u32, Memory>
+        requires { IsForest self.old.parents.items }
+        ensures root { IfOk result (λ r. r ≡ root self.old.parents.items x) }
+        ensures forest { IsForest self.new.parents.items }
+        ensures kept { (y : ℕ) → root self.new.parents.items y ≡ root self.old.parents.items y }
+    {
         let mut x = x;
         for _step in 0..self.parents.len() {
             let parent = at(&self.parents, x)?;
@@ -33,13 +42,15 @@ impl Forest {
         Err(impossible())
     }
 
-    /// Makes one class of two, which are given by their least members, and answers its least one.
-    pub(crate) fn join(&mut self, a: u32, b: u32) -> Result<u32, Memory> {
-        if a < b {
-            put(&mut self.parents, b, a)?;
-            return Ok(a);
-        }
-        put(&mut self.parents, a, b)?;
-        Ok(b)
+    /// Makes one class of two, which are given by their roots, the lesser one first.
+    pub(crate) fn join(&mut self, low: u32, high: u32) -> Result<(), Memory>
+        requires forest { IsForest self.old.parents.items }
+        requires less { low < high }
+        requires low { root self.old.parents.items low ≡ low }
+        requires high { root self.old.parents.items high ≡ high }
+        ensures forest { OnOk result (IsForest self.new.parents.items) }
+        ensures joined { OnOk result ((y : ℕ) → root self.new.parents.items y ≡ joined low high (root self.old.parents.items) y) }
+    {
+        put(&mut self.parents, high, low)
     }
 }

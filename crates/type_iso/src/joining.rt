@@ -1,217 +1,187 @@
+ghost use Rattle.std.specs.Prelude.{◌≡◌, ℕ, ◌<◌, List, [], ◌∷◌, ◌++◌, IsTrue, MatchBool, MatchOption, IfOk, OnOk};
+ghost use Rattle.type_iso.specs.Things.{labels, Agree, IsClash};
+ghost use Rattle.type_iso.specs.Forests.{root, IsForest, joined};
+ghost use Rattle.type_iso.specs.Joined.{zipped, chosen, carried, IsJoining};
+ghost use Rattle.type_iso.specs.Webs.{things_of};
+
 use crate::forest::Forest;
-use crate::numbers::{impossible, narrow};
-use crate::web::{Head, Thing, Web};
+use crate::numbers::{at, counted, impossible, put};
+use crate::web::{Part, Web};
 use cil_base::Memory;
 use std::alloc::Global;
 
-/// Two types that have to correspond.
-#[derive(Clone, Copy)]
-pub(crate) struct Pair {
-    pub(crate) left: u32,
-    pub(crate) right: u32,
-}
+/// Two things that are to be one.
+pub(crate) type Pair = (u32, u32);
 
-/// What comes of a demand that types correspond.
-#[derive(Clone, Copy)]
-pub(crate) enum Outcome {
-    /// They do.
-    Fit,
-    /// These two types would have to correspond, and differ.
-    Differ(Pair),
-}
-
-/// Types and aggregates that correspond, as classes, and the pairs of types that are still to be joined.
+/// Things that are one, as classes, and the pairs of things that are still to be joined.
 #[derive(Drop)]
 pub(crate) struct Joining {
     forest: Forest,
-    /// For the least member of a class of aggregates: the type that is a complete one of the class, if it has one.
-    complete: Vec<Option<u32>>,
+    /// For each root a thing of its class: one with parts, if the class has one.
+    stand: Vec<u32>,
     work: Vec<Pair>,
 }
 
-/// Whether two things that are no aggregates are alike, parts aside.
-fn are_alike(left: Thing, right: Thing) -> bool {
-    left.head == right.head && left.count == right.count
+/// Whether the same stands beside the parts of two things.
+fn same_labels(left: &[Part], right: &[Part]) -> bool
+    ensures same { IsTrue result → labels left.now ≡ labels right.now }
+    ensures apart { labels left.now ≡ labels right.now → IsTrue result }
+{
+    if left.len() != right.len() {
+        return false;
+    }
+    for i in 0..left.len() {
+        if left[i].0 != right[i].0 {
+            return false;
+        }
+    }
+    true
 }
 
-/// Whether two aggregates may be one: they have one kind, tags that match, and where both are complete the same names.
-fn may_join(left: Thing, right: Thing) -> bool {
-    match (left.head, right.head) {
-        (Head::Complete(k, t, _), Head::Incomplete(l, u))
-        | (Head::Incomplete(k, t), Head::Complete(l, u, _))
-        | (Head::Incomplete(k, t), Head::Incomplete(l, u)) => k == l && t == u,
-        _ => are_alike(left, right),
+/// Whether two things do not differ in themselves, whatever their parts are. Of two aggregates one may be incomplete.
+fn agree(web: &Web, s: u32, t: u32) -> Result<bool, Memory>
+    ensures { IfOk result (λ b. MatchBool b (Agree (things_of web.now) s t) (¬ (Agree (things_of web.now) s t))) }
+{
+    if web.head(s)? != web.head(t)? {
+        return Ok(false);
+    }
+    match (web.inside(s)?, web.inside(t)?) {
+        (Some(left), Some(right)) => Ok(same_labels(left, right)),
+        _ => Ok(true),
     }
 }
 
-/// The aggregate that a type is.
-fn aggregate_of(web: &Web, ty: u32) -> Result<u32, Memory> {
-    let thing = web.thing(ty)?;
-    web.part(thing, 0)
+/// Which of two things stands for both.
+fn choose(web: &Web, s: u32, t: u32) -> Result<u32, Memory>
+    ensures { IfOk result (λ n. n ≡ chosen (things_of web.now) s t) }
+{
+    if web.is_complete(s)? {
+        return Ok(s);
+    }
+    Ok(t)
+}
+
+/// Puts the parts at equal places behind the work.
+fn push_zipped(work: &mut Vec<Pair>, left: &[Part], right: &[Part]) -> Result<(), Memory>
+    ensures { OnOk result (work.new.items ≡ work.old.items ++ zipped left.now right.now) }
+{
+    for i in 0..left.len() {
+        if i >= right.len() {
+            return Ok(());
+        }
+        work.push((left[i].1, right[i].1))?;
+    }
+    Ok(())
+}
+
+/// Puts the parts of two things, if both have them, behind the work.
+fn push_parts(web: &Web, work: &mut Vec<Pair>, s: u32, t: u32) -> Result<(), Memory>
+    ensures { OnOk result (work.new.items ≡ work.old.items ++ carried (things_of web.now) s t) }
+{
+    match (web.inside(s)?, web.inside(t)?) {
+        (Some(left), Some(right)) => push_zipped(work, left, right),
+        _ => Ok(()),
+    }
 }
 
 impl Joining {
-    /// Nothing corresponds to another thing.
-    pub(crate) fn new(alloc: Global, web: &Web) -> Result<Self, Memory> {
-        let mut complete = Vec::new(alloc);
-        for _a in 0..web.aggregates {
-            complete.push(None)?;
-        }
-        for x in web.aggregates..narrow(web.things.len())? {
-            note_complete(web, &mut complete, x)?;
-        }
+    /// Each thing is a class of its own.
+    pub(crate) fn new(alloc: Global, web: &Web) -> Result<Self, Memory>
+        ensures forest { IfOk result (λ j. IsForest j.forest.parents.items) }
+        ensures joining { IfOk result (λ j. IsJoining (things_of web.now) [] (root j.forest.parents.items) j.stand.items []) }
+        ensures empty { IfOk result (λ j. j.work.items ≡ []) }
+    {
+        let count = web.count()?;
         Ok(Joining {
-            forest: Forest::new(alloc, narrow(web.things.len())?)?,
-            complete,
+            forest: Forest::new(alloc, count)?,
+            stand: counted(alloc, count)?,
             work: Vec::new(alloc),
         })
     }
 
-    /// Whether two types correspond.
-    pub(crate) fn are_joined(&mut self, pair: Pair) -> Result<bool, Memory> {
-        Ok(self.forest.find(pair.left)? == self.forest.find(pair.right)?)
+    /// Whether two things are one.
+    pub(crate) fn are_joined(&mut self, x: u32, y: u32) -> Result<bool, Memory>
+        requires { IsForest self.old.forest.parents.items }
+        ensures forest { IsForest self.new.forest.parents.items }
+        ensures kept { (y : ℕ) → root self.new.forest.parents.items y ≡ root self.old.forest.parents.items y }
+        ensures rest { (self.new.stand ≡ self.old.stand) × (self.new.work ≡ self.old.work) }
+        ensures same { IfOk result (λ b. MatchBool b (root self.old.forest.parents.items x ≡ root self.old.forest.parents.items y) (¬ (root self.old.forest.parents.items x ≡ root self.old.forest.parents.items y))) }
+    {
+        let (a, b) = (self.forest.find(x)?, self.forest.find(y)?);
+        Ok(a == b)
     }
 
-    /// Demands that two types correspond.
-    pub(crate) fn demand(&mut self, left: u32, right: u32) -> Result<(), Memory> {
-        self.work.push(Pair { left, right })?;
-        Ok(())
-    }
-
-    /// Demands that the parts of two things correspond.
-    fn demand_parts(&mut self, web: &Web, left: Thing, right: Thing) -> Result<(), Memory> {
-        for i in 0..left.count {
-            let (l, r) = (web.part(left, i)?, web.part(right, i)?);
-            self.demand(l, r)?;
+    /// Joins two classes, which are given by their roots, the lesser one first. Two things that would have to be one and differ are the
+    /// answer, if there are any.
+    fn join(&mut self, web: &Web, low: u32, high: u32) -> Result<Option<Pair>, Memory>
+        requires forest { IsForest self.old.forest.parents.items }
+        requires less { low < high }
+        requires low { root self.old.forest.parents.items low ≡ low }
+        requires high { root self.old.forest.parents.items high ≡ high }
+        ensures forest { IfOk result (λ o. IsForest self.new.forest.parents.items) }
+        ensures joins { (done : List (ℕ × ℕ)) → IsJoining (things_of web.now) done (root self.old.forest.parents.items) self.old.stand.items (self.old.work.items ++ (low, high) ∷ []) → IfOk result (λ o. MatchOption o (IsJoining (things_of web.now) done (root self.new.forest.parents.items) self.new.stand.items self.new.work.items) (IsClash (things_of web.now) done)) }
+    {
+        let (s, t) = (at(&self.stand, low)?, at(&self.stand, high)?);
+        if !agree(web, s, t)? {
+            return Ok(Some((s, t)));
         }
-        Ok(())
+        self.forest.join(low, high)?;
+        put(&mut self.stand, low, choose(web, s, t)?)?;
+        push_parts(web, &mut self.work, s, t)?;
+        Ok(None)
     }
 
-    /// The type that is a complete aggregate of a class, if it has one.
-    fn complete_in(&self, class: u32) -> Result<Option<u32>, Memory> {
-        match self.complete.get(class as usize) {
-            Some(ty) => Ok(*ty),
-            None => Err(impossible()),
-        }
-    }
-
-    /// Says which type is a complete aggregate of a class.
-    fn set_complete(&mut self, class: u32, ty: Option<u32>) -> Result<(), Memory> {
-        if class as usize >= self.complete.len() {
-            return Err(impossible());
-        }
-        self.complete[class as usize] = ty;
-        Ok(())
-    }
-
-    /// Joins the classes of two aggregates, which are given by the types that they are.
-    fn join_aggregates(&mut self, web: &Web, pair: Pair) -> Result<Outcome, Memory> {
-        let left = aggregate_of(web, pair.left)?;
-        let right = aggregate_of(web, pair.right)?;
-        if !may_join(web.thing(left)?, web.thing(right)?) {
-            return Ok(Outcome::Differ(pair));
-        }
-        let (a, b) = (self.forest.find(left)?, self.forest.find(right)?);
+    /// Joins two things.
+    fn settle(&mut self, web: &Web, pair: Pair) -> Result<Option<Pair>, Memory>
+        requires forest { IsForest self.old.forest.parents.items }
+        ensures forest { IfOk result (λ o. IsForest self.new.forest.parents.items) }
+        ensures joins { (done : List (ℕ × ℕ)) → IsJoining (things_of web.now) done (root self.old.forest.parents.items) self.old.stand.items (self.old.work.items ++ pair ∷ []) → IfOk result (λ o. MatchOption o (IsJoining (things_of web.now) done (root self.new.forest.parents.items) self.new.stand.items self.new.work.items) (IsClash (things_of web.now) done)) }
+    {
+        let (a, b) = (self.forest.find(pair.0)?, self.forest.find(pair.1)?);
         if a == b {
-            return Ok(Outcome::Fit);
+            return Ok(None);
         }
-        self.join_classes(web, a, b)
+        if a < b {
+            return self.join(web, a, b);
+        }
+        self.join(web, b, a)
     }
 
-    /// Joins two classes of aggregates, which are given by their least members.
-    fn join_classes(&mut self, web: &Web, a: u32, b: u32) -> Result<Outcome, Memory> {
-        let (left, right) = (self.complete_in(a)?, self.complete_in(b)?);
-        let joined = self.forest.join(a, b)?;
-        match (left, right) {
-            (Some(left), Some(right)) => {
-                self.set_complete(joined, Some(left))?;
-                self.join_members(web, Pair { left, right })
-            }
-            (Some(ty), None) | (None, Some(ty)) => {
-                self.set_complete(joined, Some(ty))?;
-                Ok(Outcome::Fit)
-            }
-            (None, None) => Ok(Outcome::Fit),
-        }
-    }
-
-    /// Demands that the members of two complete aggregates correspond, which are given by the types that they are.
-    fn join_members(&mut self, web: &Web, pair: Pair) -> Result<Outcome, Memory> {
-        let left = web.thing(aggregate_of(web, pair.left)?)?;
-        let right = web.thing(aggregate_of(web, pair.right)?)?;
-        if !are_alike(left, right) {
-            return Ok(Outcome::Differ(pair));
-        }
-        self.demand_parts(web, left, right)?;
-        Ok(Outcome::Fit)
-    }
-
-    /// Joins two types that do not correspond yet.
-    fn join_types(&mut self, web: &Web, pair: Pair) -> Result<Outcome, Memory> {
-        let (left, right) = (web.thing(pair.left)?, web.thing(pair.right)?);
-        if !are_alike(left, right) {
-            return Ok(Outcome::Differ(pair));
-        }
-        let (a, b) = (self.forest.find(pair.left)?, self.forest.find(pair.right)?);
-        self.forest.join(a, b)?;
-        if left.head == Head::Agg {
-            return self.join_aggregates(web, pair);
-        }
-        self.demand_parts(web, left, right)?;
-        Ok(Outcome::Fit)
-    }
-
-    /// Joins two types where they do not correspond yet.
-    fn settle(&mut self, web: &Web, pair: Pair) -> Result<Outcome, Memory> {
-        if self.are_joined(pair)? {
-            return Ok(Outcome::Fit);
-        }
-        self.join_types(web, pair)
-    }
-
-    /// Joins what is demanded, and all that follows from it.
-    pub(crate) fn close(&mut self, web: &Web) -> Result<Outcome, Memory> {
+    /// Joins what is left to be joined, and all that follows from it.
+    fn close(&mut self, web: &Web) -> Result<Option<Pair>, Memory>
+        requires forest { IsForest self.old.forest.parents.items }
+        ensures forest { IfOk result (λ o. IsForest self.new.forest.parents.items) }
+        ensures empty { IfOk result (λ o. MatchOption o (self.new.work.items ≡ []) (λ _. Unit {0})) }
+        ensures joins { (done : List (ℕ × ℕ)) → IsJoining (things_of web.now) done (root self.old.forest.parents.items) self.old.stand.items self.old.work.items → IfOk result (λ o. MatchOption o (IsJoining (things_of web.now) done (root self.new.forest.parents.items) self.new.stand.items []) (IsClash (things_of web.now) done)) }
+    {
         for _step in 0..u64::MAX {
             let Some(pair) = self.work.pop() else {
-                return Ok(Outcome::Fit);
+                return Ok(None);
             };
             match self.settle(web, pair)? {
-                Outcome::Fit => {}
-                Outcome::Differ(found) => return Ok(Outcome::Differ(found)),
+                None => {}
+                Some(found) => return Ok(Some(found)),
             }
         }
         Err(impossible())
     }
 
-    /// The classes of aggregates once isomorphic ones are joined too, of which the least member is given for each.
-    pub(crate) fn gather(&mut self, alloc: Global, least: &[u32]) -> Result<Vec<u32>, Memory> {
-        for x in 0..narrow(least.len())? {
-            let (a, b) = (self.forest.find(x)?, self.forest.find(least[x as usize])?);
-            if a != b {
-                self.forest.join(a, b)?;
-            }
-        }
-        let mut classes = Vec::new(alloc);
-        for x in 0..narrow(least.len())? {
-            classes.push(self.forest.find(x)?)?;
-        }
-        Ok(classes)
+    /// Joins two things, and all that follows from it. Two things that would have to be one and differ are the answer, if there are any.
+    pub(crate) fn demand(&mut self, web: &Web, x: u32, y: u32) -> Result<Option<Pair>, Memory>
+        requires forest { IsForest self.old.forest.parents.items }
+        requires empty { self.old.work.items ≡ [] }
+        ensures forest { IfOk result (λ o. IsForest self.new.forest.parents.items) }
+        ensures empty { IfOk result (λ o. MatchOption o (self.new.work.items ≡ []) (λ _. Unit {0})) }
+        ensures joins { (done : List (ℕ × ℕ)) → IsJoining (things_of web.now) done (root self.old.forest.parents.items) self.old.stand.items ((x, y) ∷ []) → IfOk result (λ o. MatchOption o (IsJoining (things_of web.now) done (root self.new.forest.parents.items) self.new.stand.items []) (IsClash (things_of web.now) done)) }
+    {
+        self.work.push((x, y))?;
+        self.close(web)
     }
-}
 
-/// Notes a type that is a complete aggregate.
-fn note_complete(web: &Web, complete: &mut Vec<Option<u32>>, ty: u32) -> Result<(), Memory> {
-    let thing = web.thing(ty)?;
-    if thing.head != Head::Agg {
-        return Ok(());
+    /// The classes, once nothing is left to be joined.
+    pub(crate) fn into_forest(self) -> Forest
+        ensures { result ≡ self.forest }
+    {
+        self.forest
     }
-    let a = web.part(thing, 0)?;
-    if !web.thing(a)?.is_complete() {
-        return Ok(());
-    }
-    if a as usize >= complete.len() {
-        return Err(impossible());
-    }
-    complete[a as usize] = Some(ty);
-    Ok(())
 }

@@ -10,6 +10,7 @@
 
 mod class_table;
 mod forest;
+mod gathering;
 mod joining;
 mod linking;
 mod merging;

@@ -1,5 +1,5 @@
 use crate::numbers::{at, impossible, narrow, put, sum};
-use crate::web::{Head, Thing, Web};
+use crate::web::{Head, Web};
 use cil_base::Memory;
 use std::alloc::Global;
 use std::collections::BTreeSet;
@@ -100,9 +100,9 @@ fn part_within(all: &[Within], ty: u32, aggregates: u32) -> Result<Within, Memor
 
 impl Classed<'_> {
     /// The struct or union that a type is.
-    fn value(&self, thing: Thing) -> Result<Within, Memory> {
-        let a = self.web.part(thing, 0)?;
-        if self.web.thing(a)?.is_enum() {
+    fn value(&self, ty: u32) -> Result<Within, Memory> {
+        let a = self.web.first_part(ty)?;
+        if self.web.head(a)?.is_enum() {
             return Ok(Within {
                 value: None,
                 elements: false,
@@ -115,9 +115,9 @@ impl Classed<'_> {
     }
 
     /// Whether an aggregate is the element of an array anywhere in the parts of a type.
-    fn elements(&self, all: &[Within], thing: Thing) -> Result<bool, Memory> {
-        for i in 0..thing.count {
-            if part_within(all, self.web.part(thing, i)?, self.web.aggregates)?.elements {
+    fn elements(&self, all: &[Within], ty: u32) -> Result<bool, Memory> {
+        for part in self.web.parts(ty)? {
+            if part_within(all, part.1, self.web.aggregates)?.elements {
                 return Ok(true);
             }
         }
@@ -125,8 +125,8 @@ impl Classed<'_> {
     }
 
     /// What stands within an array.
-    fn array(&self, all: &[Within], thing: Thing) -> Result<Within, Memory> {
-        let element = part_within(all, self.web.part(thing, 0)?, self.web.aggregates)?;
+    fn array(&self, all: &[Within], ty: u32) -> Result<Within, Memory> {
+        let element = part_within(all, self.web.first_part(ty)?, self.web.aggregates)?;
         Ok(Within {
             value: element.value,
             elements: element.elements || element.value.is_some(),
@@ -134,22 +134,22 @@ impl Classed<'_> {
     }
 
     /// What stands within a type, from what stands within those before it.
-    fn within(&self, all: &[Within], thing: Thing) -> Result<Within, Memory> {
-        match thing.head {
-            Head::Agg => self.value(thing),
-            Head::Array(_) => self.array(all, thing),
+    fn within(&self, all: &[Within], ty: u32) -> Result<Within, Memory> {
+        match self.web.head(ty)? {
+            Head::Agg => self.value(ty),
+            Head::Array(_) => self.array(all, ty),
             _ => Ok(Within {
                 value: None,
-                elements: self.elements(all, thing)?,
+                elements: self.elements(all, ty)?,
             }),
         }
     }
 
     /// What stands within each type.
-    fn all_within(&self, alloc: Global) -> Result<Vec<Within>, Memory> {
+    fn held_within(&self, alloc: Global) -> Result<Vec<Within>, Memory> {
         let mut all = Vec::new(alloc);
-        for x in self.web.aggregates..narrow(self.web.things.len())? {
-            let inner = self.within(&all, self.web.thing(x)?)?;
+        for x in self.web.aggregates..self.web.count()? {
+            let inner = self.within(&all, x)?;
             all.push(inner)?;
         }
         Ok(all)
@@ -179,9 +179,8 @@ impl Classed<'_> {
 
     /// Lets an aggregate wait for what its members have within themselves, and for the elements of arrays in their types.
     fn wait_for_members(&self, waits: &mut Waits, all: &[Within], who: u32) -> Result<(), Memory> {
-        let thing = self.web.thing(who)?;
-        for i in 0..thing.count {
-            let ty = self.web.part(thing, i)?;
+        for part in self.web.parts(who)? {
+            let ty = part.1;
             let inner = part_within(all, ty, self.web.aggregates)?;
             self.wait_for_value(waits, who, inner)?;
             self.wait_for_elements(waits, who, ty, inner)?;
@@ -191,9 +190,8 @@ impl Classed<'_> {
 
     /// Lets a type wait for the elements of arrays in its parts.
     fn wait_for_parts(&self, waits: &mut Waits, all: &[Within], who: u32) -> Result<(), Memory> {
-        let thing = self.web.thing(who)?;
-        for i in 0..thing.count {
-            let ty = self.web.part(thing, i)?;
+        for part in self.web.parts(who)? {
+            let ty = part.1;
             let inner = part_within(all, ty, self.web.aggregates)?;
             self.wait_for_elements(waits, who, ty, inner)?;
         }
@@ -202,11 +200,10 @@ impl Classed<'_> {
 
     /// Lets a type wait for the elements of arrays in it.
     fn wait_in_type(&self, waits: &mut Waits, all: &[Within], who: u32) -> Result<(), Memory> {
-        let thing = self.web.thing(who)?;
-        match thing.head {
+        match self.web.head(who)? {
             Head::Agg => Ok(()),
             Head::Array(_) => {
-                let element = part_within(all, self.web.part(thing, 0)?, self.web.aggregates)?;
+                let element = part_within(all, self.web.first_part(who)?, self.web.aggregates)?;
                 self.wait_for_value(waits, who, element)?;
                 self.wait_for_parts(waits, all, who)
             }
@@ -231,7 +228,7 @@ impl Classed<'_> {
 
     /// Lets all types wait.
     fn wait_all_types(&self, waits: &mut Waits, all: &[Within]) -> Result<(), Memory> {
-        for x in self.web.aggregates..narrow(self.web.things.len())? {
+        for x in self.web.aggregates..self.web.count()? {
             self.wait_in_type(waits, all, x)?;
         }
         Ok(())
@@ -239,8 +236,8 @@ impl Classed<'_> {
 
     /// Who waits for whom.
     fn waits(&self, alloc: Global) -> Result<Waits, Memory> {
-        let all = self.all_within(alloc)?;
-        let mut waits = Waits::new(alloc, self.web.things.len())?;
+        let all = self.held_within(alloc)?;
+        let mut waits = Waits::new(alloc, self.web.count()? as usize)?;
         self.wait_all_members(&mut waits, &all)?;
         self.wait_all_types(&mut waits, &all)?;
         Ok(waits)
@@ -250,7 +247,7 @@ impl Classed<'_> {
     fn enums(&self, alloc: Global) -> Result<Vec<u32>, Memory> {
         let mut order = Vec::new(alloc);
         for a in 0..self.web.aggregates {
-            if self.stands(a)? && self.web.thing(a)?.is_enum() {
+            if self.stands(a)? && self.web.head(a)?.is_enum() {
                 order.push(a)?;
             }
         }
@@ -261,7 +258,7 @@ impl Classed<'_> {
     fn ready(&self, alloc: Global, waits: &Waits) -> Result<BTreeSet<u32>, Memory> {
         let mut ready = BTreeSet::new(alloc);
         for a in 0..self.web.aggregates {
-            if self.stands(a)? && !self.web.thing(a)?.is_enum() && at(&waits.counts, a)? == 0 {
+            if self.stands(a)? && !self.web.head(a)?.is_enum() && at(&waits.counts, a)? == 0 {
                 ready.insert(a)?;
             }
         }

@@ -1,8 +1,15 @@
-use crate::numbers::{at, impossible, narrow, sum};
+ghost use Rattle.std.specs.Prelude.{◌≡◌, ℕ, ◌+◌, ◌≤◌, List, [], ◌∷◌, ◌++◌, Some, None, map, length, is_some, slice_get, IfOk, OnOk};
+ghost use Rattle.type_iso.specs.Units.{plain, compared, member_part, aggregate_thing, type_thing, aggregates_from, types_from, aggregate_count, firsts_from};
+ghost use Rattle.type_iso.specs.Links.{first_type, is_enum, is_open, is_bounded, lacks_prototype, has_prototype, parts_of, first_part};
+ghost use Rattle.type_iso.specs.Weaving.{IsSpanned, Adds, Closes, AreStems, AreSomeStems, AllArenas, IsWoven};
+ghost use Rattle.std.specs.Option.{option_map};
+ghost use Rattle.type_iso.specs.Things.{head_of, inside_of};
+ghost use Rattle.type_iso.specs.Webs.{parts_in, things_of, first_pair, first_pairs};
+
+use crate::numbers::{impossible, narrow, sum};
 use crate::parties::HasGraph;
 use crate::stems::{StemId, Stems};
 use cil_base::{AggId, IntKind, Memory, NameId, NamePool, TypeId, UnitNo};
-use indexmap::IndexSet;
 use std::alloc::Global;
 use type_graph::{AggKind, Aggregate, Member, Node, TypeGraph};
 
@@ -22,54 +29,80 @@ pub(crate) enum Head {
     Func { proto: bool, variadic: bool },
     /// A struct, union or enum as a type: its part is the aggregate.
     Agg,
-    /// An aggregate with its members: its parts are their types.
-    Complete(#[derive_where(skip(Hash))] AggKind, StemId, LabelId),
-    /// An aggregate without members.
-    Incomplete(#[derive_where(skip(Hash))] AggKind, StemId),
+    /// A struct, union or enum: its parts are the types of its members, if it has them.
+    Tagged(#[derive_where(skip(Hash))] AggKind, StemId),
 }
 
-/// The number of a list of members, types aside.
-#[derive(Clone, Copy, PartialEq, Eq, Hash)]
-pub(crate) struct LabelId(u32);
-
-/// A member's name, as it is compared.
-#[derive(Clone, Copy, PartialEq, Eq, Hash)]
-enum MemberName {
-    /// In a struct or union: as it is.
-    Exact(NameId),
-    /// In an enum: without its suffixes.
-    Stem(StemId),
-}
-
-/// A member behind a list of others, types aside.
-#[derive(Clone, Copy, PartialEq, Eq, Hash)]
-struct Labelled {
-    before: LabelId,
-    name: MemberName,
-    value: i32,
-}
-
-/// A type or an aggregate of a unit, and where its parts stand in the list of parts.
-#[derive(Clone, Copy)]
-pub(crate) struct Thing {
-    pub(crate) head: Head,
-    pub(crate) first: u32,
-    pub(crate) count: u32,
-}
-
-impl Thing {
-    /// Whether it is an aggregate with its members.
-    pub(crate) fn is_complete(self) -> bool {
-        matches!(self.head, Head::Complete(..))
+impl Head {
+    /// Whether it is that of an enum.
+    pub(crate) fn is_enum(self) -> bool
+        ensures { result ≡ is_enum self }
+    {
+        matches!(self, Head::Tagged(AggKind::Enum, _))
     }
 
-    /// Whether it is an enum.
-    pub(crate) fn is_enum(self) -> bool {
+    /// Whether it is that of an array without a bound.
+    pub(crate) fn is_open(self) -> bool
+        ensures { result ≡ is_open self }
+    {
+        matches!(self, Head::Array(None))
+    }
+
+    /// Whether it is that of an array with a bound.
+    pub(crate) fn is_bounded(self) -> bool
+        ensures { result ≡ is_bounded self }
+    {
+        matches!(self, Head::Array(Some(_)))
+    }
+
+    /// Whether it is that of a function without a prototype.
+    pub(crate) fn lacks_prototype(self) -> bool
+        ensures { result ≡ lacks_prototype self }
+    {
+        matches!(self, Head::Func { proto: false, .. })
+    }
+
+    /// Whether it is that of a function with a prototype that does not end in `...`.
+    pub(crate) fn has_prototype(self) -> bool
+        ensures { result ≡ has_prototype self }
+    {
         matches!(
-            self.head,
-            Head::Complete(AggKind::Enum, _, _) | Head::Incomplete(AggKind::Enum, _)
+            self,
+            Head::Func {
+                proto: true,
+                variadic: false
+            }
         )
     }
+}
+
+/// What stands beside a part: of a member its name and value, of a type's part nothing.
+#[derive(Clone, Copy, PartialEq, Eq, Hash)]
+pub(crate) struct Label {
+    /// The name's number, in an enum that of its stem.
+    pub(crate) name: u32,
+    /// An enumerator's value.
+    pub(crate) value: i32,
+}
+
+/// What stands beside a part of a type.
+const PLAIN: Label = Label { name: 0, value: 0 };
+
+/// A part of a type or of an aggregate: what stands beside it, and its number.
+pub(crate) type Part = (Label, u32);
+
+/// Where the parts of a thing stand in the list of parts.
+#[derive(Clone, Copy)]
+struct Span {
+    first: u32,
+    count: u32,
+}
+
+/// A type or an aggregate of a unit. An incomplete aggregate has no parts.
+#[derive(Clone, Copy)]
+struct Stored {
+    head: Head,
+    inside: Option<Span>,
 }
 
 /// The first numbers of a unit.
@@ -80,184 +113,288 @@ pub(crate) struct First {
 }
 
 /// The aggregates of all units, numbered one after the other, and then their types. A part of a type has a smaller number than the
-/// type, or is an aggregate.
+/// type.
 #[derive(Drop)]
 pub(crate) struct Web {
-    pub(crate) things: Vec<Thing>,
-    parts: Vec<u32>,
+    things: Vec<Stored>,
+    parts: Vec<Part>,
     firsts: Vec<First>,
     /// The number of aggregates.
     pub(crate) aggregates: u32,
 }
 
 impl Web {
+    /// The number of things.
+    pub(crate) fn count(&self) -> Result<u32, Memory>
+        ensures { IfOk result (λ n. n ≡ length self.now.things.items) }
+    {
+        narrow(self.things.len())
+    }
+
     /// A thing.
-    pub(crate) fn thing(&self, x: u32) -> Result<Thing, Memory> {
+    fn stored(&self, x: u32) -> Result<Stored, Memory>
+        ensures { IfOk result (λ t. slice_get self.now.things.items x ≡ Some t) }
+    {
         match self.things.get(x as usize) {
-            Some(thing) => Ok(*thing),
+            Some(stored) => Ok(*stored),
             None => Err(impossible()),
         }
     }
 
-    /// A part of a thing.
-    pub(crate) fn part(&self, thing: Thing, i: u32) -> Result<u32, Memory> {
-        at(&self.parts, sum(thing.first, i)?)
+    /// What a thing is.
+    #[tactic(auto, using(crate::proofs::WebLaws::head_at))]
+    pub(crate) fn head(&self, x: u32) -> Result<Head, Memory>
+        ensures { IfOk result (λ h. head_of (things_of self.now) x ≡ Some h) }
+    {
+        Ok(self.stored(x)?.head)
+    }
+
+    /// The parts that stand in a span.
+    fn within(&self, span: Span) -> Result<&[Part], Memory>
+        ensures { IfOk result (λ s. s.now ≡ parts_in self.now.parts.items span) }
+    {
+        let (first, count) = (span.first as usize, span.count as usize);
+        if first > self.parts.len() {
+            return Err(impossible());
+        }
+        let behind = &self.parts[first..];
+        if count > behind.len() {
+            return Err(impossible());
+        }
+        Ok(&behind[..count])
+    }
+
+    /// The parts of a thing, if it has them.
+    #[tactic(auto, using(crate::proofs::WebLaws::inside_at))]
+    pub(crate) fn inside(&self, x: u32) -> Result<Option<&[Part]>, Memory>
+        ensures { IfOk result (λ o. inside_of (things_of self.now) x ≡ option_map (λ s. s.now) o) }
+    {
+        match self.stored(x)?.inside {
+            Some(span) => Ok(Some(self.within(span)?)),
+            None => Ok(None),
+        }
+    }
+
+    /// Whether a thing has parts.
+    #[tactic(auto, using(crate::proofs::WebLaws::complete_at))]
+    pub(crate) fn is_complete(&self, x: u32) -> Result<bool, Memory>
+        ensures { IfOk result (λ b. b ≡ is_some (inside_of (things_of self.now) x)) }
+    {
+        Ok(self.stored(x)?.inside.is_some())
+    }
+
+    /// The parts of a thing, none where it does not have them.
+    pub(crate) fn parts(&self, x: u32) -> Result<&[Part], Memory>
+        ensures { IfOk result (λ s. s.now ≡ parts_of (things_of self.now) x) }
+    {
+        match self.inside(x)? {
+            Some(parts) => Ok(parts),
+            None => Ok(&[]),
+        }
+    }
+
+    /// The first part of a thing.
+    pub(crate) fn first_part(&self, x: u32) -> Result<u32, Memory>
+        ensures { IfOk result (λ n. n ≡ first_part (things_of self.now) x) }
+    {
+        match self.parts(x)? {
+            [first, ..] => Ok(first.1),
+            [] => Err(impossible()),
+        }
     }
 
     /// The first numbers of a unit.
-    fn first(&self, u: UnitNo) -> Result<First, Memory> {
+    fn first(&self, u: UnitNo) -> Result<First, Memory>
+        ensures { IfOk result (λ f. slice_get self.now.firsts.items u.0 ≡ Some f) }
+    {
         match self.firsts.get(u.0 as usize) {
             Some(first) => Ok(*first),
             None => Err(impossible()),
         }
     }
 
-    /// The number of an aggregate.
-    pub(crate) fn aggregate(&self, u: UnitNo, a: AggId) -> Result<u32, Memory> {
-        sum(self.first(u)?.aggregate, a.0)
-    }
-
     /// The number of a type.
-    pub(crate) fn ty(&self, u: UnitNo, t: TypeId) -> Result<u32, Memory> {
+    pub(crate) fn ty(&self, u: UnitNo, t: TypeId) -> Result<u32, Memory>
+        ensures { IfOk result (λ n. n ≡ first_type (first_pairs self.now) u.0 + t.0) }
+    {
         sum(self.first(u)?.ty, t.0)
     }
 
     /// The first numbers of all units.
-    pub(crate) fn firsts(&self) -> &[First] {
+    pub(crate) fn firsts(&self) -> &[First]
+        ensures { result.now ≡ self.now.firsts.items }
+    {
         &self.firsts
     }
 
     /// The first numbers of all units, given up by the web.
-    pub(crate) fn into_firsts(self) -> Vec<First> {
+    pub(crate) fn into_firsts(self) -> Vec<First>
+        ensures { result ≡ self.firsts }
+    {
         self.firsts
     }
 }
 
-/// A web while it is made.
+/// A member's name, as it is compared in an aggregate of a kind.
+fn compared_name(stems: &Stems, kind: AggKind, name: NameId) -> Result<u32, Memory>
+    ensures { (names : List (List ℕ)) → AreStems names stems.now → IfOk result (λ n. n ≡ compared names kind name) }
+{
+    match kind {
+        AggKind::Struct | AggKind::Union => Ok(name.0),
+        AggKind::Enum => Ok(stems.of(name)?.0),
+    }
+}
+
+/// What stands beside a member of an aggregate of a kind.
+fn label_of(stems: &Stems, kind: AggKind, m: &Member) -> Result<Label, Memory>
+    ensures { (names : List (List ℕ)) → AreStems names stems.now → IfOk result (λ l. l ≡ record { name = compared names kind m.now.name; value = m.now.value }) }
+{
+    let name = compared_name(stems, kind, m.name)?;
+    Ok(Label {
+        name,
+        value: m.value,
+    })
+}
+
+/// The types and aggregates of one unit while they are added to a web.
 #[derive(Drop)]
 struct Weaving<'a> {
-    web: Web,
-    labels: IndexSet<Labelled>,
     stems: &'a Stems,
+    first: First,
 }
 
-/// The number of a member behind a list of others.
-fn add_label(labels: &mut IndexSet<Labelled>, member: Labelled) -> Result<LabelId, Memory> {
-    let (index, _new) = labels.insert_full(member)?;
-    Ok(LabelId(sum(narrow(index)?, 1)?))
+/// Puts a part behind the others.
+fn push_part(parts: &mut Vec<Part>, label: Label, first: u32, number: u32) -> Result<(), Memory>
+    ensures { OnOk result (parts.new.items ≡ parts.old.items ++ (label, first + number) ∷ []) }
+{
+    parts.push((label, sum(first, number)?))?;
+    Ok(())
 }
 
-/// A member's name, as it is compared in an aggregate of a kind.
-fn compared_name(stems: &Stems, kind: AggKind, name: NameId) -> Result<MemberName, Memory> {
-    match kind {
-        AggKind::Struct | AggKind::Union => Ok(MemberName::Exact(name)),
-        AggKind::Enum => Ok(MemberName::Stem(stems.of(name)?)),
+/// Adds a thing whose parts are those from a place on.
+fn add_thing(web: &mut Web, head: Head, first: u32) -> Result<(), Memory>
+    ensures { OnOk result (Closes web.old web.new head first) }
+{
+    let end = narrow(web.parts.len())?;
+    let Some(count) = end.checked_sub(first) else {
+        return Err(impossible());
+    };
+    let inside = Some(Span { first, count });
+    web.things.push(Stored { head, inside })?;
+    Ok(())
+}
+
+/// Adds a type without parts.
+fn add_bare(web: &mut Web, head: Head) -> Result<(), Memory>
+    requires { IsSpanned web.old }
+    ensures { OnOk result (Adds web.old web.new ((record { head = head; inside = Some [] }) ∷ [])) }
+{
+    let first = narrow(web.parts.len())?;
+    add_thing(web, head, first)
+}
+
+/// Adds a type with one part.
+fn add_over(web: &mut Web, head: Head, base: u32, part: u32) -> Result<(), Memory>
+    requires { IsSpanned web.old }
+    ensures { OnOk result (Adds web.old web.new ((record { head = head; inside = Some ((plain, base + part) ∷ []) }) ∷ [])) }
+{
+    let first = narrow(web.parts.len())?;
+    push_part(&mut web.parts, PLAIN, base, part)?;
+    add_thing(web, head, first)
+}
+
+/// Puts types behind the parts.
+fn push_types(parts: &mut Vec<Part>, base: u32, types: &[TypeId]) -> Result<(), Memory>
+    ensures { OnOk result (parts.new.items ≡ parts.old.items ++ map (λ p. (plain, base + p.0)) types.now) }
+{
+    for t in types {
+        push_part(parts, PLAIN, base, t.0)?;
     }
+    Ok(())
+}
+
+/// Adds a function type.
+fn add_function(
+    web: &mut Web,
+    head: Head,
+    base: u32,
+    ret: TypeId,
+    params: &[TypeId],
+) -> Result<(), Memory>
+    requires { IsSpanned web.old }
+    ensures { OnOk result (Adds web.old web.new ((record { head = head; inside = Some ((plain, base + ret.0) ∷ map (λ p. (plain, base + p.0)) params.now) }) ∷ [])) }
+{
+    let first = narrow(web.parts.len())?;
+    push_part(&mut web.parts, PLAIN, base, ret.0)?;
+    push_types(&mut web.parts, base, params)?;
+    add_thing(web, head, first)
+}
+
+/// Adds an aggregate without members.
+fn add_incomplete(web: &mut Web, head: Head) -> Result<(), Memory>
+    requires { IsSpanned web.old }
+    ensures { OnOk result (Adds web.old web.new ((record { head = head; inside = None }) ∷ [])) }
+{
+    web.things.push(Stored { head, inside: None })?;
+    Ok(())
 }
 
 impl Weaving<'_> {
-    /// The number of a list of members, types aside.
-    fn label(&mut self, kind: AggKind, members: &[Member]) -> Result<LabelId, Memory> {
-        let mut before = LabelId(0);
+    /// Puts the types of members behind the parts, with what stands beside them.
+    fn push_members(
+        &self,
+        parts: &mut Vec<Part>,
+        kind: AggKind,
+        members: &[Member],
+    ) -> Result<(), Memory>
+        ensures { (names : List (List ℕ)) → AreStems names self.now.stems.now → OnOk result (parts.new.items ≡ parts.old.items ++ map (member_part names kind self.now.first.ty) members.now) }
+    {
         for m in members {
-            let name = compared_name(self.stems, kind, m.name)?;
-            let value = m.value;
-            before = add_label(
-                &mut self.labels,
-                Labelled {
-                    before,
-                    name,
-                    value,
-                },
-            )?;
-        }
-        Ok(before)
-    }
-
-    /// Adds a thing whose parts are the last of the list.
-    fn add(&mut self, head: Head, count: usize) -> Result<(), Memory> {
-        let end = narrow(self.web.parts.len())?;
-        let count = narrow(count)?;
-        let Some(first) = end.checked_sub(count) else {
-            return Err(impossible());
-        };
-        self.web.things.push(Thing { head, first, count })?;
-        Ok(())
-    }
-
-    /// Puts a type of a unit behind the parts.
-    fn push_type(&mut self, u: UnitNo, t: TypeId) -> Result<(), Memory> {
-        let part = self.web.ty(u, t)?;
-        self.web.parts.push(part)?;
-        Ok(())
-    }
-
-    /// Puts the types of members behind the parts.
-    fn push_members(&mut self, u: UnitNo, members: &[Member]) -> Result<(), Memory> {
-        for m in members {
-            self.push_type(u, m.ty.of)?;
+            let label = label_of(self.stems, kind, m)?;
+            push_part(parts, label, self.first.ty, m.ty.of.0)?;
         }
         Ok(())
     }
 
-    /// Puts types behind the parts.
-    fn push_types(&mut self, u: UnitNo, types: &[TypeId]) -> Result<(), Memory> {
-        for t in types {
-            self.push_type(u, *t)?;
-        }
-        Ok(())
+    /// Adds an aggregate with members.
+    fn add_complete(
+        &self,
+        web: &mut Web,
+        head: Head,
+        kind: AggKind,
+        members: &[Member],
+    ) -> Result<(), Memory>
+        requires { IsSpanned web.old }
+        ensures { (names : List (List ℕ)) → AreStems names self.now.stems.now → OnOk result (Adds web.old web.new ((record { head = head; inside = Some (map (member_part names kind self.now.first.ty) members.now) }) ∷ [])) }
+    {
+        let first = narrow(web.parts.len())?;
+        self.push_members(&mut web.parts, kind, members)?;
+        add_thing(web, head, first)
     }
 
     /// Adds an aggregate.
-    fn add_aggregate(&mut self, u: UnitNo, aggregate: &Aggregate) -> Result<(), Memory> {
-        let tag = self.stems.of_tag(aggregate.tag)?;
+    fn add_aggregate(&self, web: &mut Web, aggregate: &Aggregate) -> Result<(), Memory>
+        requires spanned { IsSpanned web.old }
+        requires stems { AreSomeStems self.now.stems.now }
+        ensures { (names : List (List ℕ)) → AreStems names self.now.stems.now → OnOk result (Adds web.old web.new (aggregate_thing names self.now.first.ty aggregate.now ∷ [])) }
+    {
+        let head = Head::Tagged(aggregate.kind, self.stems.of_tag(aggregate.tag)?);
         match &aggregate.members {
-            None => self.add(Head::Incomplete(aggregate.kind, tag), 0),
-            Some(members) => {
-                let label = self.label(aggregate.kind, members.as_slice())?;
-                self.push_members(u, members.as_slice())?;
-                let head = Head::Complete(aggregate.kind, tag, label);
-                self.add(head, members.as_slice().len())
-            }
+            None => add_incomplete(web, head),
+            Some(members) => self.add_complete(web, head, aggregate.kind, members.as_slice()),
         }
-    }
-
-    /// Adds a type with one part, which is a type.
-    fn add_over(&mut self, u: UnitNo, head: Head, part: TypeId) -> Result<(), Memory> {
-        self.push_type(u, part)?;
-        self.add(head, 1)
-    }
-
-    /// Adds a function type.
-    fn add_function(
-        &mut self,
-        u: UnitNo,
-        head: Head,
-        ret: TypeId,
-        params: &[TypeId],
-    ) -> Result<(), Memory> {
-        self.push_type(u, ret)?;
-        self.push_types(u, params)?;
-        match params.len().checked_add(1) {
-            Some(count) => self.add(head, count),
-            None => Err(impossible()),
-        }
-    }
-
-    /// Adds the type that is an aggregate.
-    fn add_named(&mut self, u: UnitNo, a: AggId) -> Result<(), Memory> {
-        let part = self.web.aggregate(u, a)?;
-        self.web.parts.push(part)?;
-        self.add(Head::Agg, 1)
     }
 
     /// Adds a type.
-    fn add_type(&mut self, u: UnitNo, n: &Node) -> Result<(), Memory> {
+    fn add_type(&self, web: &mut Web, n: &Node) -> Result<(), Memory>
+        requires { IsSpanned web.old }
+        ensures { OnOk result (Adds web.old web.new (type_thing self.now.first.aggregate self.now.first.ty n.now ∷ [])) }
+    {
         match n {
-            Node::Void => self.add(Head::Void, 0),
-            Node::Int(kind) => self.add(Head::Int(*kind), 0),
-            Node::Ptr(q) => self.add_over(u, Head::Ptr, q.of),
-            Node::Array(q, bound) => self.add_over(u, Head::Array(*bound), q.of),
+            Node::Void => add_bare(web, Head::Void),
+            Node::Int(kind) => add_bare(web, Head::Int(*kind)),
+            Node::Ptr(q) => add_over(web, Head::Ptr, self.first.ty, q.of.0),
+            Node::Array(q, bound) => add_over(web, Head::Array(*bound), self.first.ty, q.of.0),
             Node::Func {
                 proto,
                 variadic,
@@ -268,34 +405,44 @@ impl Weaving<'_> {
                     proto: *proto,
                     variadic: *variadic,
                 };
-                self.add_function(u, head, *ret, params.as_slice())
+                add_function(web, head, self.first.ty, *ret, params.as_slice())
             }
-            Node::Agg(a) => self.add_named(u, *a),
+            Node::Agg(a) => add_over(web, Head::Agg, self.first.aggregate, a.0),
         }
     }
 
     /// Adds the aggregates of a unit.
-    fn add_aggregates(&mut self, u: UnitNo, g: &TypeGraph) -> Result<(), Memory> {
+    fn add_aggregates(&self, web: &mut Web, g: &TypeGraph) -> Result<(), Memory>
+        requires spanned { IsSpanned web.old }
+        requires stems { AreSomeStems self.now.stems.now }
+        ensures { (names : List (List ℕ)) → AreStems names self.now.stems.now → OnOk result (Adds web.old web.new (map (aggregate_thing names self.now.first.ty) g.now.aggs)) }
+    {
         for a in 0..g.agg_count() {
-            self.add_aggregate(u, g.agg(AggId(a)))?;
+            self.add_aggregate(web, g.agg(AggId(a)))?;
         }
         Ok(())
     }
 
     /// Adds the types of a unit.
-    fn add_types(&mut self, u: UnitNo, g: &TypeGraph) -> Result<(), Memory> {
+    fn add_types(&self, web: &mut Web, g: &TypeGraph) -> Result<(), Memory>
+        requires { IsSpanned web.old }
+        ensures { OnOk result (Adds web.old web.new (map (type_thing self.now.first.aggregate self.now.first.ty) g.now.nodes)) }
+    {
         for t in 0..g.len() {
-            self.add_type(u, g.node(TypeId(t)))?;
+            self.add_type(web, g.node(TypeId(t)))?;
         }
         Ok(())
     }
 }
 
 /// The number of aggregates of all units.
-fn count_aggregates<G: HasGraph>(units: &[G]) -> Result<u32, Memory> {
+fn count_aggregates<G: HasGraph>(units: &[G]) -> Result<u32, Memory>
+    ensures count { IfOk result (λ n. n ≡ aggregate_count (map G.graph_of units.now)) }
+    ensures arenas { OnOk result (AllArenas (map G.graph_of units.now)) }
+{
     let mut count = 0;
-    for unit in units {
-        count = sum(count, unit.graph().agg_count())?;
+    for u in 0..units.len() {
+        count = sum(count, units[u].graph().agg_count())?;
     }
     Ok(count)
 }
@@ -305,30 +452,42 @@ fn first_numbers<G: HasGraph>(
     alloc: Global,
     units: &[G],
     aggregates: u32,
-) -> Result<Vec<First>, Memory> {
+) -> Result<Vec<First>, Memory>
+    ensures { IfOk result (λ v. map first_pair v.items ≡ firsts_from 0 aggregates (map G.graph_of units.now)) }
+{
     let mut firsts = Vec::new(alloc);
     let mut aggregate = 0;
     let mut ty = aggregates;
-    for unit in units {
+    for u in 0..units.len() {
+        let types = units[u].graph();
         firsts.push(First { aggregate, ty })?;
-        aggregate = sum(aggregate, unit.graph().agg_count())?;
-        ty = sum(ty, unit.graph().len())?;
+        aggregate = sum(aggregate, types.agg_count())?;
+        ty = sum(ty, types.len())?;
     }
     Ok(firsts)
 }
 
 /// Adds the aggregates of all units.
-fn weave_aggregates<G: HasGraph>(w: &mut Weaving<'_>, units: &[G]) -> Result<(), Memory> {
+fn weave_aggregates<G: HasGraph>(web: &mut Web, stems: &Stems, units: &[G]) -> Result<(), Memory>
+    requires spanned { IsSpanned web.old }
+    requires stems { AreSomeStems stems.now }
+    ensures { (names : List (List ℕ)) (types : ℕ) → AreStems names stems.now → first_pairs web.old ≡ firsts_from 0 types (map G.graph_of units.now) → OnOk result (Adds web.old web.new (aggregates_from names types (map G.graph_of units.now))) }
+{
     for u in 0..units.len() {
-        w.add_aggregates(UnitNo(narrow(u)?), units[u].graph())?;
+        let first = web.first(UnitNo(narrow(u)?))?;
+        Weaving { stems, first }.add_aggregates(web, units[u].graph())?;
     }
     Ok(())
 }
 
 /// Adds the types of all units.
-fn weave_types<G: HasGraph>(w: &mut Weaving<'_>, units: &[G]) -> Result<(), Memory> {
+fn weave_types<G: HasGraph>(web: &mut Web, stems: &Stems, units: &[G]) -> Result<(), Memory>
+    requires { IsSpanned web.old }
+    ensures { (types : ℕ) → first_pairs web.old ≡ firsts_from 0 types (map G.graph_of units.now) → OnOk result (Adds web.old web.new (types_from 0 types (map G.graph_of units.now))) }
+{
     for u in 0..units.len() {
-        w.add_types(UnitNo(narrow(u)?), units[u].graph())?;
+        let first = web.first(UnitNo(narrow(u)?))?;
+        Weaving { stems, first }.add_types(web, units[u].graph())?;
     }
     Ok(())
 }
@@ -338,22 +497,19 @@ pub(crate) fn weave<G: HasGraph>(
     alloc: Global,
     units: &[G],
     names: &NamePool,
-) -> Result<Web, Memory> {
+) -> Result<Web, Memory>
+    ensures { IfOk result (λ w. IsWoven names.now (map G.graph_of units.now) w) }
+{
     let stems = Stems::new(alloc, names)?;
     let aggregates = count_aggregates(units)?;
     let firsts = first_numbers(alloc, units, aggregates)?;
-    let web = Web {
+    let mut web = Web {
         things: Vec::new(alloc),
         parts: Vec::new(alloc),
         firsts,
         aggregates,
     };
-    let mut w = Weaving {
-        web,
-        labels: IndexSet::new(alloc),
-        stems: &stems,
-    };
-    weave_aggregates(&mut w, units)?;
-    weave_types(&mut w, units)?;
-    Ok(w.web)
+    weave_aggregates(&mut web, &stems, units)?;
+    weave_types(&mut web, &stems, units)?;
+    Ok(web)
 }

@@ -1,0 +1,158 @@
+-- Device: the classes that come are those of the units' types.
+use Rattle.std.proofs.Common.{◌≡◌, ◌⊎◌, inl, inr, ◌↔◌, ℕ, zero, suc, ◌+◌, ◌<◌, ◌≤◌, Bool, true, false, List, [], ◌∷◌, Option, Some, None, map, length, get_or, slice_get, nat_lt, if◌then◌else◌, subst, refl, sym, ap, ◌∙◌, arith, Vec}
+use borrow.Author.Tests.{ltb-true}
+use Rattle.std.specs.Option.{option_map, option_and_then}
+use Rattle.type_graph.specs.Arena.{Graph}
+use Rattle.type_iso.specs.declared.class_table.Classes.{Classes}
+use Rattle.type_iso.specs.declared.parties.Group.{Group}
+use Rattle.type_iso.specs.declared.web.First.{First}
+use Rattle.type_iso.specs.declared.web.Head.{Head}
+use Rattle.type_iso.specs.declared.web.Label.{Label}
+use Rattle.type_iso.specs.declared.web.Web.{Web}
+use Rattle.type_iso.specs.Things.{Thing}
+use Rattle.type_iso.specs.Units.{things, aggregate_count, firsts_from}
+use Rattle.type_iso.specs.Webs.{thing_in, things_of, first_pair, first_pairs, AreWhole}
+use Rattle.type_iso.specs.Weaving.{IsWoven}
+use Rattle.type_iso.specs.Links.{sides_in, links_of, FailsFirst}
+use Rattle.type_iso.specs.declared.forest.Forest.{Forest}
+use Rattle.type_iso.specs.declared.linking.Failure.{Failure}
+use Rattle.type_iso.specs.declared.merging.ClassStop.{ClassStop}
+use Rattle.type_iso.specs.Forests.{root}
+use Rattle.type_iso.specs.Joined.{IsJoining, AreNumbers}
+use Rattle.type_iso.specs.Keys.{num_at}
+use Rattle.type_iso.specs.Gathered.{AreGathered}
+use Rattle.type_iso.specs.Standing.{at_own, AreLeast, AreStanding, AreOrdered, AreClassed}
+use Rattle.type_iso.specs.Rounds.{IsWeb}
+use Rattle.type_iso.specs.Classes.{aggregate_number, class_in, sides, IsClashOf, AreClasses, IsRefused}
+use Rattle.type_iso.proofs.WovenLaws.{get_map, things_web, things_whole, things_aggregates, map_length}
+
+module _ {H L : Type 0} (ts : List (Thing H L)) (done : List (ℕ × ℕ)) where
+  pub least_classes : (cs : List ℕ) → AreGathered ts done cs → AreLeast cs
+  least_classes cs g x h =
+      let at = g.listed x h in
+      let below = g.below x in
+      let up : at_own cs (g.by_class x) ≡ g.by_class (g.by_class x) = g.listed (g.by_class x) (omega (arith, below, h)) in
+      (omega (arith, at, below), ap (at_own cs) at ∙ up ∙ g.least x ∙ sym at)
+
+  some_same : (a b : ℕ) → ◌≡◌ {A = Option ℕ} (Some a) (Some b) → a ≡ b
+  some_same a b e = cc
+
+  pub are_classed : (m : ℕ) (cs standing order all : List ℕ) → AreGathered ts done cs → AreStanding ts cs m standing → AreOrdered order standing all → AreClassed ts done m all order
+  are_classed m cs standing order all g s o = record {
+    count = o.count ∙ s.count;
+    joint = record { by_class = g.by_class; links = g.partition.links; fits = g.partition.fits };
+    same = λ x y hx hy. (
+      (λ e. g.partition.same x y (class_at x hx ∙ to x y hx hy e ∙ sym (class_at y hy))),
+      (λ e. o.same x y (long x hx) (long y hy) (s.same x y hx hy (sym (class_at x hx) ∙ g.partition.found x y e ∙ class_at y hy))),
+    );
+    placed = λ x hx. (at_own standing x, o.each x (long x hx), g.partition.same (at_own standing x) x (sym (g.listed (at_own standing x) (inside x hx)) ∙ (s.each x hx).member ∙ sym (class_at x hx)));
+  }
+    where
+      long : (x : ℕ) → x < m → x < length standing
+      long x h = (let l = s.count in omega (arith, h, l))
+
+      class_at : (x : ℕ) → x < m → g.by_class x ≡ at_own cs x
+      class_at x h = sym (g.listed x (s.within x h))
+
+      to : (x y : ℕ) → x < m → y < m → at_own all x ≡ at_own all y → at_own cs x ≡ at_own cs y
+      to x y hx hy e =
+          let same : at_own standing x ≡ at_own standing y = some_same (at_own standing x) (at_own standing y) (sym (o.each x (long x hx)) ∙ ap (slice_get order) e ∙ o.each y (long y hy)) in
+          sym (s.each x hx).member ∙ ap (at_own cs) same ∙ (s.each y hy).member
+
+      inside : (x : ℕ) → x < m → at_own standing x < length cs
+      inside x h = elim (s.each x h).early [
+        | inl e ↦ (let l = s.within x h in let b = g.below x in let a = class_at x h in omega (arith, e, l, b, a))
+        | inr l ↦ s.within (at_own standing x) l
+      ]
+
+-- what the phases give
+pub order_classed : (ts : List (Thing Head Label)) (done : List (ℕ × ℕ)) (m : ℕ) (f h : Forest) (st ns nd cs cd ss sd os od all : List ℕ) → h ≡ f → nd ≡ ns → cd ≡ cs → sd ≡ ss → od ≡ os
+    → AreNumbers ts (num_at ns) → ((us : List (Thing Head Label)) (es : List (ℕ × ℕ)) (vs : List ℕ) → IsJoining us es (root h.parents.items) vs [] → AreNumbers us (num_at nd) → AreGathered us es cs)
+    → (AreLeast cd → AreStanding ts cd m ss) → AreOrdered od sd all → IsJoining ts done (root f.parents.items) st [] → AreClassed ts done m all os
+order_classed ts done m f h st ns nd cs cd ss sd os od all ef en ec es eo num gather stand order j =
+    let g : AreGathered ts done cs = gather ts done st (subst (λ (k : Forest). IsJoining ts done (root k.parents.items) st []) (sym ef) j) (subst (λ l. AreNumbers ts (num_at l)) (sym en) num) in
+    let s : AreStanding ts cs m ss = subst (λ l. AreLeast l → AreStanding ts l m ss) ec stand (least_classes ts done cs g) in
+    are_classed ts done m cs ss os all g s (subst (λ l. AreOrdered l ss all) eo (subst (λ l. AreOrdered od l all) es order))
+
+-- an aggregate of a unit among those of all units
+number_at : (k t : ℕ) (gs : List Graph) (u a x : ℕ) → aggregate_number gs u a ≡ Some x → (f : ℕ × ℕ) × (slice_get (firsts_from k t gs) u ≡ Some f) × (f.0 + a ≡ k + x) × (x < aggregate_count gs)
+number_at k t [] u a x e = (let bad : ⊥ = cc in absurd bad)
+number_at k t (g ∷ gs) zero a x e = by (nat_lt a (length g.aggs)) refl e
+  where
+    by : (b : Bool) → nat_lt a (length g.aggs) ≡ b → (if b then Some a else None) ≡ Some x → (f : ℕ × ℕ) × (slice_get (firsts_from k t (g ∷ gs)) zero ≡ Some f) × (f.0 + a ≡ k + x) × (x < aggregate_count (g ∷ gs))
+    by true l q = (let same : a ≡ x = cc in let less = ltb-true a (length g.aggs) l in ((k, t), refl, ap (λ n. k + n) same, omega (arith, same, less)))
+    by false l q = (let bad : ⊥ = cc in absurd bad)
+number_at k t (g ∷ gs) (suc u) a x e = by (aggregate_number gs u a) refl (number_at (k + length g.aggs) (t + length g.nodes) gs u a) e
+  where
+    by : (o : Option ℕ) → aggregate_number gs u a ≡ o → ((n : ℕ) → aggregate_number gs u a ≡ Some n → (f : ℕ × ℕ) × (slice_get (firsts_from (k + length g.aggs) (t + length g.nodes) gs) u ≡ Some f) × (f.0 + a ≡ k + length g.aggs + n) × (n < aggregate_count gs))
+        → option_map (λ n. length g.aggs + n) o ≡ Some x → (f : ℕ × ℕ) × (slice_get (firsts_from k t (g ∷ gs)) (suc u) ≡ Some f) × (f.0 + a ≡ k + x) × (x < aggregate_count (g ∷ gs))
+    by None q again r = (let bad : ⊥ = cc in absurd bad)
+    by (Some n) q again r = (
+        let same : length g.aggs + n ≡ x = cc in
+        let rest = again n q in
+        let sum = rest.2 in let less = rest.3 in
+        (rest.0, rest.1, omega (arith, sum, same), omega (arith, less, same)))
+
+get_own : (xs : List ℕ) (x : ℕ) → x < length xs → slice_get xs x ≡ Some (at_own xs x)
+get_own xs x h = by xs x x h
+  where
+    by : (l : List ℕ) (i d : ℕ) → i < length l → slice_get l i ≡ Some (get_or l i d)
+    by [] i d q = absurd (omega (arith, q))
+    by (y ∷ l) zero d q = refl
+    by (y ∷ l) (suc i) d q = by l i d (omega (arith, q))
+
+class_number : (gs : List Graph) (c : Classes) (u a x : ℕ) → map first_pair c.firsts.items ≡ firsts_from 0 (aggregate_count gs) gs → length c.of.items ≡ aggregate_count gs → aggregate_number gs u a ≡ Some x → (class_in c u a ≡ Some (at_own c.of.items x)) × (x < aggregate_count gs)
+class_number gs c u a x firsts count e =
+    let n = number_at 0 (aggregate_count gs) gs u a x e in
+    let f = get_map first_pair c.firsts.items u n.0 (ap (λ l. slice_get l u) firsts ∙ n.1) in
+    let sum = n.2 in let less = n.3 in
+    let first : f.0.aggregate ≡ n.0.0 = ap (λ (p : ℕ × ℕ). p.0) f.2 in
+    let same : f.0.aggregate + a ≡ x = omega (arith, first, sum) in
+    (ap (option_and_then (λ (z : First). slice_get c.of.items (z.aggregate + a))) f.1 ∙ ap (slice_get c.of.items) same ∙ get_own c.of.items x (omega (arith, less, count)), less)
+
+pub are_classes : (names : List (List ℕ)) (gs : List Graph) (groups : List Group) (c : Classes) (w : Web) (order : List ℕ) → IsWoven names gs w → c.firsts ≡ w.firsts
+    → AreClassed (things_of w) (links_of (things_of w) (map (sides_in (first_pairs w)) groups)) w.aggregates c.of.items order → AreClasses names gs groups c
+are_classes names gs groups c w order woven firsts a =
+    let first : AreClassed (things names gs) (links_of (things names gs) (map (sides_in (first_pairs w)) groups)) w.aggregates c.of.items order =
+    subst (λ ts. AreClassed ts (links_of ts (map (sides_in (first_pairs w)) groups)) w.aggregates c.of.items order) woven.things a in
+    let second : AreClassed (things names gs) (links_of (things names gs) (sides gs groups)) w.aggregates c.of.items order =
+    subst (λ f. AreClassed (things names gs) (links_of (things names gs) (map (sides_in f) groups)) w.aggregates c.of.items order) woven.firsts first in
+    let k : AreClassed (things names gs) (links_of (things names gs) (sides gs groups)) (aggregate_count gs) c.of.items order =
+    subst (λ m. AreClassed (things names gs) (links_of (things names gs) (sides gs groups)) m c.of.items order) woven.aggregates second in
+    let pairs : map first_pair c.firsts.items ≡ firsts_from 0 (aggregate_count gs) gs = ap (λ v. map first_pair v.items) firsts ∙ woven.firsts in
+    record {
+      joint = k.joint;
+      some = λ u b x e. (at_own c.of.items x, (class_number gs c u b x pairs k.count e).0);
+      same = λ u b v d x y e f. (
+          let p = class_number gs c u b x pairs k.count e in
+          let q = class_number gs c v d y pairs k.count f in
+          let both = k.same x y p.1 q.1 in
+          ((λ h. both.0 (some_number (at_own c.of.items x) (at_own c.of.items y) (sym p.0 ∙ h ∙ q.0))), (λ h. p.0 ∙ ap Some (both.1 h) ∙ sym q.0)));
+    }
+  where
+    some_number : (m n : ℕ) → ◌≡◌ {A = Option ℕ} (Some m) (Some n) → m ≡ n
+    some_number m n e = cc
+
+pub fails_first : (names : List (List ℕ)) (gs : List Graph) (groups : List Group) (w : Web) (group earlier later : ℕ) (pair : ℕ × ℕ) → IsWoven names gs w
+    → FailsFirst (things_of w) (map (sides_in (first_pairs w)) groups) group earlier later pair → FailsFirst (things names gs) (sides gs groups) group earlier later pair
+fails_first names gs groups w group earlier later pair woven f =
+    subst (λ l. FailsFirst (things names gs) (map (sides_in l) groups) group earlier later pair) woven.firsts
+    (subst (λ ts. FailsFirst ts (map (sides_in (first_pairs w)) groups) group earlier later pair) woven.things f)
+
+pub refused : (names : List (List ℕ)) (gs : List Graph) (groups : List Group) (w : Web) (f : Failure) (s : ClassStop) → IsWoven names gs w → IsClashOf f.group f.earlier f.later s
+    → FailsFirst (things_of w) (map (sides_in (first_pairs w)) groups) f.group f.earlier f.later f.pair → IsRefused names gs groups s
+refused names gs groups w f s woven clash fails = subst (IsRefused names gs groups) (sym clash.2) (f.pair, fails_first names gs groups w f.group f.earlier f.later f.pair woven fails)
+
+pub woven_whole : (names : List (List ℕ)) (gs : List Graph) (w : Web) → IsWoven names gs w → AreWhole (things_of w)
+woven_whole names gs w woven = subst AreWhole (sym woven.things) (things_whole names gs)
+
+pub woven_web : (names : List (List ℕ)) (gs : List Graph) (w : Web) → IsWoven names gs w → IsWeb (things_of w) w.aggregates
+woven_web names gs w woven = subst (IsWeb (things_of w)) (sym woven.aggregates) (subst (λ ts. IsWeb ts (aggregate_count gs)) (sym woven.things) (things_web names gs woven.arenas))
+
+pub woven_within : (names : List (List ℕ)) (gs : List Graph) (w : Web) → IsWoven names gs w → w.aggregates ≤ length w.things.items
+woven_within names gs w woven = (
+    let a = things_aggregates names gs in
+    let b = ap length woven.things in
+    let c = map_length (thing_in w.parts.items) w.things.items in
+    let d = woven.aggregates in
+    omega (arith, a, b, c, d))

@@ -1,0 +1,49 @@
+-- Definition: the classes of the structs, unions and enums of several units, once the declarations of each external name are linked (C11 6.2.7p1, p2).
+use Rattle.std.specs.Prelude.{◌≡◌, ◌↔◌, ℕ, zero, suc, ◌+◌, List, [], ◌∷◌, Option, Some, None, Result, Ok, Err, map, length, nat_lt, slice_get, if◌then◌else◌}
+use Rattle.std.specs.Option.{option_map, option_and_then}
+use Rattle.cil_base.specs.declared.numbers.TypeId.{TypeId}
+use Rattle.cil_base.specs.declared.numbers.UnitNo.{UnitNo}
+use Rattle.type_graph.specs.Arena.{Graph}
+use Rattle.type_iso.specs.declared.class_table.Classes.{Classes}
+use Rattle.type_iso.specs.declared.merging.ClassStop.{ClassStop}
+use Rattle.type_iso.specs.declared.merging.ClassStop.TheVariants as stop
+use Rattle.type_iso.specs.declared.linking.Side.{Side}
+use Rattle.type_iso.specs.declared.parties.Group.{Group}
+use Rattle.type_iso.specs.declared.web.First.{First}
+use Rattle.type_iso.specs.Things.{Joint, Same}
+use Rattle.type_iso.specs.Units.{things, aggregate_count, firsts_from}
+use Rattle.type_iso.specs.Links.{sides_in, links_of, FailsFirst}
+
+-- the number of an aggregate of a unit among those of all units
+abbrev pub aggregate_number : List Graph → ℕ → ℕ → Option ℕ
+aggregate_number [] u a = None
+aggregate_number (g ∷ gs) zero a = if nat_lt a (length g.aggs) then Some a else None
+aggregate_number (g ∷ gs) (suc u) a = option_map (λ n. length g.aggs + n) (aggregate_number gs u a)
+
+-- the class of an aggregate of a unit
+abbrev pub class_in : Classes → ℕ → ℕ → Option ℕ
+class_in c u a = option_and_then (λ (f : First). slice_get c.of.items (f.aggregate + a)) (slice_get c.firsts.items u)
+
+-- what is compared of the declarations of each name
+abbrev pub sides : List Graph → List Group → List (List Side)
+sides gs groups = map (sides_in (firsts_from 0 (aggregate_count gs) gs)) groups
+
+-- the refusal of a link between two declarations of a group, by their places
+abbrev pub IsClashOf : ℕ → ℕ → ℕ → ClassStop → Type 0
+IsClashOf group earlier later s = (left : UnitNo × TypeId) × (right : UnitNo × TypeId) × (s ≡ stop.Clash group earlier later left right)
+
+module _ (names : List (List ℕ)) (gs : List Graph) (groups : List Group) where
+  -- all links have a joint equivalence, and two aggregates have one class where they are one in the least equivalence
+  pub record AreClasses (c : Classes) : Type 0 where
+    pub joint : Joint (things names gs) (links_of (things names gs) (sides gs groups))
+    pub some : (u a x : ℕ) → aggregate_number gs u a ≡ Some x → (n : ℕ) × (class_in c u a ≡ Some n)
+    pub same : (u a v b x y : ℕ) → aggregate_number gs u a ≡ Some x → aggregate_number gs v b ≡ Some y → (class_in c u a ≡ class_in c v b) ↔ Same (things names gs) (links_of (things names gs) (sides gs groups)) x y
+
+  -- the first link that fails is that of two declarations of a group, by their places
+  abbrev pub IsRefused : ClassStop → Type 0
+  IsRefused (stop.Clash group earlier later left right) = (pair : ℕ × ℕ) × FailsFirst (things names gs) (sides gs groups) group earlier later pair
+  IsRefused stop.Memory = Unit {0}
+
+  abbrev pub Answers : Result Classes ClassStop → Type 0
+  Answers (Ok c) = AreClasses c
+  Answers (Err s) = IsRefused s
