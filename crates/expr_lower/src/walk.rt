@@ -45,9 +45,11 @@ pub fn lower(e: &TypedExp, f: &mut FunctionOut) -> Result<Lowered, Memory> {
 pub fn value(f: &mut FunctionOut, e: &TypedExp, out: &mut Vec<Stmt>) -> Result<Exp, Memory>
     ensures grows { OnOk result (Extends out.old.items out.new.items) }
 {
-    let t = f.type_of(e)?;
     match e.node() {
-        TypedNode::Integer(n) => constant_of(f, t, *n),
+        TypedNode::Integer(n) => {
+            let t = f.type_of(e)?;
+            constant_of(f, t, *n)
+        }
         TypedNode::Load(p) => {
             let place = place(f, p, out)?;
             Ok(read(place))
@@ -65,6 +67,7 @@ pub fn value(f: &mut FunctionOut, e: &TypedExp, out: &mut Vec<Stmt>) -> Result<E
             member_of_value(x, *i)
         }
         TypedNode::Convert(a) => {
+            let t = f.type_of(e)?;
             let from = f.type_of(a)?;
             let x = value(f, a, out)?;
             converted(f.alloc, x, from, t)
@@ -300,10 +303,15 @@ fn values(
 fn place(f: &mut FunctionOut, e: &TypedExp, out: &mut Vec<Stmt>) -> Result<Lval, Memory>
     ensures grows { OnOk result (Extends out.old.items out.new.items) }
 {
-    let t = f.type_of(e)?;
     match e.node() {
-        TypedNode::Local(n) => f.local_place(*n, t),
-        TypedNode::Entity(n) => f.global_place(*n, t),
+        TypedNode::Local(n) => {
+            let t = f.type_of(e)?;
+            f.local_place(*n, t)
+        }
+        TypedNode::Entity(n) => {
+            let t = f.type_of(e)?;
+            f.global_place(*n, t)
+        }
         TypedNode::Literal(n, init) => {
             let n = f.literal(*n)?;
             initialise(f, init, n, out)?;
