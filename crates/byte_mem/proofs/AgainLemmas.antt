@@ -37,7 +37,7 @@ reduced_natural : (m : ℕ) (v : ℤ) → pos (unsigned_abs (reduced m v)) ≡ r
 reduced_natural m (pos a) = refl
 reduced_natural m (negsuc a) = refl
 
-reduced_below : (m : ℕ) (v : ℤ) → 0 < m → unsigned_abs (reduced m v) < m
+pub reduced_below : (m : ℕ) (v : ℤ) → 0 < m → unsigned_abs (reduced m v) < m
 reduced_below m (pos a) h = mod_below a m h
 reduced_below m (negsuc a) h = let below : a % m < m = mod_below a m h in omega (arith, ints)
 
@@ -217,7 +217,7 @@ load_held_is_value abi h offset s =
 
 -- parts of bytes
 
-part_again : (i : ℕ) (new xs : List Byte) → i ≤ length xs → part_at i (length new) (with_part i new xs) ≡ new
+pub part_again : (i : ℕ) (new xs : List Byte) → i ≤ length xs → part_at i (length new) (with_part i new xs) ≡ new
 part_again i new xs h =
     let len : length (take i xs) ≡ i = omega (arith, length-take i xs) in
     ap (take (length new)) (drop_at (take i xs) (new ++ drop (i + length new) xs) i len) ∙ take_at new (drop (i + length new) xs) (length new) refl
@@ -228,7 +228,7 @@ length_with i new xs h =
 
 -- a step that gave something
 
-bind_some : {A B : Type 0} (o : Option A) (f : A → Option B) (b : B) → (o >>= f) ≡ Some b → (a : A) × (o ≡ Some a) × (f a ≡ Some b)
+pub bind_some : {A B : Type 0} (o : Option A) (f : A → Option B) (b : B) → (o >>= f) ≡ Some b → (a : A) × (o ≡ Some a) × (f a ≡ Some b)
 bind_some None f b e = absurd (none-some b e)
 bind_some (Some a) f b e = (a, refl, e)
 
@@ -248,7 +248,7 @@ inside_room (pos a) n size i e =
     subst (λ (x : ℕ). x + n ≤ size) both.1 (at_most (a + n) size both.0)
 inside_room (negsuc a) n size i e = absurd (none-some i e)
 
-aligned_room : (offset : ℤ) (n size i : ℕ) → aligned offset n size ≡ Some i → i + n ≤ size
+pub aligned_room : (offset : ℤ) (n size i : ℕ) → aligned offset n size ≡ Some i → i + n ≤ size
 aligned_room offset n size i e =
     let found = bind_some (inside offset n size) (λ i. only_if (nat_eq (i % n) 0) i) i e in
     subst (λ (x : ℕ). x + n ≤ size) (only_some (nat_eq (found.0 % n) 0) found.0 i found.2).1 (inside_room offset n size found.0 found.1)

@@ -271,7 +271,7 @@ with_below f o m n x h k r s y = subst (λ (t : Bool). Lift (BelowHeld f) (with_
     by true = s
     by false = r y
 
-changed_below : (f : Names) → IsOneToOne f → (m n : Memory) (x : ObjName) (g k : Held → Option Held) → BelowMemory f m n → ((h : Held) (j : Held) → BelowHeld f h j → Lift (BelowHeld f) (g h) (k j)) → Lift (BelowMemory f) (changed m x g) (changed n (f x) k)
+pub changed_below : (f : Names) → IsOneToOne f → (m n : Memory) (x : ObjName) (g k : Held → Option Held) → BelowMemory f m n → ((h : Held) (j : Held) → BelowHeld f h j → Lift (BelowHeld f) (g h) (k j)) → Lift (BelowMemory f) (changed m x g) (changed n (f x) k)
 changed_below f o m n x g k r s =
     lift_bind (BelowHeld f) (BelowMemory f) (m x >>= g) (n (f x) >>= k) (λ h. Some (with_held m x (Some h))) (λ h. Some (with_held n (f x) (Some h)))
     (lift_bind (BelowHeld f) (BelowHeld f) (m x) (n (f x)) g k (r x) s)

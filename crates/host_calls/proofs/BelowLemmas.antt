@@ -21,10 +21,10 @@ use Rattle.host_calls.specs.Host.{HostState, Outcome, heap_limit, undefined, wit
 use Rattle.host_calls.specs.Laws.{KeepsHeap, BelowState, BelowArgs, BelowOutcome}
 
 -- the same state over another memory
-abbrev over : HostState → Memory → HostState
+abbrev pub over : HostState → Memory → HostState
 over s n = record s { memory = n }
 
-over_is : (f : Names) (s t : HostState) → BelowState f s t → over s t.memory ≡ t
+pub over_is : (f : Names) (s t : HostState) → BelowState f s t → over s t.memory ≡ t
 over_is f s t r =
     ap (λ (x : Option (Option ℕ)). let u : HostState = record { memory = t.memory; ready = x; out = s.out; live = s.live; heap = s.heap } in u) (sym r.ready)
     ∙ ap (λ (x : List ℕ). let u : HostState = record { memory = t.memory; ready = t.ready; out = x; live = s.live; heap = s.heap } in u) (sym r.out)
@@ -48,17 +48,17 @@ choice_below : (f : Names) (t : Bool) (o u a b : Outcome) → BelowOutcome f o u
 choice_below f true o u a b r q = r
 choice_below f false o u a b r q = q
 
-value_arg_below : (f : Names) (args more : List (Scalar × Value)) (i : ℕ) → BelowArgs f args more → Lift (BelowValue f) (value_arg (values_of args) i) (value_arg (values_of more) i)
+pub value_arg_below : (f : Names) (args more : List (Scalar × Value)) (i : ℕ) → BelowArgs f args more → Lift (BelowValue f) (value_arg (values_of args) i) (value_arg (values_of more) i)
 value_arg_below f [] [] i r = tt
 value_arg_below f [] (b ∷ more) i r = absurd r
 value_arg_below f (a ∷ args) [] i r = absurd r
 value_arg_below f (a ∷ args) (b ∷ more) zero r = r.1
 value_arg_below f (a ∷ args) (b ∷ more) (suc i) r = value_arg_below f args more i r.2
 
-number_arg_below : (f : Names) (args more : List (Scalar × Value)) (i : ℕ) → BelowArgs f args more → Lift Same (number_arg (values_of args) i) (number_arg (values_of more) i)
+pub number_arg_below : (f : Names) (args more : List (Scalar × Value)) (i : ℕ) → BelowArgs f args more → Lift Same (number_arg (values_of args) i) (number_arg (values_of more) i)
 number_arg_below f args more i r = lift_bind (BelowValue f) Same (value_arg (values_of args) i) (value_arg (values_of more) i) number_in number_in (value_arg_below f args more i r) (λ v w q. number_in_below f v w q)
 
-kinds_below : (f : Names) (kinds : List Scalar) (args more : List (Scalar × Value)) → BelowArgs f args more → have_kinds kinds more ≡ have_kinds kinds args
+pub kinds_below : (f : Names) (kinds : List Scalar) (args more : List (Scalar × Value)) → BelowArgs f args more → have_kinds kinds more ≡ have_kinds kinds args
 kinds_below f [] [] [] r = refl
 kinds_below f [] [] (b ∷ more) r = absurd r
 kinds_below f [] (a ∷ args) [] r = absurd r
