@@ -3,6 +3,7 @@ mod Rows
 mod LinkRows
 mod JumpRows
 mod MemoryRows
+pub mod Growth
 pub mod Tameness
 pub mod ProgramLaws
 pub mod Quiet

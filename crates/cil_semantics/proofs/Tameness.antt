@@ -1,6 +1,5 @@
 -- Device: statements of CIL ask of calls, and of what comes behind a spent unit, nothing but what they do there.
 use Rattle.std.proofs.Common.{◌≡◌, ℕ, ◌+◌, ◌<◌, ◌≤◌, List, Option, Some, None, refl, sym, ap, subst, arith}
-use Rattle.cil_base.proofs.OutcomeLaws.{IsPrefix-refl}
 use Rattle.byte_mem.specs.declared.values.Value.{Value}
 use Rattle.byte_mem.specs.Steps.{◌>>=◌}
 use Rattle.byte_mem.specs.Memory.{Memory}
@@ -10,15 +9,17 @@ use Rattle.execution.specs.Unrolling.{meaning}
 use Rattle.execution.specs.Data.{Kind, Datum, store_datum}
 use Rattle.execution.specs.Jumps.{ToLabel, Entry, Signal, Normal, Broken, Jumped, Returned, Has, Goer, spending, caught, if_from, switch_from, turned, turn_ends, turn, loop_from}
 use Rattle.execution.specs.Calls.{Enter}
-use Rattle.execution.specs.Likeness.{Ending, Exact, Past, Later, Like, Same, LikeSignal, LikeGoer, Grows, Needs, Along}
+use Rattle.execution.specs.Likeness.{Ending, Exact, Past, Like, Same, LikeSignal, LikeGoer, Grows, Needs, Along}
 use Rattle.execution.specs.Bounds.{cut_at, Twins, twins, Tied, Calm, Guarded, TiedSteps, CalmStep}
-use Rattle.execution.proofs.Congruence.{later_refl, later_trans, needs, needed, always, bind_like, bind_grows, seq_like, if_like, switch_like, turned_grows, turn_ends_like, loop_like, caught_like, spending_grows}
+use Rattle.execution.proofs.Congruence.{later_trans, needs, needed, always, bind_like, bind_grows, seq_like, if_like, switch_like, turned_grows, turn_ends_like, loop_like, caught_like, spending_grows}
+use Rattle.execution.proofs.Growth.{turn_grows}
 use Rattle.execution.proofs.FixedPoint.{calm_grows, spend_tied, meaning_is, meanings_tied}
-use Rattle.execution.proofs.Twins.{like_weaker, signal_same, signal_like, signals_wider, at_twin, goes_tied, undefined_tied, given_tied, pure_tied, along_same, carried, spending_tied}
+use Rattle.execution.proofs.Twins.{like_weaker, signal_same, signal_like, signals_wider, at_twin, goes_tied, undefined_tied, given_tied, pure_tied, follows_same, along_same, carried, spending_tied}
 use Rattle.cil_tree.specs.Tree as tree
 use Rattle.cil_tree.specs.Tree.{Exp, Lval, Callee, Instr, Set, Zero, Stmt, Do, If, Switch, Loop, Block, Label, Case, Default, Goto, Break, Return, Stmts, Done, Seq}
 use Rattle.cil_semantics.specs.Values.{Activation, abi_of, scalar_value, holds_of, value}
 use Rattle.cil_semantics.specs.Statements.{written, set, zero as clear, result_place, callee_value, result_kind, arguments, stored, kind_of_result, call, instr, has, has_in, test, switch_value, return, stmt, stmts, Entered, stmt_step, statement}
+use Rattle.cil_semantics.proofs.Growth.{stored_grows, stmts_grows}
 
 -- writes and expressions look at memory alone
 
@@ -29,14 +30,6 @@ written_tied n more base s t (Some m) tw = (Normal, with_memory t m, refl, (tw.0
 -- the state with units more, as a twin
 twin : (n more : ℕ) (base : List ℕ) (s t : State) → Twins n more base s t → Twins n more base s (with_left s (s.left + more))
 twin n more base s t tw = (tw.0, refl, tw.2)
-
-stored_grows : (a : Activation) (kind : Option Kind) (at : Option Value) → Grows (stored a kind at)
-stored_grows a kind None d s = later_refl s
-stored_grows a kind (Some at) d s = by (kind >>= λ k. store_datum (abi_of a) s.memory k at d)
-  where
-    by : (o : Option Memory) → Later s (last (written s o))
-    by None = later_refl s
-    by (Some m) = record { written = IsPrefix-refl s.out; spent = omega arith }
 
 stored_tied : (n more : ℕ) (base : List ℕ) (a : Activation) (kind : Option Kind) (at : Option Value) (d : Datum) (s t : State) → Twins n more base s t
     → Like (twins n more base) (LikeSignal (twins n more base) Same) (stored a kind at d s) (stored a kind at d t)
@@ -87,7 +80,6 @@ return_tied n more base a (Some e) s t tw =
 
 record Grown (a : Activation) (also : Enter) (once : Stmt → Goer) : Type 0 where
   turns : (x : Stmt) → Grows (once x)
-  one : (x : Stmt) → Grows (stmt a also once x)
   list : (xs : Stmts) → Grows (stmts a also once xs)
 
 record Ready (a : Activation) (n more : ℕ) (base : List ℕ) (enter also : Enter) (again once : Stmt → Goer) : Type 0 where
@@ -138,12 +130,10 @@ loop_alike : (a : Activation) (n more : ℕ) (base : List ℕ) (enter also : Ent
 loop_alike a n more base enter also again once r body k =
     loop_like (twins n more base) Same Same Same (again (Loop body) None) (once (Loop body) None) (stmts a enter again body) (stmts a also once body) (k n (omega arith)) (λ x y i. i)
     (turn_alike a n more base enter also again once r body k)
-    (carried n more base (turned (turn (once (Loop body) None) (stmts a also once body))) (needs (cut_at more) turn_grows r.grown))
+    (carried n more base (turned (turn (once (Loop body) None) (stmts a also once body))) (needs (cut_at more) turns_grow r.grown))
   where
-    turn_grows : Grown a also once → Grows (turned (turn (once (Loop body) None) (stmts a also once body)))
-    turn_grows g = turned_grows (turn (once (Loop body) None) (stmts a also once body)) (λ u. spending_grows (λ en v. turn_ends (stmts a also once body None v) (once (Loop body) None))
-        (λ en v. later_trans v (last (stmts a also once body None v)) (last (turn_ends (stmts a also once body None v) (once (Loop body) None))) (g.list body None v)
-        (bind_grows (stmts a also once body None v) (turned (once (Loop body) None)) (turned_grows (once (Loop body) None) (g.turns (Loop body) None)))) (Some (ToLabel 0)) u)
+    turns_grow : Grown a also once → Grows (turned (turn (once (Loop body) None) (stmts a also once body)))
+    turns_grow g = turned_grows (turn (once (Loop body) None) (stmts a also once body)) (turn_grows (once (Loop body) None) (stmts a also once body) (g.turns (Loop body) None) (g.list body))
 
 mutual
   stmt_alike : (a : Activation) (more : ℕ) (base : List ℕ) (enter also : Enter) (again once : Stmt → Goer) (x : Stmt) (n : ℕ) → Ready a n more base enter also again once
@@ -153,8 +143,8 @@ mutual
       caught_alike a n more base enter also again once r (If e holds fails) (has (If e holds fails))
       (if_from (test a e) (has_in holds) (has_in fails) (stmts a enter again holds) (stmts a enter again fails)) (if_from (test a e) (has_in holds) (has_in fails) (stmts a also once holds) (stmts a also once fails))
       (if_like (twins n more base) Same Same (test a e) (test a e) (has_in holds) (has_in holds) (has_in fails) (has_in fails) (stmts a enter again holds) (stmts a also once holds) (stmts a enter again fails) (stmts a also once fails)
-      (test_tied n more base a e) (λ x y i. ap (has_in holds) i) (stmts_alike a more base enter also again once holds n r) (stmts_alike a more base enter also again once fails n r)
-      (along_same n more base (has_in fails) (stmts a enter again fails) (stmts a also once fails) (stmts_alike a more base enter also again once fails n r) (carried n more base (stmts a also once fails) (needs (cut_at more) (λ g. g.list fails) r.grown)))
+      (test_tied n more base a e) (λ x y i. ap (has_in holds) i) (stmts_alike a more base enter also again once holds n r)
+      (follows_same n more base (has_in fails) (stmts a enter again fails) (stmts a also once fails) (stmts_alike a more base enter also again once fails n r) (carried n more base (stmts a also once fails) (needs (cut_at more) (λ g. g.list fails) r.grown)))
       (carried n more base (stmts a also once holds) (needs (cut_at more) (λ g. g.list holds) r.grown)))
   stmt_alike a more base enter also again once (Switch e body) n r =
       caught_alike a n more base enter also again once r (Switch e body) (has (Switch e body))
@@ -180,8 +170,8 @@ mutual
   stmts_alike a more base enter also again once Done n r = plain n more base (Goes Normal) (Goes Normal) (λ s t tw. goes_tied (LikeSignal (twins n more base) Same) n more base s t Normal Normal refl tw)
   stmts_alike a more base enter also again once (Seq first rest) n r =
       seq_like (twins n more base) Same Same (has first) (has first) (has_in rest) (has_in rest) (stmt a enter again first) (stmt a also once first) (stmts a enter again rest) (stmts a also once rest)
-      (λ x y i. ap (has first) i) (stmt_alike a more base enter also again once first n r) (stmts_alike a more base enter also again once rest n r)
-      (along_same n more base (has_in rest) (stmts a enter again rest) (stmts a also once rest) (stmts_alike a more base enter also again once rest n r) (carried n more base (stmts a also once rest) (needs (cut_at more) (λ g. g.list rest) r.grown)))
+      (λ x y i. ap (has first) i) (stmt_alike a more base enter also again once first n r)
+      (follows_same n more base (has_in rest) (stmts a enter again rest) (stmts a also once rest) (stmts_alike a more base enter also again once rest n r) (carried n more base (stmts a also once rest) (needs (cut_at more) (λ g. g.list rest) r.grown)))
 
 -- from functions of pairs to statements and back
 
@@ -209,12 +199,8 @@ calm_step a enter calm n base go k x s t tw =
 grown_of : (a : Activation) (also : Enter) (to : Entered → State → Result Signal) → Calm also → Calm to → Grown a also (λ y en. to (y, en))
 grown_of a also to calm still = record {
   turns = λ x en s. calm_grows to still (x, en) s;
-  one = λ x en s. calm_grows (λ (e : Entry) u. stmt a also (λ y en. to (y, en)) x e u) (λ n base e u v tw. entry_tied n 0 base (stmt a also (λ y en. to (y, en)) x) (stmt a also (λ y en. to (y, en)) x) (stmt_alike a 0 base also also (λ y en. to (y, en)) (λ y en. to (y, en)) x n (ready n base)) e u v tw) en s;
-  list = λ xs en s. calm_grows (λ (e : Entry) u. stmts a also (λ y en. to (y, en)) xs e u) (λ n base e u v tw. entry_tied n 0 base (stmts a also (λ y en. to (y, en)) xs) (stmts a also (λ y en. to (y, en)) xs) (stmts_alike a 0 base also also (λ y en. to (y, en)) (λ y en. to (y, en)) xs n (ready n base)) e u v tw) en s;
+  list = stmts_grows a also (λ y en. to (y, en)) (calm_grows also calm) (λ x en s. calm_grows to still (x, en) s);
 }
-  where
-    ready : (n : ℕ) (base : List ℕ) → Ready a n 0 base also also (λ y en. to (y, en)) (λ y en. to (y, en))
-    ready n base = record { calls = λ m l. calm m base; turns = λ m l. goer_of_tied m 0 base to to (still m base); grown = tt }
 
 two : {X Y Z : Type 0} (e : Ending) → (X → Y → Z) → Needs e X → Needs e Y → Needs e Z
 two Exact f x y = tt

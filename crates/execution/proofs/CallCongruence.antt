@@ -9,7 +9,7 @@ use Rattle.execution.specs.Unrolling.{unrolled}
 use Rattle.execution.specs.Data.{Kind, same_kind, Datum, Argument, local_name, argument_held, with_arguments, Automatic, with_objects, without_objects}
 use Rattle.execution.specs.Jumps.{Signal, Normal, Broken, Jumped, Returned}
 use Rattle.execution.specs.Calls.{Call, Enter, Function, Meaning, Object, Code, Host, Linked, leaves, number_of, scoped, returned, returns, numbers, begun, activated, arguments_match, matches, entered, function_called, host_called, called, meant, call_step, calls}
-use Rattle.execution.specs.Likeness.{Ending, Exact, Past, Likeness, ends, Like, Within, Computes, Targets, LikeSignal, Later, Grows, Needs, LikeArguments, LikeCall, AlikeCalls, SameKinds, LikeMeaning}
+use Rattle.execution.specs.Likeness.{Ending, Exact, Past, Likeness, ends, Like, Within, Computes, Targets, LikeSignal, Later, Grows, Needs, DataRelation, LikeArguments, LikeCall, CallRelation, AlikeCalls, SameKinds, LikeMeaning}
 use Rattle.execution.proofs.Congruence.{later_refl, later_trans, bind_grows, needed, always, bind_into, bind_like, meanings_like}
 
 -- objects whose lifetimes end
@@ -63,23 +63,23 @@ returns_like L c end other r q v w l = bind_like L (LikeSignal L c) L.values r q
 abbrev pub next_taken : State → State
 next_taken s = record s { next = suc s.next }
 
-arguments_like : (M : Likeness) (abi : Abi) (act other i : ℕ) (xs ys : List Argument) (n : ℕ) → LikeArguments M xs ys → i + length xs ≡ n
-    → ((j : ℕ) (a b : Argument) (s t : State) → j < n → b.kind ≡ a.kind → M.values a.datum b.datum → M.states s t
+arguments_like : (M : Likeness) (V : DataRelation) (abi : Abi) (act other i : ℕ) (xs ys : List Argument) (n : ℕ) → LikeArguments V xs ys → i + length xs ≡ n
+    → ((j : ℕ) (a b : Argument) (s t : State) → j < n → b.kind ≡ a.kind → V a.datum b.datum → M.states s t
     → M.states (with_memory s (with_held s.memory (local_name act j) (Some (argument_held abi a)))) (with_memory t (with_held t.memory (local_name other j) (Some (argument_held abi b)))))
     → (s t : State) → M.states s t → M.states (with_memory s (with_arguments abi act i xs s.memory)) (with_memory t (with_arguments abi other i ys t.memory))
-arguments_like M abi act other i [] [] n l e one s t h = h
-arguments_like M abi act other i [] (b ∷ ys) n l e one s t h = absurd l
-arguments_like M abi act other i (a ∷ xs) [] n l e one s t h = absurd l
-arguments_like M abi act other i (a ∷ xs) (b ∷ ys) n l e one s t h =
-    arguments_like M abi act other (suc i) xs ys n l.2 (omega arith) one (with_memory s (with_held s.memory (local_name act i) (Some (argument_held abi a)))) (with_memory t (with_held t.memory (local_name other i) (Some (argument_held abi b))))
+arguments_like M V abi act other i [] [] n l e one s t h = h
+arguments_like M V abi act other i [] (b ∷ ys) n l e one s t h = absurd l
+arguments_like M V abi act other i (a ∷ xs) [] n l e one s t h = absurd l
+arguments_like M V abi act other i (a ∷ xs) (b ∷ ys) n l e one s t h =
+    arguments_like M V abi act other (suc i) xs ys n l.2 (omega arith) one (with_memory s (with_held s.memory (local_name act i) (Some (argument_held abi a)))) (with_memory t (with_held t.memory (local_name other i) (Some (argument_held abi b))))
     (one i a b s t (omega arith) l.0 l.1 h)
 
 -- an activation begins: its number is taken, and its arguments are made in turn
-pub begun_like : (M : Likeness) (abi : Abi) (xs ys : List Argument) (s t : State) → LikeArguments M xs ys → M.states (next_taken s) (next_taken t)
-    → ((j : ℕ) (a b : Argument) (u v : State) → j < length xs → b.kind ≡ a.kind → M.values a.datum b.datum → M.states u v
+pub begun_like : (M : Likeness) (V : DataRelation) (abi : Abi) (xs ys : List Argument) (s t : State) → LikeArguments V xs ys → M.states (next_taken s) (next_taken t)
+    → ((j : ℕ) (a b : Argument) (u v : State) → j < length xs → b.kind ≡ a.kind → V a.datum b.datum → M.states u v
     → M.states (with_memory u (with_held u.memory (local_name s.next j) (Some (argument_held abi a)))) (with_memory v (with_held v.memory (local_name t.next j) (Some (argument_held abi b)))))
     → M.states (begun abi xs s) (begun abi ys t)
-begun_like M abi xs ys s t l h one = arguments_like M abi s.next t.next 0 xs ys (length xs) l (omega arith) one (next_taken s) (next_taken t) h
+begun_like M V abi xs ys s t l h one = arguments_like M V abi s.next t.next 0 xs ys (length xs) l (omega arith) one (next_taken s) (next_taken t) h
 
 pub activated_like : (M L : Likeness) (f g : Function) (enter also : Enter) (xs ys : List Argument) (s t : State) → Within M L → M.states (begun f.abi xs s) (begun g.abi ys t)
     → ((u v : State) → M.states u v → L.states (with_memory u (without_objects s.next (numbers 0 xs) u.memory)) (with_memory v (without_objects t.next (numbers 0 ys) v.memory)))
@@ -89,25 +89,25 @@ activated_like M L f g enter also xs ys s t w h gone k =
     leaves_like M L L.values s.next t.next (numbers 0 xs) (numbers 0 ys) (f.body enter s.next (begun f.abi xs s)) (g.body also t.next (begun g.abi ys t)) w gone (k (begun f.abi xs s) (begun g.abi ys t) h)
 
 -- arguments that are alike are as many, and of the same kinds
-pub numbers_like : (L : Likeness) (i : ℕ) (xs ys : List Argument) → LikeArguments L xs ys → numbers i ys ≡ numbers i xs
-numbers_like L i [] [] l = refl
-numbers_like L i [] (b ∷ ys) l = absurd l
-numbers_like L i (a ∷ xs) [] l = absurd l
-numbers_like L i (a ∷ xs) (b ∷ ys) l = ap (λ ns. i ∷ ns) (numbers_like L (suc i) xs ys l.2)
+pub numbers_like : (V : DataRelation) (i : ℕ) (xs ys : List Argument) → LikeArguments V xs ys → numbers i ys ≡ numbers i xs
+numbers_like V i [] [] l = refl
+numbers_like V i [] (b ∷ ys) l = absurd l
+numbers_like V i (a ∷ xs) [] l = absurd l
+numbers_like V i (a ∷ xs) (b ∷ ys) l = ap (λ ns. i ∷ ns) (numbers_like V (suc i) xs ys l.2)
 
-arguments_match_like : (L : Likeness) (kinds : List (Option Kind)) (xs ys : List Argument) → LikeArguments L xs ys → arguments_match kinds ys ≡ arguments_match kinds xs
-arguments_match_like L kinds [] [] l = refl
-arguments_match_like L kinds [] (b ∷ ys) l = absurd l
-arguments_match_like L kinds (a ∷ xs) [] l = absurd l
-arguments_match_like L [] (a ∷ xs) (b ∷ ys) l = refl
-arguments_match_like L (k ∷ kinds) (a ∷ xs) (b ∷ ys) l = ap (λ x. same_kind k x && arguments_match kinds ys) l.0 ∙ ap (λ x. same_kind k a.kind && x) (arguments_match_like L kinds xs ys l.2)
+arguments_match_like : (V : DataRelation) (kinds : List (Option Kind)) (xs ys : List Argument) → LikeArguments V xs ys → arguments_match kinds ys ≡ arguments_match kinds xs
+arguments_match_like V kinds [] [] l = refl
+arguments_match_like V kinds [] (b ∷ ys) l = absurd l
+arguments_match_like V kinds (a ∷ xs) [] l = absurd l
+arguments_match_like V [] (a ∷ xs) (b ∷ ys) l = refl
+arguments_match_like V (k ∷ kinds) (a ∷ xs) (b ∷ ys) l = ap (λ x. same_kind k x && arguments_match kinds ys) l.0 ∙ ap (λ x. same_kind k a.kind && x) (arguments_match_like V kinds xs ys l.2)
 
-matches_like : (L : Likeness) (f g : Function) (c d : Call) → SameKinds f g → LikeCall L c d → matches g d ≡ matches f c
-matches_like L f g c d i l =
+pub matches_like : (V : DataRelation) (f g : Function) (c d : Call) → SameKinds f g → LikeCall V c d → matches g d ≡ matches f c
+matches_like V f g c d i l =
     ap (λ x. same_kind x d.result && arguments_match g.parameters d.arguments) i.result
     ∙ ap (λ x. same_kind f.result x && arguments_match g.parameters d.arguments) l.result
     ∙ ap (λ x. same_kind f.result c.result && arguments_match x d.arguments) i.parameters
-    ∙ ap (λ x. same_kind f.result c.result && x) (arguments_match_like L f.parameters c.arguments d.arguments l.arguments)
+    ∙ ap (λ x. same_kind f.result c.result && x) (arguments_match_like V f.parameters c.arguments d.arguments l.arguments)
 
 -- how the spent unit keeps likeness is asked where the kinds agree
 pub entered_like : (L : Likeness) (ok : Bool) (f g : Function) (enter also : Enter) (xs ys : List Argument) (s t : State) → ends {B = Datum} L.wild L Undefined s (Undefined t)
@@ -115,11 +115,11 @@ pub entered_like : (L : Likeness) (ok : Bool) (f g : Function) (enter also : Ent
 entered_like L true f g enter also xs ys s t w k = k refl
 entered_like L false f g enter also xs ys s t w k = w
 
-pub function_like : (L : Likeness) (f g : Function) (enter also : Enter) (c d : Call) (s t : State) → SameKinds f g → LikeCall L c d → ends {B = Datum} L.wild L Undefined s (Undefined t)
+pub function_like : (L : Likeness) (V : DataRelation) (f g : Function) (enter also : Enter) (c d : Call) (s t : State) → SameKinds f g → LikeCall V c d → ends {B = Datum} L.wild L Undefined s (Undefined t)
     → (matches f c ≡ true → Like L L.values (spend s (activated enter f c.arguments)) (spend t (activated also g d.arguments)))
     → Like L L.values (function_called enter f c s) (function_called also g d t)
-function_like L f g enter also c d s t i l w k =
-    subst (λ x. Like L L.values (function_called enter f c s) (entered x also g d.arguments t)) (sym (matches_like L f g c d i l)) (entered_like L (matches f c) f g enter also c.arguments d.arguments s t w k)
+function_like L V f g enter also c d s t i l w k =
+    subst (λ x. Like L L.values (function_called enter f c s) (entered x also g d.arguments t)) (sym (matches_like V f g c d i l)) (entered_like L (matches f c) f g enter also c.arguments d.arguments s t w k)
 
 -- what is called is one or the other on both sides; where the first side calls nothing that is known, the second may do anything
 pub called_like : (L : Likeness) (P : Function → Function → Type 0) (enter also : Enter) (m n : Option Meaning) (c d : Call) (s t : State)
@@ -144,17 +144,17 @@ called_like L P enter also None n c d s t g w later f h = by L.wild g w later
     by Exact g w later = (w.0, w.1, ap (λ x. called also x d t) g ∙ w.2)
     by Past g w later = L.later s t (last (called also n d t)) w later
 
--- calls of linked programs are alike where what is called is, and the functions that P relates are where the calls in them are
-pub calls_like : {I : Type 0} (L : I → Likeness) (P : Function → Function → Type 0) (link other : Linked)
+-- calls of linked programs that Q relates are alike where what is called is, and the functions that P relates are where the calls in them are
+pub calls_like : {I : Type 0} (L : I → Likeness) (Q : I → CallRelation) (P : Function → Function → Type 0) (link other : Linked)
     → ((i : I) (s t : State) → (L i).states s t → t.left ≡ s.left)
     → ((i : I) (s t : State) → (L i).states s t → ends {B = Datum} (L i).cut (L i) Running s (Running t))
     → ((i : I) (s t : State) → (L i).states s t → ends {B = Datum} (L i).wild (L i) Undefined s (Undefined t))
     → ((n : ℕ) → Grows (unrolled (call_step other) n))
-    → ((i : I) (c d : Call) → LikeCall (L i) c d → Computes (L i).wild (LikeMeaning P) (meant link c.callee) (meant other d.callee))
-    → ((i : I) (name : HostName) (c d : Call) (s t : State) → LikeCall (L i) c d → (L i).states s t → Like (L i) (L i).values (host_called name c s) (host_called name d t))
-    → ((f g : Function) (enter also : Enter) → P f g → Grows also → AlikeCalls L enter also → (i : I) (c d : Call) (s t : State) → LikeCall (L i) c d → (L i).states s t → Like (L i) (L i).values (function_called enter f c s) (function_called also g d t))
-    → AlikeCalls L (calls link) (calls other)
-calls_like L P link other even stop wild grows names host functions =
-    meanings_like L (λ i. LikeCall (L i)) (λ i. (L i).values) (call_step link) (call_step other) even stop grows (λ enter also g now k i c d s t l h.
+    → ((i : I) (c d : Call) → Q i c d → Computes (L i).wild (LikeMeaning P) (meant link c.callee) (meant other d.callee))
+    → ((i : I) (name : HostName) (c d : Call) (s t : State) → Q i c d → (L i).states s t → Like (L i) (L i).values (host_called name c s) (host_called name d t))
+    → ((f g : Function) (enter also : Enter) → P f g → Grows also → AlikeCalls L Q enter also → (i : I) (c d : Call) (s t : State) → Q i c d → (L i).states s t → Like (L i) (L i).values (function_called enter f c s) (function_called also g d t))
+    → AlikeCalls L Q (calls link) (calls other)
+calls_like L Q P link other even stop wild grows names host functions =
+    meanings_like L Q (λ i. (L i).values) (call_step link) (call_step other) even stop grows (λ enter also g now k i c d s t l h.
     called_like (L i) P enter also (meant link c.callee) (meant other d.callee) c d s t (names i c d l) (wild i s t h) (needed (L i).wild (now d t))
     (λ x y p. functions x y enter also p g k i c d s t l h) (λ name. host i name c d s t l h))

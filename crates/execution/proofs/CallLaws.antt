@@ -51,7 +51,7 @@ gave_tied n more base name s WantOfMemory h few old new = (with_left s (s.left +
 host_tied : (n more : ℕ) (base : List ℕ) (name : HostName) (c : Call) (s t : State) → Twins n more base s t → Like (twins n more base) Same (host_called name c s) (host_called name c t)
 host_tied n more base name c s t tw =
     at_twin n more base s t (λ z. Like (twins n more base) Same (host_called name c s) (host_called name c z)) tw
-    (host_like (twins n more base) Same name c c s (with_left s (s.left + more)) refl (gives_itself Exact (scalar_arguments c.arguments)) (with_left s (s.left + more), (tw.0, refl, tw.2), refl) (λ wanted xs ys e.
+    (host_like (twins n more base) Same name c c s (with_left s (s.left + more)) refl (gives_itself Exact (scalar_arguments c.arguments)) (with_left s (s.left + more), (tw.0, refl, tw.2), refl) (λ wanted i xs ys e.
     subst (λ z. Like (twins n more base) Same (host_outcome name s (host c.abi name wanted xs (host_state s))) (host_outcome name (with_left s (s.left + more)) (host c.abi name wanted z (host_state s)))) (sym e)
     (gave_tied n more base name s (host c.abi name wanted xs (host_state s)).0 (host c.abi name wanted xs (host_state s)).1 tw.0 tw.2 (host_adds c.abi name wanted xs (host_state s)))))
 

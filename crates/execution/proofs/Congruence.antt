@@ -6,7 +6,7 @@ use Rattle.byte_mem.specs.Steps.{◌>>=◌}
 use Rattle.execution.specs.States.{State, Result, Goes, Exits, Running, Undefined, bind, given, spend, spent, last, with_left}
 use Rattle.execution.specs.Unrolling.{Step, unrolled, meaning}
 use Rattle.execution.specs.Jumps.{Target, ToCase, ToDefault, Entry, Signal, Normal, Broken, Jumped, Returned, Has, Goer, jumped, after, behind, jumping, spending, across, caught, seq_at, seq_from, chosen, if_from, case_for, broken_off, switch_ends, switched, switch_from, turned, turn_ends, turn, loop_from}
-use Rattle.execution.specs.Likeness.{Ending, Exact, Past, Later, Likeness, ends, Like, Within, Computes, Alike, Targets, Same, LikeSignal, LikeGoer, Grows, Needs, Carries, Along}
+use Rattle.execution.specs.Likeness.{Ending, Exact, Past, Later, Likeness, ends, Like, Within, Computes, Alike, Targets, Same, LikeSignal, LikeGoer, Grows, Needs, Carries, JumpedInto, Along, Follows}
 
 pub later_refl : (s : State) → Later s s
 later_refl s = record { written = IsPrefix-refl s.out; spent = omega arith }
@@ -137,12 +137,21 @@ behind_like L c d has also go to r q l h = bind_like L (LikeSignal L c) (LikeSig
     step (Returned None) b s t i n = (Returned None, t, refl, n, ap (λ y. after also to y t) i)
     step (Returned (Some v)) b s t i n = (Returned (Some i.0), t, (i.0, i.1, refl), n, ap (λ y. after also to y t) i.2)
 
+pub along_jumped : (L : Likeness) (c d : Targets) (has also : Has) (go to : Goer) → Along L c d has also go to → JumpedInto L c d has also go to
+along_jumped L c d has also go to l = record { at = l.at; same = l.same; out = l.out; grows = l.grows }
+
+pub follows_along : (L : Likeness) (c d : Targets) (has also : Has) (go to : Goer) → Follows L c d has also go to → Along L c d has also go to
+follows_along L c d has also go to f = record { start = f.goer.start; at = λ x y i h. f.goer.at x y i; same = f.same; out = f.out; grows = f.grows }
+
+pub follows_jumped : (L : Likeness) (c d : Targets) (has also : Has) (go to : Goer) → Follows L c d has also go to → JumpedInto L c d has also go to
+follows_jumped L c d has also go to f = record { at = λ x y i h. f.goer.at x y i; same = f.same; out = f.out; grows = f.grows }
+
 -- what is only entered by jumps
 pub jumping_grows : (to : Goer) → Grows to → Grows (jumping to)
 jumping_grows to g None s = later_refl s
 jumping_grows to g (Some x) s = g (Some x) s
 
-pub jumping_along : (L : Likeness) (c d : Targets) (has also : Has) (go to : Goer) → Along L c d has also go to → Along L c d has also (jumping go) (jumping to)
+pub jumping_along : (L : Likeness) (c d : Targets) (has also : Has) (go to : Goer) → JumpedInto L c d has also go to → Along L c d has also (jumping go) (jumping to)
 jumping_along L c d has also go to l = record {
   start = λ s t n. (Normal, t, refl, n, refl);
   at = l.at;
@@ -168,29 +177,31 @@ seq_grows first rest a b g h (Some x) s = by (first x)
     by true = later_trans s (last (a (Some x) s)) (last (behind rest (a (Some x) s) b)) (g (Some x) s) (bind_grows (a (Some x) s) (after rest b) (after_grows rest b h))
     by false = h (Some x) s
 
--- the first part, entered at c, jumps to what c relates; the rest is along
+-- the first part, entered at c, jumps to what c relates; the rest follows
 pub seq_like : (L : Likeness) (c d : Targets) (first also_first rest also_rest : Has) (a a' b b' : Goer)
-    → ((x y : Target) → c x y → also_first y ≡ first x) → LikeGoer L c c a a' → LikeGoer L c d b b' → Along L c d rest also_rest b b'
-    → LikeGoer L c d (seq_from first rest a b) (seq_from also_first also_rest a' b')
-seq_like L c d first also_first rest also_rest a a' b b' f g h l = record {
+    → ((x y : Target) → c x y → also_first y ≡ first x) → LikeGoer L c c a a' → Follows L c d rest also_rest b b' → LikeGoer L c d (seq_from first rest a b) (seq_from also_first also_rest a' b')
+seq_like L c d first also_first rest also_rest a a' b b' f g h = record {
   start = λ s t n. behind_like L c d rest also_rest b b' (a None s) (a' None t) l (g.start s t n);
   at = λ x y i s t n. by x y i s t n (first x) (also_first y) (f x y i);
 }
   where
+    l : Along L c d rest also_rest b b'
+    l = follows_along L c d rest also_rest b b' h
+
     by : (x y : Target) → c x y → (s t : State) → L.states s t → (p q : Bool) → q ≡ p → Like L (LikeSignal L d) (seq_at p rest a b x s) (seq_at q also_rest a' b' y t)
     by x y i s t n true q e = subst (λ z. Like L (LikeSignal L d) (behind rest (a (Some x) s) b) (seq_at z also_rest a' b' y t)) (sym e) (behind_like L c d rest also_rest b b' (a (Some x) s) (a' (Some y) t) l (g.at x y i s t n))
-    by x y i s t n false q e = subst (λ z. Like L (LikeSignal L d) (b (Some x) s) (seq_at z also_rest a' b' y t)) (sym e) (h.at x y i s t n)
+    by x y i s t n false q e = subst (λ z. Like L (LikeSignal L d) (b (Some x) s) (seq_at z also_rest a' b' y t)) (sym e) (h.goer.at x y i s t n)
 
 -- an if
 
 -- a side that a jump may come to from the other one
-pub chosen_like : (L : Likeness) (c d : Targets) (fails also : Has) (a a' b b' : Goer) → LikeGoer L c c a a' → LikeGoer L c d b b' → Along L c d fails also b b'
+pub chosen_like : (L : Likeness) (c d : Targets) (fails also : Has) (a a' b b' : Goer) → LikeGoer L c c a a' → Follows L c d fails also b b'
     → (p : Bool) → LikeGoer L c d (chosen p fails a b) (chosen p also a' b')
-chosen_like L c d fails also a a' b b' g h l true = record {
-  start = λ s t n. behind_like L c d fails also (jumping b) (jumping b') (a None s) (a' None t) (jumping_along L c d fails also b b' l) (g.start s t n);
-  at = λ x y i s t n. behind_like L c d fails also (jumping b) (jumping b') (a (Some x) s) (a' (Some y) t) (jumping_along L c d fails also b b' l) (g.at x y i s t n);
+chosen_like L c d fails also a a' b b' g h true = record {
+  start = λ s t n. behind_like L c d fails also (jumping b) (jumping b') (a None s) (a' None t) (jumping_along L c d fails also b b' (follows_jumped L c d fails also b b' h)) (g.start s t n);
+  at = λ x y i s t n. behind_like L c d fails also (jumping b) (jumping b') (a (Some x) s) (a' (Some y) t) (jumping_along L c d fails also b b' (follows_jumped L c d fails also b b' h)) (g.at x y i s t n);
 }
-chosen_like L c d fails also a a' b b' g h l false = record { start = h.start; at = h.at }
+chosen_like L c d fails also a a' b b' g h false = record { start = h.goer.start; at = h.goer.at }
 
 pub chosen_grows : (fails : Has) (a b : Goer) → Grows a → Grows b → (p : Bool) → Grows (chosen p fails a b)
 chosen_grows fails a b g h true en s = later_trans s (last (a en s)) (last (across fails (a en s) b)) (g en s) (bind_grows (a en s) (after fails (jumping b)) (after_grows fails (jumping b) (jumping_grows b h)))
@@ -199,13 +210,13 @@ chosen_grows fails a b g h false en s = h en s
 pub if_like : (L : Likeness) (c d : Targets) (test test' : State → Result Bool) (holds holds' fails fails' : Has) (a a' b b' : Goer)
     → ((s t : State) → L.states s t → Like L Same (test s) (test' t))
     → ((x y : Target) → c x y → holds' y ≡ holds x)
-    → LikeGoer L c c a a' → LikeGoer L c d b b' → Along L c d fails fails' b b' → Carries L a'
+    → LikeGoer L c c a a' → Follows L c d fails fails' b b' → Carries L a'
     → LikeGoer L c d (if_from test holds fails a b) (if_from test' holds' fails' a' b')
-if_like L c d test test' holds holds' fails fails' a a' b b' e f g h l ga = record {
+if_like L c d test test' holds holds' fails fails' a a' b b' e f g h ga = record {
   start = λ s t n. bind_like L Same (LikeSignal L d) (test s) (test' t) (λ v u. chosen v fails a b None u) (λ v u. chosen v fails' a' b' None u) (e s t n)
-      (λ v w u z i m. subst (λ x. Like L (LikeSignal L d) (chosen v fails a b None u) (chosen x fails' a' b' None z)) (sym i) ((chosen_like L c d fails fails' a a' b b' g h l v).start u z m))
-      (carries_both L a' b' (λ v u. chosen v fails' a' b' None u) (λ p q v u. chosen_grows fails' a' b' p q v None u) ga l.grows);
-  at = λ x y i s t n. subst (λ z. Like L (LikeSignal L d) (chosen (holds x) fails a b (Some x) s) (chosen z fails' a' b' (Some y) t)) (sym (f x y i)) ((chosen_like L c d fails fails' a a' b b' g h l (holds x)).at x y i s t n);
+      (λ v w u z i m. subst (λ x. Like L (LikeSignal L d) (chosen v fails a b None u) (chosen x fails' a' b' None z)) (sym i) ((chosen_like L c d fails fails' a a' b b' g h v).start u z m))
+      (carries_both L a' b' (λ v u. chosen v fails' a' b' None u) (λ p q v u. chosen_grows fails' a' b' p q v None u) ga h.grows);
+  at = λ x y i s t n. subst (λ z. Like L (LikeSignal L d) (chosen (holds x) fails a b (Some x) s) (chosen z fails' a' b' (Some y) t)) (sym (f x y i)) ((chosen_like L c d fails fails' a a' b b' g h (holds x)).at x y i s t n);
 }
 
 -- a switch
@@ -232,6 +243,11 @@ switch_ends_like L d r q h = bind_like L (LikeSignal L d) (LikeSignal L d) r q b
 pub switched_grows : (body : Goer) → Grows body → (en : Entry) (s : State) → Later s (last (switched en body s))
 switched_grows body g None s = later_refl s
 switched_grows body g (Some x) s = later_trans s (last (body (Some x) s)) (last (switch_ends (body (Some x) s))) (g (Some x) s) (bind_grows (body (Some x) s) broken_off broken_off_grows)
+
+-- a switch whose selector is known on both sides, as it is behind code that computes it
+pub switched_like : (L : Likeness) (c d : Targets) (body also : Goer) → LikeGoer L c d body also → (x y : Target) → c x y → (s t : State) → L.states s t
+    → Like L (LikeSignal L d) (switched (Some x) body s) (switched (Some y) also t)
+switched_like L c d body also h x y i s t n = switch_ends_like L d (body (Some x) s) (also (Some y) t) (h.at x y i s t n)
 
 pub switch_like : (L : Likeness) (c d : Targets) (value value' : State → Result ℤ) (has also : Has) (body body' : Goer)
     → ((s t : State) → L.states s t → Like L Same (value s) (value' t))
@@ -305,11 +321,11 @@ spend_like {A} {B} L R go to even lower stop k s t n = subst (λ m. Like L R (sp
     by zero = stop s t n
     by (suc m) = k (with_left s m) (with_left t m) (lower s t m n)
 
--- so a jump back is along where the statement that it enters is
+-- so a jump back is along where the statement that it enters is, at the target alone
 pub spending_along : (L : Likeness) (c d : Targets) (has also : Has) (go to : Goer)
     → ((s t : State) → L.states s t → t.left ≡ s.left) → ((s t : State) (n : ℕ) → L.states s t → L.states (with_left s n) (with_left t n))
     → ((s t : State) → L.states s t → ends {B = Signal} L.cut L Running s (Running t))
-    → Along L c d has also go to → Along L c d has also (spending go) (spending to)
+    → JumpedInto L c d has also go to → Along L c d has also (spending go) (spending to)
 spending_along L c d has also go to even lower stop l = record {
   start = λ s t n. (Normal, t, refl, n, refl);
   at = λ x y i h. spend_like L (LikeSignal L d) (go (Some x)) (to (Some y)) even lower stop (l.at x y i h);

@@ -1,4 +1,5 @@
 pub mod Congruence
+pub mod Growth
 pub mod CallCongruence
 pub mod FixedPoint
 pub mod Twins

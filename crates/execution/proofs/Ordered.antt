@@ -60,12 +60,12 @@ ordered f = record {
 }
 
 abbrev pub OrderedCalls : Names → Enter → Enter → Type 0
-OrderedCalls f = AlikeCalls (λ (i : Unit {0}). ordered f)
+OrderedCalls f = AlikeCalls (λ (i : Unit {0}). ordered f) (λ i. LikeCall (BelowDatum f))
 
-outputs : (f : Names) (s t : State) → BelowRun f s t → IsPrefix s.out t.out
+pub outputs : (f : Names) (s t : State) → BelowRun f s t → IsPrefix s.out t.out
 outputs f s t h = subst (IsPrefix s.out) (sym h.out) (IsPrefix-refl s.out)
 
-keeps_forms : (f : Names) → KeepsForms (ordered f)
+pub keeps_forms : (f : Names) → KeepsForms (BelowDatum f)
 keeps_forms f = record { single = single; bytes = bytes }
   where
     single : (v : Value) (e : Datum) → BelowDatum f (Single v) e → (w : Value) × (e ≡ Single w)
@@ -78,16 +78,16 @@ keeps_forms f = record { single = single; bytes = bytes }
 
 -- the host
 
-args_below : (f : Names) (xs ys : List (Scalar × Value)) → LikeScalars (ordered f) xs ys → BelowArgs f xs ys
+pub args_below : (f : Names) (xs ys : List (Scalar × Value)) → LikeScalars (BelowDatum f) xs ys → BelowArgs f xs ys
 args_below f [] [] h = tt
 args_below f [] (y ∷ ys) h = absurd h
 args_below f (x ∷ xs) [] h = absurd h
 args_below f (x ∷ xs) (y ∷ ys) h = (h.0, h.1, args_below f xs ys h.2)
 
-seen_below : (f : Names) (s t : State) → BelowRun f s t → BelowState f (host_state s) (host_state t)
+pub seen_below : (f : Names) (s t : State) → BelowRun f s t → BelowState f (host_state s) (host_state t)
 seen_below f s t h = record { memory = h.memory; ready = ap ready h.input; out = h.out; live = h.live; heap = h.heap }
 
-after_below : (f : Names) (name : HostName) (s t : State) (h k : HostState) → BelowRun f s t → BelowState f h k → BelowRun f (after_host name s h) (after_host name t k)
+pub after_below : (f : Names) (name : HostName) (s t : State) (h k : HostState) → BelowRun f s t → BelowState f h k → BelowRun f (after_host name s h) (after_host name t k)
 after_below f name s t h k r q = record {
   memory = q.memory;
   input = ap (λ x. input_after x t.input) q.ready ∙ ap (input_after h.ready) r.input;
@@ -111,9 +111,9 @@ gave_below f name s t Broke h a k n p b = p
 gave_below f name s t NeedsInput h a k n p b = p
 gave_below f name s t WantOfMemory h a k n p b = p
 
-host_ordered : (f : Names) → IsOneToOne f → KeepsHeap f → (name : HostName) (c d : Call) (s t : State) → LikeCall (ordered f) c d → BelowRun f s t → Like (ordered f) (BelowDatum f) (host_called name c s) (host_called name d t)
+pub host_ordered : (f : Names) → IsOneToOne f → KeepsHeap f → (name : HostName) (c d : Call) (s t : State) → LikeCall (BelowDatum f) c d → BelowRun f s t → Like (ordered f) (BelowDatum f) (host_called name c s) (host_called name d t)
 host_ordered f o heap name c d s t l n =
-    host_like (ordered f) (LikeScalars (ordered f)) name c d s t l.result (scalars_like (ordered f) (keeps_forms f) c.arguments d.arguments l.arguments) (outputs f s t n) (λ wanted xs ys h.
+    host_like (ordered f) (LikeScalars (BelowDatum f)) name c d s t l.result (scalars_like Past (BelowDatum f) (keeps_forms f) c.arguments d.arguments l.arguments) (outputs f s t n) (λ wanted i xs ys h.
     subst (λ x. Like (ordered f) (BelowDatum f) (host_outcome name s (host c.abi name wanted xs (host_state s))) (host_outcome name t (host x name wanted ys (host_state t)))) (sym l.abi)
     (gave_below f name s t (host c.abi name wanted xs (host_state s)).0 (host c.abi name wanted xs (host_state s)).1 (host c.abi name wanted ys (host_state t)).0 (host c.abi name wanted ys (host_state t)).1 n
     (IsPrefix-trans s.out t.out (last (host_outcome name t (host c.abi name wanted ys (host_state t)))).out (outputs f s t n) (outcome_grows c.abi name wanted ys t).written)
@@ -124,7 +124,7 @@ host_ordered f o heap name c d s t l n =
 abbrev pub KeepsLocals : Names → Type 0
 KeepsLocals f = (act i : ℕ) → f (local_name act i) ≡ local_name act i
 
-held_below : (f : Names) (abi : Abi) (a b : Argument) → b.kind ≡ a.kind → BelowDatum f a.datum b.datum → BelowHeld f (argument_held abi a) (argument_held abi b)
+pub held_below : (f : Names) (abi : Abi) (a b : Argument) → b.kind ≡ a.kind → BelowDatum f a.datum b.datum → BelowHeld f (argument_held abi a) (argument_held abi b)
 held_below f abi a b i h = record { function = refl; writable = λ e. e; bytes = subst (λ k. BelowBytes f (bytes_in abi a.kind a.datum) (bytes_in abi k b.datum)) (sym i) (by a.kind a.datum b.datum h) }
   where
     by : (k : Option Kind) (d e : Datum) → BelowDatum f d e → BelowBytes f (bytes_in abi k d) (bytes_in abi k e)
@@ -139,32 +139,32 @@ held_below f abi a b i h = record { function = refl; writable = λ e. e; bytes =
     by (Some (OfAggregate n)) (Bytes bs) (Bytes cs) h = h
     by None (Bytes bs) (Bytes cs) h = h
 
-with_run : (f : Names) (s t : State) (m n : Memory) → BelowRun f s t → BelowMemory f m n → BelowRun f (with_memory s m) (with_memory t n)
+pub with_run : (f : Names) (s t : State) (m n : Memory) → BelowRun f s t → BelowMemory f m n → BelowRun f (with_memory s m) (with_memory t n)
 with_run f s t m n r q = record { memory = q; input = r.input; at_end = r.at_end; out = r.out; left = r.left; next = r.next; live = r.live; heap = r.heap }
 
-ends_below : (f : Names) → IsOneToOne f → KeepsLocals f → (act : ℕ) (xs : List ℕ) (m n : Memory) → BelowMemory f m n → BelowMemory f (without_objects act xs m) (without_objects act xs n)
+pub ends_below : (f : Names) → IsOneToOne f → KeepsLocals f → (act : ℕ) (xs : List ℕ) (m n : Memory) → BelowMemory f m n → BelowMemory f (without_objects act xs m) (without_objects act xs n)
 ends_below f o k act [] m n h = h
 ends_below f o k act (i ∷ xs) m n h =
     ends_below f o k act xs (end_object m (local_name act i)) (end_object n (local_name act i)) (subst (λ x. BelowMemory f (end_object m (local_name act i)) (end_object n x)) (k act i) (end_below f o m n (local_name act i) h))
 
 -- a function whose body keeps the order is called so
-function_ordered : (f : Names) → IsOneToOne f → KeepsLocals f → (g h : Function) (enter also : Enter) (c d : Call) (s t : State) → SameKinds g h → h.abi ≡ g.abi → LikeCall (ordered f) c d → BelowRun f s t
+function_ordered : (f : Names) → IsOneToOne f → KeepsLocals f → (g h : Function) (enter also : Enter) (c d : Call) (s t : State) → SameKinds g h → h.abi ≡ g.abi → LikeCall (BelowDatum f) c d → BelowRun f s t
     → ((act : ℕ) (u v : State) → BelowRun f u v → Like (ordered f) (BelowDatum f) (g.body enter act u) (h.body also act v))
     → Like (ordered f) (BelowDatum f) (function_called enter g c s) (function_called also h d t)
 function_ordered f o k g h enter also c d s t i a l n body =
-    function_like (ordered f) g h enter also c d s t i l (outputs f s t n) (λ ok.
+    function_like (ordered f) (BelowDatum f) g h enter also c d s t i l (outputs f s t n) (λ ok.
     spend_like (ordered f) (BelowDatum f) (activated enter g c.arguments) (activated also h d.arguments) (λ u v w. w.left) (λ u v m w. record { memory = w.memory; input = w.input; at_end = w.at_end; out = w.out; left = refl; next = w.next; live = w.live; heap = w.heap })
     (λ u v w. (v, w.out, refl)) by s t n)
   where
     by : (u v : State) → BelowRun f u v → Like (ordered f) (BelowDatum f) (activated enter g c.arguments u) (activated also h d.arguments v)
     by u v w =
         activated_like (ordered f) (ordered f) g h enter also c.arguments d.arguments u v (within_itself (ordered f))
-        (subst (λ x. BelowRun f (begun g.abi c.arguments u) (begun x d.arguments v)) (sym a) (begun_like (ordered f) g.abi c.arguments d.arguments u v l.arguments
+        (subst (λ x. BelowRun f (begun g.abi c.arguments u) (begun x d.arguments v)) (sym a) (begun_like (ordered f) (BelowDatum f) g.abi c.arguments d.arguments u v l.arguments
         (record { memory = w.memory; input = w.input; at_end = w.at_end; out = w.out; left = w.left; next = ap suc w.next; live = w.live; heap = w.heap })
         (λ j x y p q small kinds values r. with_run f p q _ _ r (subst (λ z. BelowMemory f (with_held p.memory (local_name u.next j) (Some (argument_held g.abi x))) (with_held q.memory z (Some (argument_held g.abi y)))) (k u.next j ∙ ap (λ z. local_name z j) (sym w.next))
         (with_below f o p.memory q.memory (local_name u.next j) (Some (argument_held g.abi x)) (Some (argument_held g.abi y)) r.memory (held_below f g.abi x y kinds values))))))
         (λ p q r. with_run f p q _ _ r (subst (λ z. BelowMemory f (without_objects u.next (numbers 0 c.arguments) p.memory) (without_objects z (numbers 0 d.arguments) q.memory)) (sym w.next)
-        (subst (λ z. BelowMemory f (without_objects u.next (numbers 0 c.arguments) p.memory) (without_objects u.next z q.memory)) (sym (numbers_like (ordered f) 0 c.arguments d.arguments l.arguments))
+        (subst (λ z. BelowMemory f (without_objects u.next (numbers 0 c.arguments) p.memory) (without_objects u.next z q.memory)) (sym (numbers_like (BelowDatum f) 0 c.arguments d.arguments l.arguments))
         (ends_below f o k u.next (numbers 0 c.arguments) p.memory q.memory r.memory))))
         (λ p q r. subst (λ z. Like (ordered f) (BelowDatum f) (g.body enter u.next p) (h.body also z q)) (sym w.next) (body u.next p q r))
 
@@ -177,7 +177,7 @@ pub record OrderedFunctions (f : Names) (g h : Function) : Type 0 where
 pub calls_ordered : (f : Names) → IsOneToOne f → KeepsHeap f → KeepsLocals f → (link other : Linked) → AllTame other
     → ((v w : Value) → BelowValue f v w → Computes Past (LikeMeaning (OrderedFunctions f)) (meant link v) (meant other w)) → OrderedCalls f (calls link) (calls other)
 calls_ordered f o heap locals link other tame names =
-    calls_like (λ i. ordered f) (OrderedFunctions f) link other (λ i s t n. n.left) (λ i s t n. (t, n.out, refl)) (λ i s t n. outputs f s t n) (calls_grow other tame) (λ i c d l. names c.callee d.callee l.callee)
+    calls_like (λ i. ordered f) (λ i. LikeCall (BelowDatum f)) (OrderedFunctions f) link other (λ i s t n. n.left) (λ i s t n. (t, n.out, refl)) (λ i s t n. outputs f s t n) (calls_grow other tame) (λ i c d l. names c.callee d.callee l.callee)
     (λ i name c d s t. host_ordered f o heap name c d s t)
     (λ g h enter also k grows alike i c d s t l n. function_ordered f o locals g h enter also c d s t k.kinds k.abi l n (k.body enter also grows alike))
 

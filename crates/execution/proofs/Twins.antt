@@ -3,9 +3,9 @@ use Rattle.std.proofs.Common.{◌≡◌, ℕ, ◌+◌, ◌<◌, List, Option, So
 use Rattle.byte_mem.specs.Memory.{Memory}
 use Rattle.execution.specs.States.{State, Result, Goes, Undefined, given, pure, last, with_left, with_memory}
 use Rattle.execution.specs.Jumps.{Signal, Normal, Broken, Jumped, Returned, Has, Goer, spending}
-use Rattle.execution.specs.Likeness.{Exact, Later, Likeness, Like, Same, LikeSignal, LikeGoer, Grows, Needs, Carries, Along}
+use Rattle.execution.specs.Likeness.{Exact, Later, Likeness, Like, Same, LikeSignal, LikeGoer, Grows, Needs, Carries, Along, Follows}
 use Rattle.execution.specs.Bounds.{cut_at, Twins, twins}
-use Rattle.execution.proofs.Congruence.{needs, within_itself, like_wider, gives_itself, given_like}
+use Rattle.execution.proofs.Congruence.{needs, follows_along, within_itself, like_wider, gives_itself, given_like}
 use Rattle.execution.proofs.FixedPoint.{spend_tied}
 
 pub like_weaker : {A B : Type 0} (L : Likeness) (R S : A → B → Type 0) (r : Result A) (q : Result B) → ((a : A) (b : B) → R a b → S a b) → Like L R r q → Like L S r q
@@ -49,15 +49,12 @@ pub pure_tied : {A : Type 0} (n more : ℕ) (base : List ℕ) (s t : State) (o :
 pure_tied n more base s t (Some a) tw = goes_tied Same n more base s t a a refl tw
 pure_tied n more base s t None tw = undefined_tied Same n more base s t tw
 
--- what jumps to the same targets on both sides is along
+-- what jumps to the same targets on both sides follows, and so it is along
+pub follows_same : (n more : ℕ) (base : List ℕ) (has : Has) (go to : Goer) → LikeGoer (twins n more base) Same Same go to → Carries (twins n more base) to → Follows (twins n more base) Same Same has has go to
+follows_same n more base has go to l g = record { goer = l; same = λ x y i. ap has i; out = λ x y i h. i; grows = g }
+
 pub along_same : (n more : ℕ) (base : List ℕ) (has : Has) (go to : Goer) → LikeGoer (twins n more base) Same Same go to → Carries (twins n more base) to → Along (twins n more base) Same Same has has go to
-along_same n more base has go to l g = record {
-  start = l.start;
-  at = λ x y i h. l.at x y i;
-  same = λ x y i. ap has i;
-  out = λ x y i h. i;
-  grows = g;
-}
+along_same n more base has go to l g = follows_along (twins n more base) Same Same has has go to (follows_same n more base has go to l g)
 
 -- a continuation whose outputs grow, where that is asked
 pub carried : {A B : Type 0} (n more : ℕ) (base : List ℕ) (to : A → State → Result B) → Needs (cut_at more) (Grows to) → Carries (twins n more base) to

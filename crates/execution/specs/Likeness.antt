@@ -96,7 +96,14 @@ pub record Carries {A B : Type 0} (L : Likeness) (to : A → State → Result B)
   pub cut : Needs L.cut (Grows to)
   pub wild : Needs L.wild (Grows to)
 
--- a part that a jump may enter, behind what jumps to targets that c relates: those that it has, it has on both sides, and others pass on to d
+-- a part that jumps alone enter, behind what jumps to targets that c relates: those that it has, it has on both sides, and others pass on to d; of its start nothing is asked
+pub record JumpedInto (L : Likeness) (c d : Targets) (has also : Has) (go to : Goer) : Type 0 where
+  pub at : (x y : Target) → c x y → has x ≡ true → (s t : State) → L.states s t → Like L (LikeSignal L d) (go (Some x) s) (to (Some y) t)
+  pub same : (x y : Target) → c x y → also y ≡ has x
+  pub out : (x y : Target) → c x y → has x ≡ false → d x y
+  pub grows : Carries L to
+
+-- a part that a jump may enter, and that is entered at its start too
 pub record Along (L : Likeness) (c d : Targets) (has also : Has) (go to : Goer) : Type 0 where
   pub start : (s t : State) → L.states s t → Like L (LikeSignal L d) (go None s) (to None t)
   pub at : (x y : Target) → c x y → has x ≡ true → (s t : State) → L.states s t → Like L (LikeSignal L d) (go (Some x) s) (to (Some y) t)
@@ -104,35 +111,50 @@ pub record Along (L : Likeness) (c d : Targets) (has also : Has) (go to : Goer) 
   pub out : (x y : Target) → c x y → has x ≡ false → d x y
   pub grows : Carries L to
 
--- arguments of the same kinds, with data that are alike
-abbrev pub LikeArguments : Likeness → List Argument → List Argument → Type 0
-LikeArguments L [] [] = Unit {0}
-LikeArguments L [] (b ∷ ys) = ⊥
-LikeArguments L (a ∷ xs) [] = ⊥
-LikeArguments L (a ∷ xs) (b ∷ ys) = (b.kind ≡ a.kind) × L.values a.datum b.datum × LikeArguments L xs ys
+-- a statement and what is behind it, entered at its start and at each target that c relates, whether it stands in it or not
+pub record Follows (L : Likeness) (c d : Targets) (has also : Has) (go to : Goer) : Type 0 where
+  pub goer : LikeGoer L c d go to
+  pub same : (x y : Target) → c x y → also y ≡ has x
+  pub out : (x y : Target) → c x y → has x ≡ false → d x y
+  pub grows : Carries L to
+
+-- which data of the second side are alike to one of the first
+abbrev pub DataRelation : Type 1
+DataRelation = Datum → Datum → Type 0
+
+-- arguments of the same kinds, with data that V relates
+abbrev pub LikeArguments : DataRelation → List Argument → List Argument → Type 0
+LikeArguments V [] [] = Unit {0}
+LikeArguments V [] (b ∷ ys) = ⊥
+LikeArguments V (a ∷ xs) [] = ⊥
+LikeArguments V (a ∷ xs) (b ∷ ys) = (b.kind ≡ a.kind) × V a.datum b.datum × LikeArguments V xs ys
 
 -- what the host is given of them
-abbrev pub LikeScalars : Likeness → List (Scalar × Value) → List (Scalar × Value) → Type 0
-LikeScalars L [] [] = Unit {0}
-LikeScalars L [] (b ∷ ys) = ⊥
-LikeScalars L (a ∷ xs) [] = ⊥
-LikeScalars L (a ∷ xs) (b ∷ ys) = (b.0 ≡ a.0) × L.values (Single a.1) (Single b.1) × LikeScalars L xs ys
+abbrev pub LikeScalars : DataRelation → List (Scalar × Value) → List (Scalar × Value) → Type 0
+LikeScalars V [] [] = Unit {0}
+LikeScalars V [] (b ∷ ys) = ⊥
+LikeScalars V (a ∷ xs) [] = ⊥
+LikeScalars V (a ∷ xs) (b ∷ ys) = (b.0 ≡ a.0) × V (Single a.1) (Single b.1) × LikeScalars V xs ys
 
--- what is like a value is a value, and what is like bytes is bytes
-pub record KeepsForms (L : Likeness) : Type 0 where
-  pub single : (v : Value) (e : Datum) → L.values (Single v) e → (w : Value) × (e ≡ Single w)
-  pub bytes : (bs : List Byte) (e : Datum) → L.values (Bytes bs) e → (cs : List Byte) × (e ≡ Bytes cs)
+-- what V relates to a value is a value, and what it relates to bytes is bytes
+pub record KeepsForms (V : DataRelation) : Type 0 where
+  pub single : (v : Value) (e : Datum) → V (Single v) e → (w : Value) × (e ≡ Single w)
+  pub bytes : (bs : List Byte) (e : Datum) → V (Bytes bs) e → (cs : List Byte) × (e ≡ Bytes cs)
 
--- calls of the same kinds, with values that are alike
-pub record LikeCall (L : Likeness) (c d : Call) : Type 0 where
+-- calls of the same kinds, with values that V relates; it need not be the relation of what the calls give
+pub record LikeCall (V : DataRelation) (c d : Call) : Type 0 where
   pub abi : d.abi ≡ c.abi
-  pub callee : L.values (Single c.callee) (Single d.callee)
+  pub callee : V (Single c.callee) (Single d.callee)
   pub result : d.result ≡ c.result
-  pub arguments : LikeArguments L c.arguments d.arguments
+  pub arguments : LikeArguments V c.arguments d.arguments
 
--- what calls do on the two sides is alike, from calls that are alike
-abbrev pub AlikeCalls : {I : Type 0} → (I → Likeness) → Enter → Enter → Type 0
-AlikeCalls L = Alike L (λ i. LikeCall (L i)) (λ i. (L i).values)
+-- which calls of the second side are alike to one of the first
+abbrev pub CallRelation : Type 1
+CallRelation = Call → Call → Type 0
+
+-- what calls do on the two sides is alike, from calls that Q relates
+abbrev pub AlikeCalls : {I : Type 0} → (I → Likeness) → (I → CallRelation) → Enter → Enter → Type 0
+AlikeCalls L Q = Alike L Q (λ i. (L i).values)
 
 -- functions that take and give the same kinds
 pub record SameKinds (f g : Function) : Type 0 where

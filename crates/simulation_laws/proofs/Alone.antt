@@ -1,6 +1,5 @@
 -- Device: one side of two memories changes alone, and what a change of one object leaves as it was.
-use Rattle.std.proofs.Common.{◌≡◌, ℕ, ◌+◌, ◌≤◌, ◌%◌, Bool, true, false, List, length, Option, Some, None, ℤ, refl, sym, ap, ◌∙◌, subst}
-use Rattle.std.specs.Prelude.{nat_eq}
+use Rattle.std.proofs.Common.{◌≡◌, ℕ, ◌+◌, ◌≤◌, Bool, true, false, List, length, Option, Some, None, ℤ, refl, sym, ap, ◌∙◌, subst}
 use Rattle.cil_base.specs.declared.kinds.Abi.{Abi}
 use Rattle.byte_mem.specs.declared.pointers.ObjName.{ObjName}
 use Rattle.byte_mem.specs.declared.pointers.Pointer.{Pointer}
@@ -8,7 +7,6 @@ use Rattle.byte_mem.specs.declared.values.Byte.{Byte}
 use Rattle.byte_mem.specs.declared.values.Scalar.{Scalar}
 use Rattle.byte_mem.specs.declared.values.Value.{Value}
 use Rattle.byte_mem.specs.declared.values.Value.TheVariants.{Int, Ptr, Unknown, Part}
-use Rattle.byte_mem.specs.Steps.{◌>>=◌, only_if}
 use Rattle.byte_mem.specs.Name.{same_name}
 use Rattle.byte_mem.specs.Scalar.{scalar_size, bytes_of}
 use Rattle.byte_mem.specs.Object.{Held, inside, aligned, write_at, store_held, store_part}
@@ -16,7 +14,7 @@ use Rattle.byte_mem.specs.Memory.{Memory, with_held, changed}
 use Rattle.byte_mem.specs.Below.{Names, BelowValue, Lift, BelowHeld, BelowMemory}
 use Rattle.byte_mem.proofs.NameLemmas.{name_same}
 use Rattle.byte_mem.proofs.BelowLemmas.{length_bytes}
-use Rattle.byte_mem.proofs.AgainLemmas.{length_with, inside_room, write_some, changed_some, held_here, held_there}
+use Rattle.byte_mem.proofs.AgainLemmas.{length_with, inside_room, aligned_room, write_some, changed_some, held_here, held_there}
 use Rattle.execution.specs.Data.{Kind, OfVoid, OfScalar, OfAggregate, Datum, Single, Bytes, store_to, store_datum}
 use Rattle.simulation_laws.specs.Changes.{ChangesAlone, itself, HasRoom, Moves, Sizes, ChangesMove}
 
@@ -85,20 +83,6 @@ write_sizes h place new j e room =
     let w = write_some h place new j e in
     subst (λ (x : Held). (x.function ≡ h.function) × (x.read_only ≡ h.read_only) × (length x.bytes ≡ length h.bytes)) w.2 (refl, refl, length_with w.0 new h.bytes (room w.0 w.1))
 
-aligned_fits : (offset : ℤ) (n size i : ℕ) → aligned offset n size ≡ Some i → i + n ≤ size
-aligned_fits offset n size i e = by (inside offset n size) (λ j f. inside_room offset n size j f) e
-  where
-    only : (b : Bool) (j : ℕ) → j + n ≤ size → only_if b j ≡ Some i → i + n ≤ size
-    only true j h f = subst (λ (x : ℕ). x + n ≤ size) (same j i f) h
-      where
-        same : (j i : ℕ) → Some j ≡ Some i → j ≡ i
-        same j i f = cc
-    only false j h f = cc
-
-    by : (o : Option ℕ) → ((j : ℕ) → o ≡ Some j → j + n ≤ size) → (o >>= λ j. only_if (nat_eq (j % n) 0) j) ≡ Some i → i + n ≤ size
-    by None h f = cc
-    by (Some j) h f = only (nat_eq (j % n) 0) j (h j refl) f
-
 -- a store that is undefined on the second side alone is none
 none_there : (s t : Memory) (o : Option Memory) → Lift (BelowMemory itself) o None → Lift (Moves s t) o None
 none_there s t None r = tt
@@ -110,7 +94,7 @@ part_sizes offset new h j e = write_sizes h (inside offset (length new) (length 
 scalar_sizes : (abi : Abi) (offset : ℤ) (s : Scalar) (v : Value) → Sizes (λ h. store_held abi h offset s v)
 scalar_sizes abi offset s v h j e =
     write_sizes h (aligned offset (scalar_size abi s) (length h.bytes)) (bytes_of abi s v) j e
-    (λ i f. subst (λ (n : ℕ). i + n ≤ length h.bytes) (sym (length_bytes abi s v)) (aligned_fits offset (scalar_size abi s) (length h.bytes) i f))
+    (λ i f. subst (λ (n : ℕ). i + n ≤ length h.bytes) (sym (length_bytes abi s v)) (aligned_room offset (scalar_size abi s) (length h.bytes) i f))
 
 stored_to : (abi : Abi) (s t : Memory) (kind : Kind) (p : Pointer) (d e : Datum) → Lift (BelowMemory itself) (store_to abi s kind p d) (store_to abi t kind p e) → Lift (Moves s t) (store_to abi s kind p d) (store_to abi t kind p e)
 stored_to abi s t OfVoid p d e r = tt

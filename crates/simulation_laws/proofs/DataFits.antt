@@ -96,7 +96,7 @@ outcome_gives name c s wanted e o h = by o.0 h
     by NeedsInput h = tt
     by WantOfMemory h = tt
 
-host_gives : (name : HostName) (c : Call) (s : State) → IsReady (ready s.input) → GivesKind c.abi c.result (host_called name c s)
+pub host_gives : (name : HostName) (c : Call) (s : State) → IsReady (ready s.input) → GivesKind c.abi c.result (host_called name c s)
 host_gives name c s r = by (scalar_result c.result) refl
   where
     arguments : (wanted : Option Scalar) → scalar_result c.result ≡ Some wanted → (o : Option (List (Scalar × Value))) → GivesKind c.abi c.result (given s o (λ args. host_outcome name s (host c.abi name wanted args (host_state s))))
@@ -107,11 +107,11 @@ host_gives name c s r = by (scalar_result c.result) refl
     by None e = tt
     by (Some wanted) e = arguments wanted e (scalar_arguments c.arguments)
 
-ready_bytes : (input : List ℕ) → AreBytes input → IsReady (ready input)
+pub ready_bytes : (input : List ℕ) → AreBytes input → IsReady (ready input)
 ready_bytes [] h = tt
 ready_bytes (b ∷ input) h = h.0
 
-left_bytes : (next : Option (Option ℕ)) (input : List ℕ) → AreBytes input → AreBytes (input_after next input)
+pub left_bytes : (next : Option (Option ℕ)) (input : List ℕ) → AreBytes input → AreBytes (input_after next input)
 left_bytes (Some next) input h = h
 left_bytes None [] h = h
 left_bytes None (b ∷ input) h = h.1

@@ -23,7 +23,7 @@ use Rattle.byte_mem.specs.Operator.{converted, is_boolean_scalar, number_in, poi
 use Rattle.byte_mem.proofs.AgainLemmas.{load_held_is_value}
 use Rattle.simulation_laws.specs.Fitting.{ValuesFit}
 
-numbers_same : (a b : ℕ) → nat_eq a b ≡ true → a ≡ b
+pub numbers_same : (a b : ℕ) → nat_eq a b ≡ true → a ≡ b
 numbers_same a b e = grind (arith, nat_tests)
 
 -- 1 is a value of each kind that is _Bool

@@ -1,13 +1,12 @@
 -- Device: each row of the host gives a value of its kind.
-use Rattle.std.proofs.Common.{◌≡◌, ℕ, ◌+◌, ◌%◌, ◌<◌, ◌^◌, Bool, true, false, cond, ◌&&◌, List, Option, Some, None, ℤ, pos, negsuc, refl, ap, subst, arith, lit<}
+use Rattle.std.proofs.Common.{◌≡◌, ℕ, ◌+◌, ◌<◌, ◌^◌, Bool, true, false, cond, ◌&&◌, List, Option, Some, None, ℤ, pos, negsuc, refl, ap, subst, arith, lit<}
 use Rattle.std.specs.Prelude.{nat_lt, unsigned_abs}
 use Rattle.std.specs.Ordering.{int_eq}
 use Rattle.std.proofs.lemmas.Int.{ints}
-use Rattle.std.proofs.lemmas.Nat.{mod_below}
 use Rattle.cil_base.specs.declared.kinds.Abi.{Abi}
 use Rattle.cil_base.specs.declared.kinds.IntKind.TheVariants.{Int as Int', ULong}
 use Rattle.cil_base.specs.declared.kinds.Abi.TheVariants.{Lp64}
-use Rattle.cil_base.specs.Integer.{IsOf, reduced}
+use Rattle.cil_base.specs.Integer.{IsOf}
 use Rattle.cil_base.proofs.IntegerLaws.{wrapped_value}
 use Rattle.cil_base.proofs.KindLaws.{kind_told}
 use Rattle.byte_mem.specs.declared.pointers.ObjName.{ObjName}
@@ -20,13 +19,14 @@ use Rattle.byte_mem.specs.declared.values.Value.{Value}
 use Rattle.byte_mem.specs.declared.values.Value.TheVariants.{Int, Ptr, Unknown, Part}
 use Rattle.byte_mem.specs.Scalar.{IsValue}
 use Rattle.byte_mem.specs.Memory.{Memory, make, live_size, fill}
+use Rattle.byte_mem.proofs.AgainLemmas.{reduced_below}
 use Rattle.host_calls.specs.declared.names.HostName.{HostName}
 use Rattle.host_calls.specs.declared.names.HostName.TheVariants.{Getchar, Putchar, Exit, Abort, Malloc, Free, Memset}
 use Rattle.host_calls.specs.declared.calls.HostResult.TheVariants.{Value as Gives, Exit as Ends}
 use Rattle.host_calls.specs.Host.{HostState, Outcome, heap_limit, undefined, with_number, with_value, byte_of, getchar, putchar, malloc, free_object, free_named, free, filled, memset, value_arg, number_arg, values_of, called, same_scalar, same_result, result_of, have_kinds, parameters_of}
 use Rattle.simulation_laws.specs.Fitting.{IsReady, FitsResult, HostFits}
 
-scalar_told : (s t : Scalar) → same_scalar s t ≡ true → s ≡ t
+pub scalar_told : (s t : Scalar) → same_scalar s t ≡ true → s ≡ t
 scalar_told (OfKind a) (OfKind b) e = ap OfKind (kind_told a b e)
 scalar_told (OfKind a) OfPointer e = cc
 scalar_told OfPointer (OfKind b) e = cc
@@ -43,10 +43,6 @@ byte_fits b h = (omega (arith, ints), omega (arith, ints))
 
 end_fits : IsOf Int' (negsuc 0)
 end_fits = (omega (arith, ints), omega (arith, ints))
-
-reduced_below : (m : ℕ) (v : ℤ) → 0 < m → unsigned_abs (reduced m v) < m
-reduced_below m (pos a) h = mod_below a m h
-reduced_below m (negsuc a) h = let below : a % m < m = mod_below a m h in omega (arith, ints)
 
 Fits : Abi → Option Scalar → Outcome → Type 0
 Fits abi wanted o = FitsResult abi wanted o.0

@@ -1,5 +1,5 @@
 -- Device: each row of the host leaves activations' objects as they are.
-use Rattle.std.proofs.Common.{◌≡◌, ℕ, zero, suc, ◌+◌, Bool, true, false, cond, ◌&&◌, List, [], ◌∷◌, replicate, Option, Some, None, ℤ, pos, refl, sym, ap, ◌∙◌, subst}
+use Rattle.std.proofs.Common.{ℕ, ◌+◌, Bool, true, false, cond, ◌&&◌, List, replicate, Option, Some, None, ℤ, pos, refl, sym, subst}
 use Rattle.std.specs.Prelude.{nat_lt, unsigned_abs}
 use Rattle.std.specs.Ordering.{int_eq}
 use Rattle.byte_mem.specs.declared.pointers.ObjName.{ObjName}
@@ -11,14 +11,14 @@ use Rattle.byte_mem.specs.declared.values.Value.{Value}
 use Rattle.byte_mem.specs.declared.values.Value.TheVariants.{Int, Ptr, Unknown, Part}
 use Rattle.byte_mem.specs.Object.{Held, fill_part}
 use Rattle.byte_mem.specs.Memory.{Memory, make, live_size, fill}
-use Rattle.byte_mem.specs.Operator.{number_in}
 use Rattle.byte_mem.specs.Below.{BelowValue, Lift, Same, BelowMemory}
-use Rattle.byte_mem.proofs.BelowLemmas.{lift_bind, number_in_below, fill_below}
+use Rattle.byte_mem.proofs.BelowLemmas.{fill_below}
 use Rattle.host_calls.specs.declared.names.HostName.{HostName}
 use Rattle.host_calls.specs.declared.names.HostName.TheVariants.{Getchar, Putchar, Exit, Abort, Malloc, Free, Memset}
 use Rattle.host_calls.specs.declared.calls.HostResult.TheVariants.{Value as Gives, Exit as Ends}
-use Rattle.host_calls.specs.Host.{HostState, Outcome, heap_limit, undefined, with_number, with_value, byte_of, getchar, putchar, malloc, free_object, free_named, free, filled, memset, value_arg, number_arg, called, same_scalar, same_result, result_of, have_kinds, parameters_of, values_of, host}
-use Rattle.host_calls.specs.Laws.{BelowState, BelowArgs}
+use Rattle.host_calls.specs.Host.{HostState, Outcome, heap_limit, undefined, with_number, with_value, byte_of, getchar, putchar, malloc, free_object, free_named, free, filled, memset, value_arg, number_arg, called, same_result, result_of, have_kinds, parameters_of, values_of, host}
+use Rattle.host_calls.specs.Laws.{BelowArgs}
+use Rattle.host_calls.proofs.BelowLemmas.{over, over_is, value_arg_below, number_arg_below, kinds_below}
 use Rattle.simulation_laws.specs.Changes.{itself, Moves}
 use Rattle.simulation_laws.specs.Fitted.{Stays, StaysBy, HostStays}
 use Rattle.simulation_laws.proofs.Alone.{changed_lift, part_sizes}
@@ -29,17 +29,6 @@ Stay s t o u = StaysBy o.0 s t o.1.memory u.1.memory
 
 untouched : (s t : Memory) → Stays s t s t
 untouched s t = record { none = λ act i e. e; same = λ act i e. refl; room = λ size act i h. h }
-
--- the same state over another memory
-abbrev over : HostState → Memory → HostState
-over s n = record s { memory = n }
-
-over_is : (s t : HostState) → BelowState itself s t → over s t.memory ≡ t
-over_is s t r =
-    ap (λ (x : Option (Option ℕ)). let u : HostState = record { memory = t.memory; ready = x; out = s.out; live = s.live; heap = s.heap } in u) (sym r.ready)
-    ∙ ap (λ (x : List ℕ). let u : HostState = record { memory = t.memory; ready = t.ready; out = x; live = s.live; heap = s.heap } in u) (sym r.out)
-    ∙ ap (λ (x : ℕ). let u : HostState = record { memory = t.memory; ready = t.ready; out = t.out; live = x; heap = s.heap } in u) (sym r.live)
-    ∙ ap (λ (x : ℕ). let u : HostState = record { memory = t.memory; ready = t.ready; out = t.out; live = t.live; heap = x } in u) (sym r.heap)
 
 numbers : (m n : Memory) (s t : HostState) (o u : Option ℤ) (next more : ℤ → Outcome) → Lift Same o u → ((k : ℤ) → Stay m n (next k) (more k)) → Stay m n (with_number s o next) (with_number t u more)
 unfolding Stay
@@ -56,26 +45,6 @@ values m n s t (Some v) (Some w) next more r h = h v w r
 choice : (m n : Memory) (b : Bool) (o u x y : Outcome) → Stay m n o u → Stay m n x y → Stay m n (cond b o x) (cond b u y)
 choice m n true o u x y h k = h
 choice m n false o u x y h k = k
-
-value_args : (xs ys : List (Scalar × Value)) (i : ℕ) → BelowArgs itself xs ys → Lift (BelowValue itself) (value_arg (values_of xs) i) (value_arg (values_of ys) i)
-value_args [] [] i r = tt
-value_args [] (b ∷ ys) i r = absurd r
-value_args (a ∷ xs) [] i r = absurd r
-value_args (a ∷ xs) (b ∷ ys) zero r = r.1
-value_args (a ∷ xs) (b ∷ ys) (suc i) r = value_args xs ys i r.2
-
-number_args : (xs ys : List (Scalar × Value)) (i : ℕ) → BelowArgs itself xs ys → Lift Same (number_arg (values_of xs) i) (number_arg (values_of ys) i)
-number_args xs ys i r = lift_bind (BelowValue itself) Same (value_arg (values_of xs) i) (value_arg (values_of ys) i) number_in number_in (value_args xs ys i r) (λ v w q. number_in_below itself v w q)
-
-kinds_same : (kinds : List Scalar) (xs ys : List (Scalar × Value)) → BelowArgs itself xs ys → have_kinds kinds ys ≡ have_kinds kinds xs
-kinds_same [] [] [] r = refl
-kinds_same [] [] (b ∷ ys) r = absurd r
-kinds_same [] (a ∷ xs) [] r = absurd r
-kinds_same [] (a ∷ xs) (b ∷ ys) r = refl
-kinds_same (s ∷ kinds) [] [] r = refl
-kinds_same (s ∷ kinds) [] (b ∷ ys) r = absurd r
-kinds_same (s ∷ kinds) (a ∷ xs) [] r = absurd r
-kinds_same (s ∷ kinds) (a ∷ xs) (b ∷ ys) r = ap (λ (x : Scalar). same_scalar s x && have_kinds kinds ys) r.0 ∙ ap (λ t. same_scalar s a.0 && t) (kinds_same kinds xs ys r.2)
 
 getchar_stays : (s : HostState) (n : Memory) (o : Option (Option ℕ)) → Stay s.memory n (getchar s o) (getchar (over s n) o)
 unfolding Stay
@@ -137,24 +106,24 @@ stay_on s n = untouched s.memory n
 row_stays : (name : HostName) (xs ys : List (Scalar × Value)) (s : HostState) (n : Memory) → BelowArgs itself xs ys → BelowMemory itself s.memory n → Stay s.memory n (called name (values_of xs) s) (called name (values_of ys) (over s n))
 unfolding Stay
 row_stays Getchar xs ys s n q r = getchar_stays s n s.ready
-row_stays Putchar xs ys s n q r = numbers s.memory n s (over s n) (number_arg (values_of xs) 0) (number_arg (values_of ys) 0) (λ c. putchar s (byte_of c)) (λ c. putchar (over s n) (byte_of c)) (number_args xs ys 0 q) (λ c. stay_on s n)
-row_stays Exit xs ys s n q r = numbers s.memory n s (over s n) (number_arg (values_of xs) 0) (number_arg (values_of ys) 0) (λ c. (Ends (byte_of c), s)) (λ c. (Ends (byte_of c), over s n)) (number_args xs ys 0 q) (λ c. stay_on s n)
+row_stays Putchar xs ys s n q r = numbers s.memory n s (over s n) (number_arg (values_of xs) 0) (number_arg (values_of ys) 0) (λ c. putchar s (byte_of c)) (λ c. putchar (over s n) (byte_of c)) (number_arg_below itself xs ys 0 q) (λ c. stay_on s n)
+row_stays Exit xs ys s n q r = numbers s.memory n s (over s n) (number_arg (values_of xs) 0) (number_arg (values_of ys) 0) (λ c. (Ends (byte_of c), s)) (λ c. (Ends (byte_of c), over s n)) (number_arg_below itself xs ys 0 q) (λ c. stay_on s n)
 row_stays Abort xs ys s n q r = stay_on s n
-row_stays Malloc xs ys s n q r = numbers s.memory n s (over s n) (number_arg (values_of xs) 0) (number_arg (values_of ys) 0) (λ c. malloc s (unsigned_abs c)) (λ c. malloc (over s n) (unsigned_abs c)) (number_args xs ys 0 q) (λ c. malloc_stays s n (unsigned_abs c))
-row_stays Free xs ys s n q r = values s.memory n s (over s n) (value_arg (values_of xs) 0) (value_arg (values_of ys) 0) (λ v. free s v) (λ v. free (over s n) v) (value_args xs ys 0 q) (λ v w e. free_stays s n v w e)
+row_stays Malloc xs ys s n q r = numbers s.memory n s (over s n) (number_arg (values_of xs) 0) (number_arg (values_of ys) 0) (λ c. malloc s (unsigned_abs c)) (λ c. malloc (over s n) (unsigned_abs c)) (number_arg_below itself xs ys 0 q) (λ c. malloc_stays s n (unsigned_abs c))
+row_stays Free xs ys s n q r = values s.memory n s (over s n) (value_arg (values_of xs) 0) (value_arg (values_of ys) 0) (λ v. free s v) (λ v. free (over s n) v) (value_arg_below itself xs ys 0 q) (λ v w e. free_stays s n v w e)
 row_stays Memset xs ys s n q r =
     values s.memory n s (over s n) (value_arg (values_of xs) 0) (value_arg (values_of ys) 0)
     (λ v. with_number s (number_arg (values_of xs) 1) (λ c. with_number s (number_arg (values_of xs) 2) (λ z. memset s v (byte_of c) (unsigned_abs z))))
-    (λ v. with_number (over s n) (number_arg (values_of ys) 1) (λ c. with_number (over s n) (number_arg (values_of ys) 2) (λ z. memset (over s n) v (byte_of c) (unsigned_abs z)))) (value_args xs ys 0 q)
+    (λ v. with_number (over s n) (number_arg (values_of ys) 1) (λ c. with_number (over s n) (number_arg (values_of ys) 2) (λ z. memset (over s n) v (byte_of c) (unsigned_abs z)))) (value_arg_below itself xs ys 0 q)
     (λ v w e. numbers s.memory n s (over s n) (number_arg (values_of xs) 1) (number_arg (values_of ys) 1)
-    (λ c. with_number s (number_arg (values_of xs) 2) (λ z. memset s v (byte_of c) (unsigned_abs z))) (λ c. with_number (over s n) (number_arg (values_of ys) 2) (λ z. memset (over s n) w (byte_of c) (unsigned_abs z))) (number_args xs ys 1 q)
-    (λ c. numbers s.memory n s (over s n) (number_arg (values_of xs) 2) (number_arg (values_of ys) 2) (λ z. memset s v (byte_of c) (unsigned_abs z)) (λ z. memset (over s n) w (byte_of c) (unsigned_abs z)) (number_args xs ys 2 q)
+    (λ c. with_number s (number_arg (values_of xs) 2) (λ z. memset s v (byte_of c) (unsigned_abs z))) (λ c. with_number (over s n) (number_arg (values_of ys) 2) (λ z. memset (over s n) w (byte_of c) (unsigned_abs z))) (number_arg_below itself xs ys 1 q)
+    (λ c. numbers s.memory n s (over s n) (number_arg (values_of xs) 2) (number_arg (values_of ys) 2) (λ z. memset s v (byte_of c) (unsigned_abs z)) (λ z. memset (over s n) w (byte_of c) (unsigned_abs z)) (number_arg_below itself xs ys 2 q)
     (λ z. memset_stays s n v w (byte_of c) (unsigned_abs z) r e)))
 
 pub host_stays : HostStays
 unfolding Stay
 host_stays abi name wanted xs ys s t q r =
-    subst (λ (u : HostState). Stay s.memory u.memory (host abi name wanted xs s) (host abi name wanted ys u)) (over_is s t r)
-    (subst (λ (b : Bool). Stay s.memory t.memory (host abi name wanted xs s) (cond (same_result (result_of abi name) wanted && b) (called name (values_of ys) (over s t.memory)) (undefined (over s t.memory)))) (sym (kinds_same (parameters_of abi name) xs ys q))
+    subst (λ (u : HostState). Stay s.memory u.memory (host abi name wanted xs s) (host abi name wanted ys u)) (over_is itself s t r)
+    (subst (λ (b : Bool). Stay s.memory t.memory (host abi name wanted xs s) (cond (same_result (result_of abi name) wanted && b) (called name (values_of ys) (over s t.memory)) (undefined (over s t.memory)))) (sym (kinds_below itself (parameters_of abi name) xs ys q))
     (choice s.memory t.memory (same_result (result_of abi name) wanted && have_kinds (parameters_of abi name) xs) (called name (values_of xs) s) (called name (values_of ys) (over s t.memory)) (undefined s) (undefined (over s t.memory))
     (row_stays name xs ys s t.memory q r.memory) tt))

@@ -2,9 +2,8 @@ pub mod Alone
 pub mod Fits
 pub mod HostFits
 pub mod DataFits
-pub mod Entering
+pub mod CallsFit
 pub mod HostStays
 pub mod KindsStored
-pub mod OperatorsAlike
 pub mod StartsAlike
 pub mod UnitsAllowed

@@ -2,5 +2,4 @@ pub mod Changes
 pub mod Fitting
 pub mod Fitted
 pub mod Kinds
-pub mod Operators
 pub mod Starts

@@ -6,7 +6,6 @@ ghost use Rattle.simulation_laws.specs.Changes.{ChangesAlone, ChangesMove};
 ghost use Rattle.simulation_laws.specs.Fitted.{DataFit, HostStays};
 ghost use Rattle.simulation_laws.specs.Fitting.{HostFits, ValuesFit};
 ghost use Rattle.simulation_laws.specs.Kinds.{TypesAreStored};
-ghost use Rattle.simulation_laws.specs.Operators.{OperatorsOfTypes};
 ghost use Rattle.simulation_laws.specs.Starts.{AlikeUnits, StartAlike};
 
 /// Where one memory says no more than another, each of them may change alone: the first to what says no more than the
@@ -54,10 +53,4 @@ pub fn units_start_alike()
 /// (C11 6.2.5p1, 6.2.6.1, 6.3.2.1p2).
 pub fn types_are_stored()
     ensures { TypesAreStored }
-{}
-
-/// What operators and conversions of CIL give depends on the types of the program alone, and on no other part of the
-/// activation (C11 6.3, 6.5).
-pub fn operators_of_types()
-    ensures { OperatorsOfTypes }
 {}

@@ -1,4 +1,4 @@
-//! Laws of memory, values, the host's calls, linking and control for runs on two sides that are alike but for what one of them lacks: what a proof
+//! Laws of memory, values, the host's calls and linking for runs on two sides that are alike but for what one of them lacks: what a proof
 //! that a translation keeps meaning asks of the definitions below it.
 //!
 //! It has no code. Its public laws say what stays where one side of two memories changes alone, what a change of one object and a call of the host
@@ -13,5 +13,5 @@ mod laws;
 
 pub use laws::{
     changes_move, data_fit, host_calls_stay, host_results_fit, one_side_changes_alone,
-    operators_of_types, types_are_stored, units_start_alike, values_fit,
+    types_are_stored, units_start_alike, values_fit,
 };
