@@ -25,7 +25,7 @@ use Rattle.type_graph.specs.Layouts.{AggLayout, Placed, nothing_placed, placed_b
 use Rattle.type_graph.proofs.ArenaLaws.{count_within}
 use Rattle.type_graph.proofs.LayoutLaws.{step_same, agg_layout_is, agg_layout_there}
 use Rattle.cil_tree.specs.Typing.{is_enum, names_enum}
-use Rattle.cil_semantics.specs.Values.{Activation, graph_of, aggregate_kind, kind_in, size_in, scalar_kind, single_in, moved_value, summed_value, unary_value as cil_unary, pointers_value as cil_pointers, binary_value as cil_binary, cast_value as cil_cast}
+use Rattle.cil_semantics.specs.Values.{aggregate_kind, kind_in, size_in, scalar_kind, single_in, moved_value, summed_value, unary_value as cil_unary, pointers_value as cil_pointers, binary_value as cil_binary, cast_value as cil_cast}
 use Rattle.c_typing.specs.Types as typed
 use Rattle.c_semantics.specs.Values.{kind_of, kind_of_aggregate, unary_value, pointers_value, binary_value, cast_value}
 use Rattle.typed_semantics.specs.Units.{member_of, aggregate_of, types_of}
@@ -175,9 +175,9 @@ types_of_graph g w = record { sizes = sizes_same g w; kinds = kinds_same g w; of
 
 -- operators and conversions
 
-module _ (a : Activation) (w : IsArena (graph_of a)) where
-  unary_same : (m : Memory) (op : UnOp) (s : Shape) (v : Value) → IsTaken s → unary_value (types_of (graph_of a)) m op s v ≡ cil_unary a m op s v
-  unary_same m Not s v h = ap (λ (k : Option Kind). (k >>= scalar_kind) >>= λ t. truth m t v >>= λ holds. Some (Int (told (not holds)))) (kinds_same (graph_of a) w s)
+module _ (g : Graph) (w : IsArena g) where
+  unary_same : (m : Memory) (op : UnOp) (s : Shape) (v : Value) → IsTaken s → unary_value (types_of g) m op s v ≡ cil_unary g m op s v
+  unary_same m Not s v h = ap (λ (k : Option Kind). (k >>= scalar_kind) >>= λ t. truth m t v >>= λ holds. Some (Int (told (not holds)))) (kinds_same g w s)
   unary_same m Neg (IntType k) v h = refl
   unary_same m Compl (IntType k) v h = refl
   unary_same m Neg (PtrType q s) v h = refl
@@ -187,14 +187,14 @@ module _ (a : Activation) (w : IsArena (graph_of a)) where
   unary_same m op (FuncType r ss p x) v h = absurd h
   unary_same m op (AggType i) v h = absurd h
 
-  pointers_same : (m : Memory) (op : BinOp) (s : Shape) (v u : Value) → pointers_value (types_of (graph_of a)) m op s v u ≡ cil_pointers a m op s v u
-  pointers_same m Sub s v u = ap (λ (n : Option ℕ). n >>= pointer_difference m v u) (sizes_same (graph_of a) w s)
+  pointers_same : (m : Memory) (op : BinOp) (s : Shape) (v u : Value) → pointers_value (types_of g) m op s v u ≡ cil_pointers g m op s v u
+  pointers_same m Sub s v u = ap (λ (n : Option ℕ). n >>= pointer_difference m v u) (sizes_same g w s)
   pointers_same m op s v u = refl
 
-  binary_same : (m : Memory) (op : BinOp) (s r : Shape) (v u : Value) → IsTaken s → IsTaken r → binary_value (types_of (graph_of a)) m op s r v u ≡ cil_binary a m op s r v u
+  binary_same : (m : Memory) (op : BinOp) (s r : Shape) (v u : Value) → IsTaken s → IsTaken r → binary_value (types_of g) m op s r v u ≡ cil_binary g m op s r v u
   binary_same m op (IntType k) (IntType j) v u h i = refl
-  binary_same m op (PtrType q s) (IntType j) v u h i = ap (λ (n : Option ℕ). n >>= moved_value m op v u) (sizes_same (graph_of a) w s)
-  binary_same m op (IntType k) (PtrType q s) v u h i = ap (λ (n : Option ℕ). n >>= summed_value m op v u) (sizes_same (graph_of a) w s)
+  binary_same m op (PtrType q s) (IntType j) v u h i = ap (λ (n : Option ℕ). n >>= moved_value m op v u) (sizes_same g w s)
+  binary_same m op (IntType k) (PtrType q s) v u h i = ap (λ (n : Option ℕ). n >>= summed_value m op v u) (sizes_same g w s)
   binary_same m op (PtrType p s) (PtrType q t) v u h i = pointers_same m op s v u
   binary_same m op VoidType r v u h i = absurd h
   binary_same m op (ArrayType q s n) r v u h i = absurd h
@@ -210,16 +210,16 @@ module _ (a : Activation) (w : IsArena (graph_of a)) where
   binary_same m op (PtrType o z) (AggType j) v u h i = absurd i
 
   converts : Shape → Datum → Option Kind → Option Value
-  converts to d k = (k >>= scalar_kind) >>= λ t. single_in d >>= λ v. Some (converted (graph_of a).abi t v)
+  converts to d k = (k >>= scalar_kind) >>= λ t. single_in d >>= λ v. Some (converted g.abi t v)
 
-  cast_same : (to : Shape) (d : Datum) → cast_value (types_of (graph_of a)) to d ≡ cil_cast a to d
+  cast_same : (to : Shape) (d : Datum) → cast_value (types_of g) to d ≡ cil_cast g to d
   unfolding converts
   cast_same VoidType d = refl
   cast_same (IntType k) d = refl
   cast_same (PtrType q s) d = refl
   cast_same (ArrayType q s n) d = refl
   cast_same (FuncType r ss p v) d = refl
-  cast_same (AggType i) d = ap (converts (AggType i) d) (kinds_same (graph_of a) w (AggType i))
+  cast_same (AggType i) d = ap (converts (AggType i) d) (kinds_same g w (AggType i))
 
 pub operators_of_graph : OperatorsOfGraph
-operators_of_graph a w = record { unary = unary_same a w; binary = binary_same a w; cast = cast_same a w }
+operators_of_graph g w = record { unary = unary_same g w; binary = binary_same g w; cast = cast_same g w }

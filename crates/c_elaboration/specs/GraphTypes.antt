@@ -9,7 +9,7 @@ use Rattle.type_graph.specs.Shapes.{Shape, VoidType, IntType, PtrType, ArrayType
 use Rattle.type_graph.specs.Layouts.{offset}
 use Rattle.cil_tree.specs.Typing.{names_enum}
 use Rattle.execution.specs.Data.{Datum}
-use Rattle.cil_semantics.specs.Values.{Activation, graph_of, kind_in, size_in, unary_value as cil_unary, binary_value as cil_binary, cast_value as cil_cast}
+use Rattle.cil_semantics.specs.Values.{kind_in, size_in, unary_value as cil_unary, binary_value as cil_binary, cast_value as cil_cast}
 use Rattle.c_typing.specs.Types.{offset_in, size_in as typed_size}
 use Rattle.c_semantics.specs.Values.{kind_of, unary_value, binary_value, cast_value}
 use Rattle.typed_semantics.specs.Units.{types_of}
@@ -29,14 +29,14 @@ IsTaken (ArrayType q s bound) = ⊥
 IsTaken (FuncType ret params proto variadic) = ⊥
 IsTaken (AggType a) = ⊥
 
--- operators and conversions give what those of CIL give in an activation over the graph
-pub record OperatorsAreOfGraph (a : Activation) : Type 0 where
-  pub unary : (m : Memory) (op : UnOp) (s : Shape) (v : Value) → IsTaken s → unary_value (types_of (graph_of a)) m op s v ≡ cil_unary a m op s v
-  pub binary : (m : Memory) (op : BinOp) (s r : Shape) (v w : Value) → IsTaken s → IsTaken r → binary_value (types_of (graph_of a)) m op s r v w ≡ cil_binary a m op s r v w
-  pub cast : (to : Shape) (d : Datum) → cast_value (types_of (graph_of a)) to d ≡ cil_cast a to d
+-- operators and conversions give what those of CIL give over the graph
+pub record OperatorsAreOfGraph (g : Graph) : Type 0 where
+  pub unary : (m : Memory) (op : UnOp) (s : Shape) (v : Value) → IsTaken s → unary_value (types_of g) m op s v ≡ cil_unary g m op s v
+  pub binary : (m : Memory) (op : BinOp) (s r : Shape) (v w : Value) → IsTaken s → IsTaken r → binary_value (types_of g) m op s r v w ≡ cil_binary g m op s r v w
+  pub cast : (to : Shape) (d : Datum) → cast_value (types_of g) to d ≡ cil_cast g to d
 
 abbrev pub OperatorsOfGraph : Type 0
-OperatorsOfGraph = (a : Activation) → IsArena (graph_of a) → OperatorsAreOfGraph a
+OperatorsOfGraph = (g : Graph) → IsArena g → OperatorsAreOfGraph g
 
 abbrev pub TypesAreOfGraph : Type 0
 TypesAreOfGraph = (g : Graph) → IsArena g → AreOfGraph g

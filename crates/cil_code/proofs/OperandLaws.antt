@@ -50,13 +50,13 @@ single_then (Some a) f h = h a
 single_value : (a : Activation) (m : Memory) (e : Exp) → is_read e ≡ false → IsSingle (value a m e)
 single_value a m (Const kind n) h = single_map (Some _)
 single_value a m (ValueOf p) h = absurd (cc)
-single_value a m (Un op e) h = single_then (type_of a.scope e) _ (λ s. single_then (value a m e >>= single_in) (λ v. option_map Single (unary_value a m op s v)) (λ v. single_map (unary_value a m op s v)))
+single_value a m (Un op e) h = single_then (type_of a.scope e) _ (λ s. single_then (value a m e >>= single_in) (λ v. option_map Single (unary_value a.scope.program.graph m op s v)) (λ v. single_map (unary_value a.scope.program.graph m op s v)))
 single_value a m (Bin op left right) h =
     single_then (type_of a.scope left) _ (λ s.
     single_then (type_of a.scope right) _ (λ t.
     single_then (value a m left >>= single_in) _ (λ v.
-    single_then (value a m right >>= single_in) (λ w. option_map Single (binary_value a m op s t v w)) (λ w. single_map (binary_value a m op s t v w)))))
-single_value a m (Cast to e) h = single_then to _ (λ t. single_then (value a m e) (λ d. option_map Single (cast_value a t d)) (λ d. single_map (cast_value a t d)))
+    single_then (value a m right >>= single_in) (λ w. option_map Single (binary_value a.scope.program.graph m op s t v w)) (λ w. single_map (binary_value a.scope.program.graph m op s t v w)))))
+single_value a m (Cast to e) h = single_then to _ (λ t. single_then (value a m e) (λ d. option_map Single (cast_value a.scope.program.graph t d)) (λ d. single_map (cast_value a.scope.program.graph t d)))
 single_value a m (AddrOf p) h = single_map (place a m p)
 single_value a m (StartOf p) h = single_map (place a m p)
 

@@ -24,12 +24,12 @@ abbrev number : ℤ → Datum
 number v = Single (Int v)
 
 -- an operator on two values of int
-operated : (p : Exp) (entities : List ℕ) (act : ℕ) (m : Memory) (op : BinOp) (a b : Option ℤ)
-    → (option_map number a >>= single_in >>= λ v. option_map number b >>= single_in >>= λ w. option_map Single (binary_value (activation_of (whole_program p) entities (returning_body (whole_exp p)) act) m op (IntType int) (IntType int) v w))
+operated : (p : Exp) (m : Memory) (op : BinOp) (a b : Option ℤ)
+    → (option_map number a >>= single_in >>= λ v. option_map number b >>= single_in >>= λ w. option_map Single (binary_value (whole_program p).graph m op (IntType int) (IntType int) v w))
     ≡ option_map number (option_and_then (λ a. option_and_then (λ b. arith_of op int a b) b) a)
-operated p entities act m op None b = refl
-operated p entities act m op (Some a) None = refl
-operated p entities act m op (Some a) (Some b) = by (arith_of op int a b)
+operated p m op None b = refl
+operated p m op (Some a) None = refl
+operated p m op (Some a) (Some b) = by (arith_of op int a b)
   where
     by : (o : Option ℤ) → option_map Single (option_map Int o) ≡ option_map number o
     by None = refl
@@ -40,7 +40,7 @@ valued : (p : Exp) (entities : List ℕ) (act : ℕ) (m : Memory) (e : Exp) → 
 valued p entities act m (Const v) is = refl
 valued p entities act m (Bin op left right) is =
     rw (typed p left is.1.0, typed p right is.1.1, valued p entities act m left is.1.0, valued p entities act m right is.1.1)
-    (operated p entities act m op (value_of left) (value_of right))
+    (operated p m op (value_of left) (value_of right))
 
 pub runs_alike : (p : Exp) → IsExp p → (mode : Mode) (words : List (List ℕ)) (input : List ℕ) (env : Env) (n : ℕ) → WholeRun (whole_program p ∷ []) mode words input n ≡ RunCil p env n
 runs_alike p is mode words input env zero = refl

@@ -54,36 +54,33 @@ offset_alike p q same a n = λ i. option_and_then (λ (l : AggLayout). slice_get
 
 -- operators
 
-unary_alike : (p q : Program) → Equal p q → (ls : List Local) (bs : List (List ℕ)) (es : List ℕ) (act : ℕ) (m : Memory) (op : UnOp) (s : Shape) (v : Value) →
-    unary_value (act_in p ls bs es act) m op s v ≡ unary_value (act_in q ls bs es act) m op s v
-unary_alike p q same ls bs es act m Not s v = λ i. scalar_in_alike p q same s i >>= λ t. truth m t v >>= λ holds. Some (Int (told (not holds)))
-unary_alike p q same ls bs es act m Neg (IntType k) v = refl
-unary_alike p q same ls bs es act m Compl (IntType k) v = refl
-unary_alike p q same ls bs es act m op s v = refl
+unary_alike : (p q : Program) → Equal p q → (m : Memory) (op : UnOp) (s : Shape) (v : Value) → unary_value p.graph m op s v ≡ unary_value q.graph m op s v
+unary_alike p q same m Not s v = λ i. scalar_in_alike p q same s i >>= λ t. truth m t v >>= λ holds. Some (Int (told (not holds)))
+unary_alike p q same m Neg (IntType k) v = refl
+unary_alike p q same m Compl (IntType k) v = refl
+unary_alike p q same m op s v = refl
 
-pointers_alike : (p q : Program) → Equal p q → (ls : List Local) (bs : List (List ℕ)) (es : List ℕ) (act : ℕ) (m : Memory) (op : BinOp) (s : Shape) (v w : Value) →
-    pointers_value (act_in p ls bs es act) m op s v w ≡ pointers_value (act_in q ls bs es act) m op s v w
-pointers_alike p q same ls bs es act m Sub s v w = λ i. size_alike p q same s i >>= pointer_difference m v w
-pointers_alike p q same ls bs es act m op s v w = refl
+pointers_alike : (p q : Program) → Equal p q → (m : Memory) (op : BinOp) (s : Shape) (v w : Value) → pointers_value p.graph m op s v w ≡ pointers_value q.graph m op s v w
+pointers_alike p q same m Sub s v w = λ i. size_alike p q same s i >>= pointer_difference m v w
+pointers_alike p q same m op s v w = refl
 
-binary_alike : (p q : Program) → Equal p q → (ls : List Local) (bs : List (List ℕ)) (es : List ℕ) (act : ℕ) (m : Memory) (op : BinOp) (s t : Shape) (v w : Value) →
-    binary_value (act_in p ls bs es act) m op s t v w ≡ binary_value (act_in q ls bs es act) m op s t v w
-binary_alike p q same ls bs es act m op (PtrType r s) (IntType l) v w = λ i. size_alike p q same s i >>= moved_value m op v w
-binary_alike p q same ls bs es act m op (IntType k) (PtrType r s) v w = λ i. size_alike p q same s i >>= summed_value m op v w
-binary_alike p q same ls bs es act m op (PtrType r s) (PtrType u t) v w = pointers_alike p q same ls bs es act m op s v w
-binary_alike p q same ls bs es act m op s t v w = refl
+binary_alike : (p q : Program) → Equal p q → (m : Memory) (op : BinOp) (s t : Shape) (v w : Value) → binary_value p.graph m op s t v w ≡ binary_value q.graph m op s t v w
+binary_alike p q same m op (PtrType r s) (IntType l) v w = λ i. size_alike p q same s i >>= moved_value m op v w
+binary_alike p q same m op (IntType k) (PtrType r s) v w = λ i. size_alike p q same s i >>= summed_value m op v w
+binary_alike p q same m op (PtrType r s) (PtrType u t) v w = pointers_alike p q same m op s v w
+binary_alike p q same m op s t v w = refl
 
 converted_alike : (p q : Program) → Equal p q → (s : Shape) (d : Datum) →
     (scalar_in p.graph s >>= λ t. single_in d >>= λ v. Some (converted p.graph.abi t v)) ≡ (scalar_in q.graph s >>= λ t. single_in d >>= λ v. Some (converted q.graph.abi t v))
 converted_alike p q same s d = λ i. scalar_in_alike p q same s i >>= λ t. single_in d >>= λ v. Some (converted (same.abi i) t v)
 
-cast_alike : (p q : Program) → Equal p q → (ls : List Local) (bs : List (List ℕ)) (es : List ℕ) (act : ℕ) (s : Shape) (d : Datum) → cast_value (act_in p ls bs es act) s d ≡ cast_value (act_in q ls bs es act) s d
-cast_alike p q same ls bs es act VoidType d = refl
-cast_alike p q same ls bs es act (IntType k) d = converted_alike p q same (IntType k) d
-cast_alike p q same ls bs es act (PtrType r s) d = converted_alike p q same (PtrType r s) d
-cast_alike p q same ls bs es act (ArrayType r s bound) d = converted_alike p q same (ArrayType r s bound) d
-cast_alike p q same ls bs es act (FuncType ret params proto variadic) d = converted_alike p q same (FuncType ret params proto variadic) d
-cast_alike p q same ls bs es act (AggType a) d = converted_alike p q same (AggType a) d
+cast_alike : (p q : Program) → Equal p q → (s : Shape) (d : Datum) → cast_value p.graph s d ≡ cast_value q.graph s d
+cast_alike p q same VoidType d = refl
+cast_alike p q same (IntType k) d = converted_alike p q same (IntType k) d
+cast_alike p q same (PtrType r s) d = converted_alike p q same (PtrType r s) d
+cast_alike p q same (ArrayType r s bound) d = converted_alike p q same (ArrayType r s bound) d
+cast_alike p q same (FuncType ret params proto variadic) d = converted_alike p q same (FuncType ret params proto variadic) d
+cast_alike p q same (AggType a) d = converted_alike p q same (AggType a) d
 
 member_offset_alike : (p q : Program) → Equal p q → (ls : List Local) (bs : List (List ℕ)) (es : List ℕ) (act : ℕ) (s : Shape) (n : ℕ) → member_offset (act_in p ls bs es act) s n ≡ member_offset (act_in q ls bs es act) s n
 member_offset_alike p q same ls bs es act s n = λ i. aggregate_of s >>= λ x. offset_alike p q same x n i
@@ -96,11 +93,11 @@ mutual
   value_alike p q same ls bs es act m (ValueOf x) =
       λ i. (place_type_alike p q same ls bs x i >>= λ s. kind_alike p q same s i) >>= λ k. place_alike p q same ls bs es act m x i >>= load_datum (same.abi i) m k
   value_alike p q same ls bs es act m (Un op e) =
-      λ i. exp_type_alike p q same ls bs e i >>= λ s. (value_alike p q same ls bs es act m e i >>= single_in) >>= λ v. option_map Single (unary_alike p q same ls bs es act m op s v i)
+      λ i. exp_type_alike p q same ls bs e i >>= λ s. (value_alike p q same ls bs es act m e i >>= single_in) >>= λ v. option_map Single (unary_alike p q same m op s v i)
   value_alike p q same ls bs es act m (Bin op left right) =
       λ i. exp_type_alike p q same ls bs left i >>= λ s. exp_type_alike p q same ls bs right i >>= λ t. (value_alike p q same ls bs es act m left i >>= single_in) >>= λ v.
-      (value_alike p q same ls bs es act m right i >>= single_in) >>= λ w. option_map Single (binary_alike p q same ls bs es act m op s t v w i)
-  value_alike p q same ls bs es act m (Cast to e) = λ i. to >>= λ t. value_alike p q same ls bs es act m e i >>= λ d. option_map Single (cast_alike p q same ls bs es act t d i)
+      (value_alike p q same ls bs es act m right i >>= single_in) >>= λ w. option_map Single (binary_alike p q same m op s t v w i)
+  value_alike p q same ls bs es act m (Cast to e) = λ i. to >>= λ t. value_alike p q same ls bs es act m e i >>= λ d. option_map Single (cast_alike p q same t d i)
   value_alike p q same ls bs es act m (AddrOf x) = ap (option_map Single) (place_alike p q same ls bs es act m x)
   value_alike p q same ls bs es act m (StartOf x) = ap (option_map Single) (place_alike p q same ls bs es act m x)
 

@@ -63,16 +63,16 @@ two_single f None u = refl
 two_single f (Some a) u = one_single (f a) u
 
 -- the value of a unary operator, where the type of its operand is known
-unary_is : (a : Activation) (m : Memory) (op : UnOp) (e : Exp) (s : Shape) → type_of a.scope e ≡ Some s → scalar_value a m (Un op e) ≡ (scalar_value a m e >>= unary_value a m op s)
-unary_is a m op e s is = ap (λ o. (o >>= λ s. value a m e >>= single_in >>= λ v. option_map Single (unary_value a m op s v)) >>= single_in) is ∙ one_single (unary_value a m op s) (value a m e >>= single_in)
+unary_is : (a : Activation) (m : Memory) (op : UnOp) (e : Exp) (s : Shape) → type_of a.scope e ≡ Some s → scalar_value a m (Un op e) ≡ (scalar_value a m e >>= unary_value a.scope.program.graph m op s)
+unary_is a m op e s is = ap (λ o. (o >>= λ s. value a m e >>= single_in >>= λ v. option_map Single (unary_value a.scope.program.graph m op s v)) >>= single_in) is ∙ one_single (unary_value a.scope.program.graph m op s) (value a m e >>= single_in)
 
 -- that of a binary operator
 binary_is : (a : Activation) (m : Memory) (op : BinOp) (l r : Exp) (s t : Shape) → type_of a.scope l ≡ Some s → type_of a.scope r ≡ Some t
-    → scalar_value a m (Bin op l r) ≡ (scalar_value a m l >>= λ v. scalar_value a m r >>= binary_value a m op s t v)
+    → scalar_value a m (Bin op l r) ≡ (scalar_value a m l >>= λ v. scalar_value a m r >>= binary_value a.scope.program.graph m op s t v)
 binary_is a m op l r s t is also =
-    ap (λ o. (o >>= λ s. type_of a.scope r >>= λ t. value a m l >>= single_in >>= λ v. value a m r >>= single_in >>= λ w. option_map Single (binary_value a m op s t v w)) >>= single_in) is
-    ∙ (ap (λ o. (o >>= λ t. value a m l >>= single_in >>= λ v. value a m r >>= single_in >>= λ w. option_map Single (binary_value a m op s t v w)) >>= single_in) also
-    ∙ two_single (binary_value a m op s t) (value a m l >>= single_in) (value a m r >>= single_in))
+    ap (λ o. (o >>= λ s. type_of a.scope r >>= λ t. value a m l >>= single_in >>= λ v. value a m r >>= single_in >>= λ w. option_map Single (binary_value a.scope.program.graph m op s t v w)) >>= single_in) is
+    ∙ (ap (λ o. (o >>= λ t. value a m l >>= single_in >>= λ v. value a m r >>= single_in >>= λ w. option_map Single (binary_value a.scope.program.graph m op s t v w)) >>= single_in) also
+    ∙ two_single (binary_value a.scope.program.graph m op s t) (value a m l >>= single_in) (value a m r >>= single_in))
 
 -- what has no type is nothing's
 pub means_nothing : (c : Scope) (es : List ℕ) (e : Exp) (t : Term) → type_of c e ≡ None → Means c es e t
@@ -111,7 +111,7 @@ means_not c es e t p of s is scalar means = record { at = at }
         step v None = refl
         step v (Some b) = told_int c (not b)
 
-        alike : (o : Option Value) → (o >>= λ v. told_from c.program.graph.abi (OfKind int) (option_map not (truth m of v))) ≡ (o >>= unary_value (activation c es act) m LogicalNot s)
+        alike : (o : Option Value) → (o >>= λ v. told_from c.program.graph.abi (OfKind int) (option_map not (truth m of v))) ≡ (o >>= unary_value c.program.graph m LogicalNot s)
         alike None = refl
         alike (Some v) = step v (truth m of v) ∙ ap (λ o. o >>= λ t. truth m t v >>= λ holds. Some (Int (told (not holds)))) (sym scalar)
 
@@ -348,9 +348,9 @@ relation_int c Eq to s test h = of_some (OfKind int) s h
 relation_int c Ne to s test h = of_some (OfKind int) s h
 relation_int c op to s test h = absurd (cc)
 
-relation_value : (a : Activation) (m : Memory) (op : BinOp) (to : Shape) (v w : Value) → is_comparison op ≡ true → (compared m op v w >>= λ holds. Some (Int (told holds))) ≡ pointers_value a m op to v w
-relation_value a m Sub to v w test = absurd (cc)
-relation_value a m op to v w test = refl
+relation_value : (g : Graph) (m : Memory) (op : BinOp) (to : Shape) (v w : Value) → is_comparison op ≡ true → (compared m op v w >>= λ holds. Some (Int (told holds))) ≡ pointers_value g m op to v w
+relation_value g m Sub to v w test = absurd (cc)
+relation_value g m op to v w test = refl
 
 pub means_relation : (c : Scope) (es : List ℕ) (op : BinOp) (e f : Exp) (t u : Term) (p q : _) (r d : Quals) (to also_to : Shape)
     → type_of c e ≡ Some (PtrType r to) → type_of c f ≡ Some (PtrType d also_to) → is_comparison op ≡ true → Means c es e t → Means c es f u → Means c es (Bin op e f) (Relation' op p t q u)
@@ -369,10 +369,10 @@ means_relation c es op e f t u p q r d to also_to is also test means means_too =
     same true s h = relation_int c op to s test h
     same false s h = none-some s h
 
-    each : (m : Memory) (act : ℕ) (o u : Option Value) → (o >>= λ v. u >>= λ w. told_from c.program.graph.abi (OfKind int) (compared m op v w)) ≡ (o >>= λ v. u >>= pointers_value (activation c es act) m op to v)
+    each : (m : Memory) (act : ℕ) (o u : Option Value) → (o >>= λ v. u >>= λ w. told_from c.program.graph.abi (OfKind int) (compared m op v w)) ≡ (o >>= λ v. u >>= pointers_value c.program.graph m op to v)
     each m act None u = refl
     each m act (Some v) None = refl
-    each m act (Some v) (Some w) = told_is c (compared m op v w) ∙ relation_value (activation c es act) m op to v w test
+    each m act (Some v) (Some w) = told_is c (compared m op v w) ∙ relation_value c.program.graph m op to v w test
 
 -- conversions
 cast_scalar : (c : Scope) (to s : Shape) (u : Scalar) → (cast_type c to s >>= scalar_in c.program.graph) ≡ Some u → scalar_in c.program.graph to ≡ Some u
@@ -385,7 +385,7 @@ cast_scalar c to s u h = by (is_void to || (is_scalar c.program.graph to && is_s
 pub means_cast : (c : Scope) (es : List ℕ) (to s : Shape) (e : Exp) (t : Term) (p : _) (from : Scalar) → type_of c e ≡ Some s → scalar_in c.program.graph s ≡ Some from → Means c es e t → Means c es (Cast (Some to) e) (Convert' from p t)
 means_cast c es to s e t p from is scalar means = record { at = at }
   where
-    single : (a : Activation) (u : Scalar) (to : Shape) (d : Datum) → scalar_in c.program.graph to ≡ Some u → scalar_in (a.scope.program.graph) to ≡ Some u → cast_value a to d ≡ (single_in d >>= λ v. Some (converted a.scope.program.graph.abi u v))
+    single : (a : Activation) (u : Scalar) (to : Shape) (d : Datum) → scalar_in c.program.graph to ≡ Some u → scalar_in (a.scope.program.graph) to ≡ Some u → cast_value a.scope.program.graph to d ≡ (single_in d >>= λ v. Some (converted a.scope.program.graph.abi u v))
     single a u VoidType d h g = none-some u h
     single a u (IntType kind) d h g = ap (λ o. o >>= λ t. single_in d >>= λ v. Some (converted a.scope.program.graph.abi t v)) g
     single a u (PtrType q to) d h g = ap (λ o. o >>= λ t. single_in d >>= λ v. Some (converted a.scope.program.graph.abi t v)) g
@@ -393,8 +393,8 @@ means_cast c es to s e t p from is scalar means = record { at = at }
     single a u (FuncType ret params proto variadic) d h g = ap (λ o. o >>= λ t. single_in d >>= λ v. Some (converted a.scope.program.graph.abi t v)) g
     single a u (AggType x) d h g = ap (λ o. o >>= λ t. single_in d >>= λ v. Some (converted a.scope.program.graph.abi t v)) g
 
-    each : (a : Activation) (u : Scalar) (o : Option Datum) → ((d : Datum) → cast_value a to d ≡ (single_in d >>= λ v. Some (converted a.scope.program.graph.abi u v)))
-        → ((o >>= single_in) >>= λ v. Some (converted a.scope.program.graph.abi u v)) ≡ ((o >>= λ d. option_map Single (cast_value a to d)) >>= single_in)
+    each : (a : Activation) (u : Scalar) (o : Option Datum) → ((d : Datum) → cast_value a.scope.program.graph to d ≡ (single_in d >>= λ v. Some (converted a.scope.program.graph.abi u v)))
+        → ((o >>= single_in) >>= λ v. Some (converted a.scope.program.graph.abi u v)) ≡ ((o >>= λ d. option_map Single (cast_value a.scope.program.graph to d)) >>= single_in)
     each a u None k = refl
     each a u (Some d) k = step (single_in d >>= λ v. Some (converted a.scope.program.graph.abi u v)) ∙ ap (λ o. option_map Single o >>= single_in) (sym (k d))
       where

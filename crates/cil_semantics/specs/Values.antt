@@ -69,12 +69,12 @@ single_in (Single v) = Some v
 single_in (Bytes bytes) = None
 
 -- C11 6.5.3.3: `-` and `~` on a promoted operand; `!` is a test
-abbrev pub unary_value : Activation → Memory → UnOp → Shape → Value → Option Value
-unary_value a m Not s v = scalar_in (graph_of a) s >>= λ t. truth m t v >>= λ holds. Some (Int (told (not holds)))
-unary_value a m Neg (IntType kind) v = unary Neg kind v
-unary_value a m Neg _ v = None
-unary_value a m Compl (IntType kind) v = unary Compl kind v
-unary_value a m Compl _ v = None
+abbrev pub unary_value : Graph → Memory → UnOp → Shape → Value → Option Value
+unary_value g m Not s v = scalar_in g s >>= λ t. truth m t v >>= λ holds. Some (Int (told (not holds)))
+unary_value g m Neg (IntType kind) v = unary Neg kind v
+unary_value g m Neg _ v = None
+unary_value g m Compl (IntType kind) v = unary Compl kind v
+unary_value g m Compl _ v = None
 
 -- C11 6.5.6p8: an integer added to a pointer or subtracted from it
 abbrev pub moved_value : Memory → BinOp → Value → Value → ℕ → Option Value
@@ -87,22 +87,22 @@ summed_value m Add i v size = pointer_sum m v i size
 summed_value m _ i v size = None
 
 -- C11 6.5.6p9, 6.5.8p5, 6.5.9p6: two pointers
-abbrev pub pointers_value : Activation → Memory → BinOp → Shape → Value → Value → Option Value
-pointers_value a m Sub s v w = size_in (graph_of a) s >>= pointer_difference m v w
-pointers_value a m op s v w = compared m op v w >>= λ holds. Some (Int (told holds))
+abbrev pub pointers_value : Graph → Memory → BinOp → Shape → Value → Value → Option Value
+pointers_value g m Sub s v w = size_in g s >>= pointer_difference m v w
+pointers_value g m op s v w = compared m op v w >>= λ holds. Some (Int (told holds))
 
 -- C11 6.5.5 to 6.5.12, by the operands' types
-abbrev pub binary_value : Activation → Memory → BinOp → Shape → Shape → Value → Value → Option Value
-binary_value a m op (IntType k) (IntType l) v w = computed op k v w
-binary_value a m op (PtrType q s) (IntType l) v w = size_in (graph_of a) s >>= moved_value m op v w
-binary_value a m op (IntType k) (PtrType q s) v w = size_in (graph_of a) s >>= summed_value m op v w
-binary_value a m op (PtrType p s) (PtrType q t) v w = pointers_value a m op s v w
-binary_value a m op _ _ v w = None
+abbrev pub binary_value : Graph → Memory → BinOp → Shape → Shape → Value → Value → Option Value
+binary_value g m op (IntType k) (IntType l) v w = computed op k v w
+binary_value g m op (PtrType q s) (IntType l) v w = size_in g s >>= moved_value m op v w
+binary_value g m op (IntType k) (PtrType q s) v w = size_in g s >>= summed_value m op v w
+binary_value g m op (PtrType p s) (PtrType q t) v w = pointers_value g m op s v w
+binary_value g m op _ _ v w = None
 
 -- C11 6.3, 6.5.4: a conversion; a cast to void uses nothing of the value (6.3.2.2)
-abbrev pub cast_value : Activation → Shape → Datum → Option Value
-cast_value a VoidType d = Some Unknown
-cast_value a to d = scalar_in (graph_of a) to >>= λ t. single_in d >>= λ v. Some (converted (abi_of a) t v)
+abbrev pub cast_value : Graph → Shape → Datum → Option Value
+cast_value g VoidType d = Some Unknown
+cast_value g to d = scalar_in g to >>= λ t. single_in d >>= λ v. Some (converted g.abi t v)
 
 -- the place of an object or function is a pointer to it
 abbrev pub pointer_at : ObjName → Value
@@ -118,11 +118,11 @@ abbrev mutual
   pub value : Activation → Memory → Exp → Option Datum
   value a m (Const kind n) = Some (Single (Int (pos n)))
   value a m (ValueOf p) = place_type a.scope p >>= kind_in (graph_of a) >>= λ k. place a m p >>= load_datum (abi_of a) m k
-  value a m (Un op e) = type_of a.scope e >>= λ s. value a m e >>= single_in >>= λ v. option_map Single (unary_value a m op s v)
+  value a m (Un op e) = type_of a.scope e >>= λ s. value a m e >>= single_in >>= λ v. option_map Single (unary_value (graph_of a) m op s v)
   value a m (Bin op left right) =
       type_of a.scope left >>= λ s. type_of a.scope right >>= λ t. value a m left >>= single_in >>= λ v. value a m right >>= single_in >>= λ w.
-      option_map Single (binary_value a m op s t v w)
-  value a m (Cast to e) = to >>= λ t. value a m e >>= λ d. option_map Single (cast_value a t d)
+      option_map Single (binary_value (graph_of a) m op s t v w)
+  value a m (Cast to e) = to >>= λ t. value a m e >>= λ d. option_map Single (cast_value (graph_of a) t d)
   -- C11 6.5.3.2p3: the place itself, so that `& * e` is e
   value a m (AddrOf p) = option_map Single (place a m p)
   -- C11 6.3.2.1p3: an array's first element stands where the array does
