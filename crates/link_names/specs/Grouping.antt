@@ -3,8 +3,8 @@ use Rattle.std.specs.Prelude.{◌≡◌, ℕ, zero, suc, List, [], ◌∷◌, �
 use Rattle.cil_base.specs.declared.numbers.NameId.{NameId}
 use Rattle.link_names.specs.declared.names.LinkedSite.{LinkedSite}
 use Rattle.link_names.specs.declared.names.LinkedName.{LinkedName}
-use Rattle.type_iso.specs.declared.parties.Party.{Party}
-use Rattle.type_iso.specs.declared.parties.Group.{Group}
+use Rattle.type_links.specs.declared.parties.Party.{Party}
+use Rattle.type_links.specs.declared.parties.Group.{Group}
 use Rattle.link_names.specs.declared.grouping.Finding.{Finding}
 use Rattle.link_names.specs.Linking.{Declared, Linked, same_name}
 

@@ -10,7 +10,7 @@ use Rattle.link_names.specs.declared.units.Site.{Site}
 use Rattle.cil_tree.specs.declared.globals.GlobalDecl.{GlobalDecl}
 use Rattle.link_names.specs.declared.units.Fronted.{Fronted}
 use Rattle.link_names.specs.declared.names.LinkedSite.{LinkedSite}
-use Rattle.type_iso.specs.declared.parties.Party.{Party}
+use Rattle.type_links.specs.declared.parties.Party.{Party}
 
 -- a name, and what a unit says of it
 abbrev pub Declared : Type 0

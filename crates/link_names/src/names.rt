@@ -1,6 +1,6 @@
 use crate::units::Site;
 use cil_base::{NameId, TypeId, UnitNo};
-use type_iso::Group;
+use type_links::Group;
 
 /// What a unit declares of one of its external names (C11 6.2.2p2).
 #[derive(Clone, Copy)]

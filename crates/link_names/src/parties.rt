@@ -5,7 +5,7 @@ ghost use Rattle.link_names.specs.Grouping.{linked_of, group_of};
 use crate::names::{LinkedName, LinkedSite};
 use cil_base::Memory;
 use std::alloc::Global;
-use type_iso::{Group, Party};
+use type_links::{Group, Party};
 
 /// What a site is for the comparison of types.
 fn party_at(s: LinkedSite) -> Party

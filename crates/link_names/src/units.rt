@@ -1,7 +1,7 @@
 use cil_base::{EntityId, Place};
 use cil_tree::CilUnit;
 use type_graph::TypeGraph;
-use type_iso::HasGraph;
+use type_things::HasGraph;
 use typed_tree::Ordinary;
 
 /// Where an external name of a unit is declared and defined (C11 6.9).

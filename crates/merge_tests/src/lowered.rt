@@ -9,7 +9,7 @@ use std::alloc::Global;
 use std::process::Abort;
 use std::test::Fail;
 use type_graph::{Node, TypeGraph};
-use type_iso::{HasGraph, stem};
+use type_things::{HasGraph, stem};
 use typed_tree::{binary, integer, translation_unit};
 use unit_lower::lower_unit;
 use unit_types::Types;

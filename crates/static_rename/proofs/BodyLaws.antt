@@ -9,10 +9,10 @@ use Rattle.cil_tree.specs.declared.globals.Local.{Local}
 use Rattle.cil_tree.specs.declared.globals.GlobalDecl.{GlobalDecl}
 use Rattle.cil_tree.specs.declared.globals.GlobalDef.{GlobalDef}
 use Rattle.cil_tree.specs.declared.globals.GlobalDef.TheVariants.{Declared, Zero, Image, Body}
-use Rattle.static_rename.specs.Naming.{Stays}
+use Rattle.fresh_names.specs.Naming.{Stays}
 use Rattle.static_rename.specs.Within.{is_sought, labels_from, with_labels, AreNamedLabels, IsNamedBody, IsNamedDefinition, IsNamedWithin}
 use Rattle.static_rename.specs.Local.{AreNamedLocals}
-use Rattle.static_rename.proofs.NamingLaws.{are_named_stay}
+use Rattle.fresh_names.proofs.NamingLaws.{are_named_stay}
 use Rattle.static_rename.proofs.FilingLaws.{drop_at}
 use Rattle.static_rename.proofs.EachLaws.{UpTo, each_next}
 

@@ -16,8 +16,8 @@ use Rattle.link_names.specs.declared.units.Fronted.{Fronted}
 use Rattle.static_rename.specs.declared.files.Filed.{Filed}
 use Rattle.static_rename.specs.Files.{is_object, has_linkage, unlinked_at, unlinked_from, named_in, wish_at, wishes_of, renamed_at, with_given}
 use Rattle.static_rename.specs.Filing.{same_entity, Links, AreLinked, names_of, things_in, Files, FilesAll}
-use Rattle.static_rename.specs.Giving.{AreTakenBelow, GivesAll}
-use Rattle.static_rename.proofs.NamingLaws.{all_start, all_twice}
+use Rattle.fresh_names.specs.Giving.{AreTakenBelow, GivesAll}
+use Rattle.fresh_names.proofs.NamingLaws.{all_start, all_twice}
 
 pub drop_at : {T : Type 0} (xs : List T) (i : ℕ) (d : T) → i < length xs → drop i xs ≡ get_or xs i d ∷ drop (suc i) xs
 drop_at [] i d h = absurd (omega arith)

@@ -6,8 +6,8 @@ use Rattle.std.proofs.lemmas.List.{map-append}
 use Rattle.std.specs.Str.{bytes_eq}
 use Rattle.cil_base.specs.NamePool.{Interns}
 use Rattle.cil_base.specs.HostNames.{host_names}
-use Rattle.static_rename.specs.Naming.{with_name, with_names, Stays}
-use Rattle.static_rename.specs.Giving.{start_of, AreTakenBelow}
+use Rattle.fresh_names.specs.Naming.{with_name, with_names, Stays}
+use Rattle.fresh_names.specs.Giving.{start_of, AreTakenBelow}
 use Rattle.static_rename.specs.Files.{HaveTexts, AreKept}
 use Rattle.static_rename.proofs.FilingLaws.{drop_at, take_at}
 

@@ -1,4 +1,3 @@
-pub mod NamingLaws
 pub mod KeptLaws
 pub mod FilingLaws
 pub mod LocalLaws

@@ -6,13 +6,13 @@ use Rattle.std.proofs.lemmas.List.{append_assoc}
 use Rattle.std.proofs.lemmas.List.Folds.{list_any-append}
 use Rattle.indexmap.specs.IndexMap.{insert_entry}
 use Rattle.cil_base.specs.declared.numbers.NameId.{NameId}
-use Rattle.static_rename.specs.declared.fresh.Wish.{Wish}
-use Rattle.static_rename.specs.declared.fresh.Wish.TheVariants.{Asked, Made}
+use Rattle.fresh_names.specs.declared.fresh.Wish.{Wish}
+use Rattle.fresh_names.specs.declared.fresh.Wish.TheVariants.{Asked, Made}
 use Rattle.static_rename.specs.declared.locals.Start.{Start}
-use Rattle.static_rename.specs.Naming.{same_name, is_taken, with_name, Stays, IsSuffixTaken, IsLeast, IsAnswer, AreNamed}
-use Rattle.static_rename.specs.Giving.{start_of, IsLeastFrom, AreTakenBelow, Gives, GivesAll}
+use Rattle.fresh_names.specs.Naming.{same_name, is_taken, with_name, Stays, IsSuffixTaken, IsLeast, IsAnswer, AreNamed}
+use Rattle.fresh_names.specs.Giving.{start_of, IsLeastFrom, AreTakenBelow, Gives, GivesAll}
 use Rattle.static_rename.specs.Local.{AreFree}
-use Rattle.static_rename.proofs.NamingLaws.{suffixed_stays, stays_taken, suffix_kept, least_given, all_next}
+use Rattle.fresh_names.proofs.NamingLaws.{suffixed_stays, stays_taken, suffix_kept, least_given, all_next}
 
 abbrev pub same_start : Start → Start → Bool
 same_start a b = same_name a.base b.base && nat_eq a.from b.from

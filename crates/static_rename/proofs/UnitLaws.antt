@@ -11,7 +11,7 @@ use Rattle.cil_tree.specs.declared.globals.GlobalDecl.{GlobalDecl}
 use Rattle.typed_tree.specs.declared.units.Ordinary.{Ordinary}
 use Rattle.link_names.specs.declared.units.Fronted.{Fronted}
 use Rattle.static_rename.specs.declared.files.Filed.{Filed}
-use Rattle.static_rename.specs.Naming.{Stays, AreNamed}
+use Rattle.fresh_names.specs.Naming.{Stays, AreNamed}
 use Rattle.static_rename.specs.Files.{AreKept, named_in, wishes_of, with_given}
 use Rattle.static_rename.specs.Filing.{things_of, names_of, things_in, FilesAll}
 use Rattle.static_rename.specs.Within.{Each, IsNamedWithin}
@@ -20,7 +20,7 @@ use Rattle.static_rename.specs.Unit.{RetagsAt, NamesUnit, AreUnits}
 use Rattle.static_rename.proofs.EachLaws.{UpTo, each_next, each_of}
 use Rattle.static_rename.proofs.BodyLaws.{within_stays}
 use Rattle.static_rename.proofs.KeptLaws.{texts_stay}
-use Rattle.static_rename.proofs.NamingLaws.{are_named_stay, are_new, stays_twice}
+use Rattle.fresh_names.proofs.NamingLaws.{are_named_stay, are_new, stays_twice}
 
 -- aggregates
 

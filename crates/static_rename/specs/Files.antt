@@ -12,9 +12,9 @@ use Rattle.cil_tree.specs.declared.globals.GlobalDecl.{GlobalDecl}
 use Rattle.typed_tree.specs.declared.units.Ordinary.{Ordinary}
 use Rattle.typed_tree.specs.declared.units.Ordinary.TheVariants.{Static, Enumerator}
 use Rattle.link_names.specs.declared.units.Fronted.{Fronted}
-use Rattle.static_rename.specs.declared.fresh.Wish.{Wish}
-use Rattle.static_rename.specs.declared.fresh.Wish.TheVariants.{Asked}
-use Rattle.static_rename.specs.Naming.{with_names, wish_of}
+use Rattle.fresh_names.specs.declared.fresh.Wish.{Wish}
+use Rattle.fresh_names.specs.declared.fresh.Wish.TheVariants.{Asked}
+use Rattle.fresh_names.specs.Naming.{with_names, wish_of}
 
 -- the texts of names
 abbrev pub HaveTexts : List (List ℕ) → List NameId → List (List ℕ) → Type 0

@@ -8,7 +8,7 @@ use Rattle.typed_tree.specs.declared.units.Ordinary.{Ordinary}
 use Rattle.link_names.specs.declared.units.Fronted.{Fronted}
 use Rattle.static_rename.specs.declared.files.Filed.{Filed}
 use Rattle.static_rename.specs.Files.{is_object, has_linkage, named_in, wish_at, wishes_of}
-use Rattle.static_rename.specs.Giving.{GivesAll}
+use Rattle.fresh_names.specs.Giving.{GivesAll}
 
 abbrev pub same_entity : EntityId → EntityId → Bool
 same_entity a b = nat_eq a.0 b.0

@@ -1,5 +1,3 @@
-pub mod Naming
-pub mod Giving
 pub mod Files
 pub mod Filing
 pub mod Within

@@ -4,8 +4,8 @@ use Rattle.cil_base.specs.declared.numbers.NameId.{NameId}
 use Rattle.cil_tree.specs.declared.globals.Body.{Body as SeenBody}
 use Rattle.static_rename.specs.declared.locals.Start.{Start}
 use Rattle.static_rename.specs.declared.locals.FileNames.{FileNames}
-use Rattle.static_rename.specs.Naming.{AreNamed}
-use Rattle.static_rename.specs.Giving.{IsLeastFrom}
+use Rattle.fresh_names.specs.Naming.{AreNamed}
+use Rattle.fresh_names.specs.Giving.{IsLeastFrom}
 use Rattle.static_rename.specs.Within.{local_wishes, named_locals, named_params}
 
 -- what is remembered is true

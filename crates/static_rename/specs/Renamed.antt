@@ -8,7 +8,7 @@ use Rattle.type_graph.specs.Arena.{Graph}
 use Rattle.type_graph.specs.Growth.{renamed}
 use Rattle.typed_tree.specs.declared.units.Ordinary.{Ordinary}
 use Rattle.link_names.specs.declared.units.Fronted.{Fronted}
-use Rattle.static_rename.specs.Naming.{AreNamed, AreNew}
+use Rattle.fresh_names.specs.Naming.{AreNamed, AreNew}
 use Rattle.static_rename.specs.Files.{AreKept, named_in, wishes_of, with_given}
 use Rattle.static_rename.specs.Within.{Each, IsNamedWithin}
 

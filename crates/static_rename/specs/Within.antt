@@ -7,9 +7,9 @@ use Rattle.cil_tree.specs.declared.globals.Local.{Local}
 use Rattle.cil_tree.specs.declared.globals.GlobalDecl.{GlobalDecl}
 use Rattle.cil_tree.specs.declared.globals.GlobalDef.{GlobalDef}
 use Rattle.cil_tree.specs.declared.globals.GlobalDef.TheVariants.{Declared, Zero, Image, Body}
-use Rattle.static_rename.specs.declared.fresh.Wish.{Wish}
-use Rattle.static_rename.specs.declared.fresh.Wish.TheVariants.{Made}
-use Rattle.static_rename.specs.Naming.{same_name, wish_of, AreNamed}
+use Rattle.fresh_names.specs.declared.fresh.Wish.{Wish}
+use Rattle.fresh_names.specs.declared.fresh.Wish.TheVariants.{Made}
+use Rattle.fresh_names.specs.Naming.{same_name, wish_of, AreNamed}
 
 -- locals with names
 abbrev pub named_locals : List Local → List NameId → List Local

@@ -1,12 +1,13 @@
 ghost use Rattle.std.specs.Prelude.{◌≡◌, ◌++◌, map, slice_set, OnOk, IfOk};
-ghost use Rattle.static_rename.specs.Naming.{Stays};
+ghost use Rattle.fresh_names.specs.Naming.{Stays};
 ghost use Rattle.static_rename.specs.Local.{IsTable, AreNamedLocals};
 ghost use Rattle.static_rename.specs.Within.{is_sought, labels_from, label_order, label_wish, with_labels, named_locals, named_params, local_wishes, AreNamedLabels, IsNamedBody, IsNamedWithin, Each};
 
-use crate::fresh::{Fresh, Wish, impossible};
 use crate::locals::{FileNames, local_names};
+use crate::numbers::impossible;
 use cil_base::{Bases, Memory, NameId, NamePool};
 use cil_tree::{Body, GlobalDecl, GlobalDef, Local};
+use fresh_names::{Fresh, Wish};
 use std::alloc::Global;
 
 /// What the locals of a function ask for.

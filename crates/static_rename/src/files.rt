@@ -1,12 +1,13 @@
 ghost use Rattle.std.specs.Prelude.{◌≡◌, [], ◌∷◌, ◌++◌, filter, length, map, OnOk, IfOk};
 ghost use Rattle.std.specs.List.{list_any};
-ghost use Rattle.static_rename.specs.Giving.{IsReady};
+ghost use Rattle.fresh_names.specs.Giving.{IsReady};
 ghost use Rattle.static_rename.specs.Files.{is_internal, is_named, unlinked_at, unlinked_from, named_in, global_wish, enumerator_wish, member_wish, wish_at, renamed_at, with_given};
 ghost use Rattle.static_rename.specs.Filing.{same_entity, Links, AreLinked, Files, FilesAll};
 
-use crate::fresh::{Fresh, Wish, impossible};
+use crate::numbers::impossible;
 use cil_base::{AggId, Bases, EntityId, Memory, NameId, NamePool};
 use cil_tree::GlobalDecl;
+use fresh_names::{Fresh, Wish};
 use indexmap::IndexSet;
 use link_names::Fronted;
 use std::alloc::Global;

@@ -1,10 +1,10 @@
 ghost use Rattle.std.specs.Prelude.{◌≡◌, map, OnOk, IfOk};
-ghost use Rattle.static_rename.specs.Naming.{Stays};
-ghost use Rattle.static_rename.specs.Giving.{IsReady};
+ghost use Rattle.fresh_names.specs.Naming.{Stays};
+ghost use Rattle.fresh_names.specs.Giving.{IsReady};
 ghost use Rattle.static_rename.specs.Files.{HaveTexts, AreKept};
 
-use crate::fresh::Fresh;
 use cil_base::{Memory, NameId, NamePool, host_names};
+use fresh_names::Fresh;
 use link_names::{LinkedName, Links};
 use std::alloc::Global;
 

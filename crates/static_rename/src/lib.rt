@@ -8,7 +8,6 @@
 
 mod bodies;
 mod files;
-mod fresh;
 mod kept;
 mod locals;
 mod numbers;

@@ -1,11 +1,12 @@
 ghost use Rattle.std.specs.Prelude.{◌≡◌, ◌++◌, [], OnOk, IfOk};
-ghost use Rattle.static_rename.specs.declared.fresh.Wish.TheVariants.{Made};
-ghost use Rattle.static_rename.specs.Naming.{is_taken, Stays, IsLeast, AreNamed};
-ghost use Rattle.static_rename.specs.Giving.{IsLeastFrom, AreTakenBelow, Gives};
+ghost use Rattle.fresh_names.specs.declared.fresh.Wish.TheVariants.{Made};
+ghost use Rattle.fresh_names.specs.Naming.{is_taken, Stays, IsLeast, AreNamed};
+ghost use Rattle.fresh_names.specs.Giving.{IsLeastFrom, AreTakenBelow, Gives};
 ghost use Rattle.static_rename.specs.Local.{IsTable};
 
-use crate::fresh::{Fresh, Wish, impossible};
+use crate::numbers::impossible;
 use cil_base::{Memory, NameId, NamePool};
+use fresh_names::{Fresh, Wish};
 use indexmap::IndexMap;
 use std::alloc::Global;
 

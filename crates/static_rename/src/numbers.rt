@@ -1,5 +1,9 @@
-use crate::fresh::impossible;
 use cil_base::{Memory, UnitNo};
+
+/// What a branch answers that never comes.
+pub(crate) fn impossible() -> Memory {
+    Memory
+}
 
 /// The number of a unit.
 pub(crate) fn unit_number(u: usize) -> Result<UnitNo, Memory> {

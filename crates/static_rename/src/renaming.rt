@@ -1,15 +1,14 @@
 ghost use Rattle.std.specs.Prelude.{◌≡◌, map, OnOk};
-ghost use Rattle.static_rename.specs.Naming.{Stays};
+ghost use Rattle.fresh_names.specs.Naming.{Stays};
 ghost use Rattle.static_rename.specs.Local.{IsTable};
 ghost use Rattle.static_rename.specs.Renamed.{IsNamedUnit, AreRenamed};
 ghost use Rattle.static_rename.specs.Unit.{AreUnits};
 
 use crate::bodies::name_bodies;
 use crate::files::{Filed, file_units, put_all_given};
-use crate::fresh::impossible;
 use crate::kept::kept_names;
 use crate::locals::FileNames;
-use crate::numbers::unit_number;
+use crate::numbers::{impossible, unit_number};
 use crate::types::{
     ClassNames, all_asked, all_stand, name_tags, put_enumerators, rename_aggregates,
 };

@@ -1,13 +1,13 @@
 ghost use Rattle.std.specs.Prelude.{◌≡◌, OnOk};
 ghost use Rattle.type_graph.specs.Arena.{member_count};
-ghost use Rattle.static_rename.specs.Naming.{Stays};
+ghost use Rattle.fresh_names.specs.Naming.{Stays};
 ghost use Rattle.static_rename.specs.Renamed.{AreRetagged};
 ghost use Rattle.static_rename.specs.Unit.{RetagsAt};
 
 use crate::files::Filed;
-use crate::fresh::{Fresh, Wish, impossible};
-use crate::numbers::unit_number;
+use crate::numbers::{impossible, unit_number};
 use cil_base::{AggId, Bases, Memory, NameId, NamePool, UnitNo};
+use fresh_names::{Fresh, Wish};
 use link_names::Fronted;
 use std::alloc::Global;
 use type_graph::{AggKind, Aggregate, TypeGraph};

@@ -4,27 +4,27 @@ use borrow.Author.Tests.{ltb-true}
 use Rattle.std.specs.Option.{option_map, option_and_then}
 use Rattle.type_graph.specs.Arena.{Graph}
 use Rattle.type_iso.specs.declared.class_table.Classes.{Classes}
-use Rattle.type_iso.specs.declared.parties.Group.{Group}
-use Rattle.type_iso.specs.declared.web.First.{First}
-use Rattle.type_iso.specs.declared.web.Head.{Head}
-use Rattle.type_iso.specs.declared.web.Label.{Label}
-use Rattle.type_iso.specs.declared.web.Web.{Web}
-use Rattle.type_iso.specs.Things.{Thing}
-use Rattle.type_iso.specs.Units.{things, aggregate_count, firsts_from}
-use Rattle.type_iso.specs.Webs.{thing_in, things_of, first_pair, first_pairs, AreWhole}
-use Rattle.type_iso.specs.Weaving.{IsWoven}
-use Rattle.type_iso.specs.Links.{sides_in, links_of, FailsFirst}
-use Rattle.type_iso.specs.declared.forest.Forest.{Forest}
-use Rattle.type_iso.specs.declared.linking.Failure.{Failure}
+use Rattle.type_links.specs.declared.parties.Group.{Group}
+use Rattle.type_things.specs.declared.web.First.{First}
+use Rattle.type_things.specs.declared.web.Head.{Head}
+use Rattle.type_things.specs.declared.web.Label.{Label}
+use Rattle.type_things.specs.declared.web.Web.{Web}
+use Rattle.type_things.specs.Things.{Thing}
+use Rattle.type_things.specs.Units.{things, aggregate_count, firsts_from}
+use Rattle.type_things.specs.Webs.{thing_in, things_of, first_pair, first_pairs, AreWhole, IsWeb}
+use Rattle.type_things.specs.Weaving.{IsWoven}
+use Rattle.type_links.specs.Links.{sides_in, links_of, FailsFirst}
+use Rattle.type_joins.specs.declared.forest.Forest.{Forest}
+use Rattle.type_links.specs.declared.linking.Failure.{Failure}
 use Rattle.type_iso.specs.declared.merging.ClassStop.{ClassStop}
-use Rattle.type_iso.specs.Forests.{root}
-use Rattle.type_iso.specs.Joined.{IsJoining, AreNumbers}
-use Rattle.type_iso.specs.Keys.{num_at}
-use Rattle.type_iso.specs.Gathered.{AreGathered}
+use Rattle.type_joins.specs.Forests.{root}
+use Rattle.type_joins.specs.Joined.{IsJoining}
+use Rattle.type_partition.specs.Partition.{AreNumbers}
+use Rattle.type_partition.specs.Keys.{num_at}
+use Rattle.type_partition.specs.Gathered.{AreGathered}
 use Rattle.type_iso.specs.Standing.{at_own, AreLeast, AreStanding, AreOrdered, AreClassed}
-use Rattle.type_iso.specs.Rounds.{IsWeb}
 use Rattle.type_iso.specs.Classes.{aggregate_number, class_in, sides, IsClashOf, AreClasses, IsRefused}
-use Rattle.type_iso.proofs.WovenLaws.{get_map, things_web, things_whole, things_aggregates, map_length}
+use Rattle.type_things.proofs.WovenLaws.{get_map, things_web, things_whole, things_aggregates, map_length}
 
 module _ {H L : Type 0} (ts : List (Thing H L)) (done : List (ℕ × ℕ)) where
   pub least_classes : (cs : List ℕ) → AreGathered ts done cs → AreLeast cs

@@ -1,10 +1,10 @@
 -- Device: the steps by which things come to stand for classes, and classes come to have numbers.
 use Rattle.std.proofs.Common.{◌≡◌, ◌≢◌, ◌⊎◌, inl, inr, ℕ, zero, suc, ◌+◌, ◌<◌, ◌≤◌, Bool, true, false, List, [], ◌∷◌, ◌++◌, Option, Some, None, Result, Ok, Err, OnOk, length, get_or, slice_get, slice_set, subst, refl, sym, ap, ◌∙◌, arith, true≢false}
 use Rattle.std.proofs.lemmas.List.{get_or-set_same, get_or-set_other, length-set}
-use Rattle.type_iso.specs.Things.{Thing}
+use Rattle.type_things.specs.Things.{Thing}
 use Rattle.type_iso.specs.Standing.{at_own, AreLeast, has_parts, StandsFor, LetsStand, StandUpTo, AllUpTo, AreStanding, AreNumbersIn, AreOrdered, OrderedUpTo}
-use Rattle.type_iso.proofs.ForestLaws.{same_or_not}
-use Rattle.type_iso.proofs.WebLaws.{push_left, push_at, push_length}
+use Rattle.type_things.proofs.NumberLaws.{same_or_not}
+use Rattle.type_things.proofs.WebLaws.{push_left, push_at, push_length}
 
 less_or : (a b : ℕ) → (a < b) ⊎ (b ≤ a)
 less_or a zero = inr (omega arith)

@@ -7,12 +7,12 @@ use Rattle.type_graph.specs.Arena.{Graph}
 use Rattle.type_iso.specs.declared.class_table.Classes.{Classes}
 use Rattle.type_iso.specs.declared.merging.ClassStop.{ClassStop}
 use Rattle.type_iso.specs.declared.merging.ClassStop.TheVariants as stop
-use Rattle.type_iso.specs.declared.linking.Side.{Side}
-use Rattle.type_iso.specs.declared.parties.Group.{Group}
-use Rattle.type_iso.specs.declared.web.First.{First}
-use Rattle.type_iso.specs.Things.{Joint, Same}
-use Rattle.type_iso.specs.Units.{things, aggregate_count, firsts_from}
-use Rattle.type_iso.specs.Links.{sides_in, links_of, FailsFirst}
+use Rattle.type_links.specs.declared.linking.Side.{Side}
+use Rattle.type_links.specs.declared.parties.Group.{Group}
+use Rattle.type_things.specs.declared.web.First.{First}
+use Rattle.type_things.specs.Things.{Joint, Same}
+use Rattle.type_things.specs.Units.{things, aggregate_count, firsts_from}
+use Rattle.type_links.specs.Links.{sides_in, links_of, FailsFirst}
 
 -- the number of an aggregate of a unit among those of all units
 abbrev pub aggregate_number : List Graph → ℕ → ℕ → Option ℕ

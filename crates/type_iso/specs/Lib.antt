@@ -1,14 +1,2 @@
-pub mod Things
-pub mod Forests
-pub mod Joined
-pub mod Rounds
-pub mod Webs
-pub mod Keys
-pub mod Gathered
-pub mod Stems
-pub mod Units
-pub mod Weaving
-pub mod Links
-pub mod Linking
 pub mod Standing
 pub mod Classes

@@ -1,6 +1,6 @@
 -- Device: which aggregate stands for a class of aggregates, and the numbers of classes.
 use Rattle.std.specs.Prelude.{◌≡◌, ◌⊎◌, ◌↔◌, ℕ, ◌<◌, ◌≤◌, Bool, true, false, List, Some, Option, length, is_some, get_or, slice_get, slice_set}
-use Rattle.type_iso.specs.Things.{Thing, inside_of, Joint, Same}
+use Rattle.type_things.specs.Things.{Thing, inside_of, Joint, Same}
 
 abbrev pub at_own : List ℕ → ℕ → ℕ
 at_own cs x = get_or cs x x

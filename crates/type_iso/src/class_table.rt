@@ -1,8 +1,8 @@
 ghost use Rattle.std.specs.Prelude.{◌≡◌, option_map};
 ghost use Rattle.type_iso.specs.Classes.{class_in};
 
-use crate::web::First;
 use cil_base::{AggId, UnitNo};
+use type_things::First;
 
 /// The number of a class: its place in the order in which the classes are printed.
 #[derive(Clone, Copy, PartialEq, Eq)]

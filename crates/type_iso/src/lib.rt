@@ -9,19 +9,8 @@
 #![tactic(auto)]
 
 mod class_table;
-mod forest;
-mod gathering;
-mod joining;
-mod linking;
 mod merging;
-mod numbers;
 mod ordering;
-mod parties;
-mod refining;
-mod stems;
-mod web;
 
 pub use class_table::{ClassNo, Classes};
 pub use merging::{ClassStop, classes};
-pub use parties::{Group, HasGraph, Party};
-pub use stems::stem;

@@ -1,22 +1,18 @@
 ghost use Rattle.std.specs.Prelude.{◌≡◌, ℕ, ◌≤◌, List, [], Option, Some, map, length, slice_get, slice_set, IfOk, OnOk};
-ghost use Rattle.type_iso.specs.Forests.{root, IsForest};
-ghost use Rattle.type_iso.specs.Joined.{IsJoining};
-ghost use Rattle.type_iso.specs.Rounds.{IsWeb};
-ghost use Rattle.type_iso.specs.Webs.{things_of};
+ghost use Rattle.type_joins.specs.Forests.{root, IsForest};
+ghost use Rattle.type_joins.specs.Joined.{IsJoining};
+ghost use Rattle.type_things.specs.Webs.{IsWeb, things_of};
 ghost use Rattle.type_iso.specs.Standing.{AreLeast, LetsStand, StandUpTo, AreStanding, AreNumbersIn, AreOrdered, AreClassed};
 ghost use Rattle.type_iso.specs.Classes.{IsClashOf, Answers};
 
 use crate::class_table::Classes;
-use crate::gathering::gather;
-use crate::joining::Joining;
-use crate::linking::{Failure, join_groups};
-use crate::numbers::{at, impossible, narrow, put, sum};
 use crate::ordering::ordered;
-use crate::parties::{Group, HasGraph};
-use crate::refining::{copied, isomorphic};
-use crate::web::{First, Head, Web, weave};
 use cil_base::{AggId, Memory, NamePool, TypeId, UnitNo};
 use std::alloc::{AllocError, AllocFailed, Global};
+use type_joins::Joining;
+use type_links::{Failure, Group, join_groups};
+use type_partition::{copied, gather, isomorphic};
+use type_things::{First, HasGraph, Head, Web, at, impossible, narrow, put, sum, weave};
 
 /// Why there are no classes.
 #[derive(Clone, Copy)]

@@ -1,8 +1,7 @@
-use crate::numbers::{at, impossible, narrow, put, sum};
-use crate::web::{Head, Web};
 use cil_base::Memory;
 use std::alloc::Global;
 use std::collections::BTreeSet;
+use type_things::{Head, Web, at, impossible, narrow, put, sum};
 
 /// That something waits for another thing, and the next that does; the first has the number 1, and 0 is the end.
 #[derive(Clone, Copy)]

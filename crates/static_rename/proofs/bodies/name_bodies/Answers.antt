@@ -1,6 +1,6 @@
 use Rattle.std.proofs.Common.{◌∙◌, subst, arith}
 use Rattle.static_rename.specs.Within.{IsNamedWithin}
-use Rattle.static_rename.proofs.NamingLaws.{stays_twice}
+use Rattle.fresh_names.proofs.NamingLaws.{stays_twice}
 use Rattle.static_rename.proofs.EachLaws.{each_of}
 use Rattle.static_rename.proofs.BodyLaws.{within_next}
 use Rattle.static_rename.proofs.bodies.name_bodies.Goals as goal

@@ -1,5 +1,5 @@
 use Rattle.static_rename.proofs.KeptLaws.{texts_next, interned_stay}
-use Rattle.static_rename.proofs.NamingLaws.{stays_twice}
+use Rattle.fresh_names.proofs.NamingLaws.{stays_twice}
 use Rattle.static_rename.proofs.kept.interned.Goals as goal
 
 pub loop-text-preserved : goal.loop-text-preserved

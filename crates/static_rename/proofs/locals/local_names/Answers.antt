@@ -1,5 +1,5 @@
 use Rattle.std.proofs.Common.{◌++◌, sym, ◌∙◌, subst}
-use Rattle.static_rename.specs.Giving.{AreTakenBelow}
+use Rattle.fresh_names.specs.Giving.{AreTakenBelow}
 use Rattle.static_rename.proofs.LocalLaws.{locals_next}
 use Rattle.static_rename.proofs.locals.local_names.Goals as goal
 

@@ -1,5 +1,5 @@
 use Rattle.std.proofs.Common.{◌≡◌, ◌++◌, take}
-use Rattle.static_rename.specs.Giving.{GivesAll}
+use Rattle.fresh_names.specs.Giving.{GivesAll}
 use Rattle.static_rename.specs.Local.{IsTable}
 use Rattle.static_rename.proofs.locals.local_names.Given as goal
 

@@ -1,6 +1,6 @@
 use Rattle.std.proofs.Common.{get_or, subst, sym, ap, ◌∙◌, arith}
 use Rattle.type_iso.specs.Standing.{AllUpTo}
-use Rattle.type_iso.specs.Webs.{things_of}
+use Rattle.type_things.specs.Webs.{things_of}
 use Rattle.type_iso.proofs.StandingLaws.{all_start, all_step, all_end}
 use Rattle.type_iso.proofs.merging.all_standing.Goals as goal
 

@@ -1,6 +1,6 @@
 use Rattle.std.proofs.Common.{◌++◌, [], subst, sym, ap}
-use Rattle.type_iso.specs.Forests.{IsForest}
-use Rattle.type_iso.specs.Webs.{things_of}
+use Rattle.type_joins.specs.Forests.{IsForest}
+use Rattle.type_things.specs.Webs.{things_of}
 use Rattle.type_iso.proofs.ClassLaws.{order_classed}
 use Rattle.type_iso.proofs.merging.class_order.Goals as goal
 

@@ -1,7 +1,7 @@
 use Rattle.std.proofs.Common.{[], map}
-use Rattle.type_iso.specs.Links.{sides_in, links_of}
-use Rattle.type_iso.specs.Webs.{things_of, first_pairs}
-use Rattle.type_iso.proofs.JoinedLaws.{none_of, some_of}
+use Rattle.type_links.specs.Links.{sides_in, links_of}
+use Rattle.type_things.specs.Webs.{things_of, first_pairs}
+use Rattle.type_joins.proofs.JoinedLaws.{none_of, some_of}
 use Rattle.type_iso.proofs.ClassLaws.{are_classes, refused, woven_whole, woven_web, woven_within}
 use Rattle.type_iso.proofs.merging.classes.Goals as goal
 

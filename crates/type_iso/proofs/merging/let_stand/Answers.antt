@@ -1,4 +1,4 @@
-use Rattle.type_iso.specs.Webs.{things_of}
+use Rattle.type_things.specs.Webs.{things_of}
 use Rattle.type_iso.proofs.StandingLaws.{let_full, let_none, let_new}
 use Rattle.type_iso.proofs.merging.let_stand.Goals as goal
 

@@ -1,6 +1,6 @@
 use Rattle.std.proofs.Common.{subst, sym, arith}
 use Rattle.type_iso.specs.Standing.{StandUpTo}
-use Rattle.type_iso.specs.Webs.{things_of}
+use Rattle.type_things.specs.Webs.{things_of}
 use Rattle.type_iso.proofs.StandingLaws.{stand_start, stand_step}
 use Rattle.type_iso.proofs.merging.standing_for.Goals as goal
 

@@ -1,6 +1,6 @@
 use Rattle.std.proofs.Common.{◌≡◌, ◌+◌, ◌<◌, sym, ◌∙◌, subst, rules}
-use Rattle.static_rename.specs.Giving.{IsLeastFrom}
-use Rattle.static_rename.proofs.NamingLaws.{stays_twice}
+use Rattle.fresh_names.specs.Giving.{IsLeastFrom}
+use Rattle.fresh_names.proofs.NamingLaws.{stays_twice}
 use Rattle.static_rename.proofs.LocalLaws.{free_found, free_next}
 use Rattle.static_rename.proofs.locals.FunctionNames.free.Goals as goal
 

@@ -1,5 +1,5 @@
 use Rattle.std.proofs.Common.{◌≡◌, ℕ, ◌<◌, ◌++◌}
-use Rattle.static_rename.specs.Naming.{Stays, IsSuffixTaken}
+use Rattle.fresh_names.specs.Naming.{Stays, IsSuffixTaken}
 use Rattle.static_rename.specs.Local.{IsTable}
 use Rattle.static_rename.proofs.locals.FunctionNames.free.Given as goal
 

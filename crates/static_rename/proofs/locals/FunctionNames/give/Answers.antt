@@ -1,5 +1,5 @@
 use Rattle.std.proofs.Common.{◌++◌, sym, ◌∙◌, subst}
-use Rattle.static_rename.specs.Giving.{Gives}
+use Rattle.fresh_names.specs.Giving.{Gives}
 use Rattle.static_rename.proofs.LocalLaws.{local_kept}
 use Rattle.static_rename.proofs.locals.FunctionNames.give.Goals as goal
 

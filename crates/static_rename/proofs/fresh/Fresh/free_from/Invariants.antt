@@ -1,6 +1,0 @@
-use Rattle.std.proofs.Common.{ℕ, ◌<◌, ◌≤◌}
-use Rattle.static_rename.specs.Naming.{Stays, IsSuffixTaken}
-use Rattle.static_rename.proofs.fresh.Fresh.free_from.Given as goal
-
-abbrev pub invariant-loop-number : goal.invariant-loop-number
-invariant-loop-number l = Stays l.fn.names l.names × ((j : ℕ) → l.from ≤ j → j < l.number → IsSuffixTaken l.self.taken.keys l.names l.base j)

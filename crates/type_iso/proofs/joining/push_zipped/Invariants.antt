@@ -1,6 +1,0 @@
-use Rattle.std.proofs.Common.{◌≡◌, ◌++◌, drop}
-use Rattle.type_iso.specs.Joined.{zipped}
-use Rattle.type_iso.proofs.joining.push_zipped.Given as goal
-
-abbrev pub invariant-loop-i : goal.invariant-loop-i
-invariant-loop-i l = l.work.items ++ zipped (drop l.i l.left) (drop l.i l.right) ≡ l.fn.work.items ++ zipped l.left l.right

@@ -1,6 +1,0 @@
-use Rattle.std.proofs.Common.{◌≡◌, take, length}
-use Rattle.type_iso.specs.Things.{labels}
-use Rattle.type_iso.proofs.joining.same_labels.Given as goal
-
-abbrev pub invariant-loop-i : goal.invariant-loop-i
-invariant-loop-i l = labels (take l.i l.left) ≡ labels (take l.i l.right)

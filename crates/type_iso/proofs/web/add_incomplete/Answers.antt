@@ -1,6 +1,0 @@
-use Rattle.std.proofs.Common.{None, refl}
-use Rattle.type_iso.proofs.WeaveLaws.{adds_none}
-use Rattle.type_iso.proofs.web.add_incomplete.Goals as goal
-
-pub returns : goal.returns
-returns c = adds_none c.args.web.now _ (record { head = c.args.head; inside = None }) c.requires refl c.in_ok-push.ensures.items refl refl refl

@@ -1,0 +1,4 @@
+pub mod ForestLaws
+pub mod JoinedLaws
+pub mod StepLaws
+pub mod AgreeLaws

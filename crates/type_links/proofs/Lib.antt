@@ -1,0 +1,3 @@
+pub mod LinkLaws
+pub mod GroupLaws
+pub mod LinkSteps

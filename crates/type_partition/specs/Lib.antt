@@ -1,0 +1,4 @@
+pub mod Partition
+pub mod Rounds
+pub mod Keys
+pub mod Gathered
