@@ -29,7 +29,7 @@ module _ (ts : List (Thing Head Label)) where
   -- a type that the default argument promotions leave cs it is (6.5.2.2p6)
   abbrev pub stays : ℕ → Head → Bool
   stays x (Int kind) = same_kind (promoted kind) kind
-  stays x Agg = not (is_enum_at (first_part x))
+  stays x Agg = not (is_enum_at (first_part ts x))
   stays x h = true
 
   abbrev pub stays_at : ℕ → Bool
@@ -50,7 +50,7 @@ module _ (ts : List (Thing Head Label)) where
 
   -- a function lacks a prototype, and another one has one that fits
   abbrev pub one_lacks : Bool → Head → Head → ℕ → Bool
-  one_lacks bare h k y = lacks_prototype h && (has_prototype k && prototype_fits bare (parts_of y))
+  one_lacks bare h k y = lacks_prototype h && (has_prototype k && prototype_fits bare (parts_of ts y))
 
   -- two types may differ in themselves at the top of a link
   abbrev pub may_differ : Side → Side → Head → Head → Bool
@@ -61,7 +61,7 @@ module _ (ts : List (Thing Head Label)) where
 
   -- the two things that the link of two declarations makes one
   abbrev pub link : Side → Side → ℕ × ℕ
-  link a b = if may_differ_at a b then (first_part a.ty, first_part b.ty) else (a.ty, b.ty)
+  link a b = if may_differ_at a b then (first_part ts a.ty, first_part ts b.ty) else (a.ty, b.ty)
 
   -- the links of a declaration with others before it
   abbrev pub links_with : List Side → Side → List (ℕ × ℕ)
