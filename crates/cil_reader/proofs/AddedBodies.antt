@@ -17,8 +17,8 @@ use Rattle.cil_text.specs.TypesOf.{Among, AddsParts, type_of_one, types_in_local
 use Rattle.cil_text.proofs.PartsAdded.{among_first, among_last, among_either, adds_last, adds_twice, adds_wider}
 use Rattle.cil_reader.specs.declared.heads.Head.{Head as SeenHead}
 use Rattle.cil_reader.specs.declared.bodies.Locals.{Locals}
-use Rattle.cil_reader.specs.declared.stop.Stop.{Stop}
-use Rattle.cil_reader.specs.Gives.{Gives}
+use Rattle.cil_declarators.specs.declared.stop.Stop.{Stop}
+use Rattle.cil_declarators.specs.Gives.{Gives}
 use Rattle.cil_reader.specs.Settings.{locals_of}
 use Rattle.cil_reader.specs.Heads.{heads_of}
 use Rattle.cil_reader.specs.Nesting.{waiting}

@@ -26,7 +26,7 @@ use Rattle.cil_reader.specs.Settings.{Setting}
 use Rattle.cil_reader.specs.Pools.{KeepsNames}
 use Rattle.cil_reader.specs.Members.{may_hold, members_in, MembersKnown, type_number, FieldsKnown, enumerators_from}
 use Rattle.cil_reader.specs.Aggregates.{program_with, aggregates_in, Holds, AddsTag, completed, tag_back, AreOpen, tag_at, types_at, FieldsAdded, MembersAdded, AggregatesAdded}
-use Rattle.cil_reader.proofs.AddedLaws.{adds_among}
+use Rattle.cil_declarators.proofs.AddedLaws.{adds_among}
 use Rattle.cil_reader.proofs.MemberLaws.{both_true}
 use Rattle.cil_reader.proofs.AggregateLaws.{seen_later, aggregates_later, tag_seen, completed_some, seen_at, open_at, complete_seen, open_later, fields_types, from_first, enum_seen, int_line}
 use Rattle.cil_reader.proofs.FilledLaws.{seen_filled}

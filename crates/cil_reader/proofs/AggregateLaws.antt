@@ -43,7 +43,7 @@ use Rattle.cil_text.specs.ReadGlobals.{seen_field, seen_fields}
 use Rattle.cil_reader.specs.declared.names.Names.{Names}
 use Rattle.cil_reader.specs.declared.names.Known.{Known}
 use Rattle.cil_reader.specs.Settings.{Setting, KnownIn, zipped, locals_of, env_of, env_in}
-use Rattle.cil_reader.specs.Fresh.{with_new}
+use Rattle.cil_declarators.specs.Fresh.{with_new}
 use Rattle.cil_reader.specs.Pools.{KeepsNames}
 use Rattle.cil_reader.specs.Members.{AreThere, may_hold, may_complete, member_in, members_in, MembersKnown, type_number, FieldsKnown, enumerator_with, members_behind, enumerators_from, members_apart, members_from}
 use Rattle.cil_reader.specs.Aggregates.{program_with, aggregates_in, AggregatesKnown, Holds, IsBlank, AddsTag, completed, with_fields, is_number, enum_behind, one_enum, one_more, enum_if, next_enum, tags_apart, enums_from, enums_on, with_tag, tag_before, tag_if, next_tag, tags_behind, tags_from, tags_on, bit, tag_back, AreOpen, ArePlain, first_tag, tag_at, complete_behind, one_complete, own_if, own_members, one_struct, stands_behind, structs_behind, structs_after, tagged_structs}

@@ -23,16 +23,16 @@ use Rattle.cil_text.specs.Allowed.{allowed}
 use Rattle.cil_text.specs.Words.{Word, TagWord, Name}
 use Rattle.cil_text.specs.ReadAggregates.{Lines, is_close}
 use Rattle.cil_text.specs.ReadGlobals.{plain_names, ends_open, one_less, moved, line_first, split_block, param_locals}
-use Rattle.cil_reader.specs.declared.words.Word.{Word as Seen}
+use Rattle.cil_scan.specs.declared.words.Word.{Word as Seen}
 use Rattle.cil_reader.specs.declared.names.Names.{Names}
 use Rattle.cil_reader.specs.declared.bodies.Locals.{Locals}
-use Rattle.cil_reader.specs.Said.{said, all_said, all_lines}
+use Rattle.cil_scan.specs.Said.{said, all_said, all_lines}
 use Rattle.cil_reader.specs.Settings.{zipped, locals_of}
-use Rattle.cil_reader.specs.Fresh.{with_new}
+use Rattle.cil_declarators.specs.Fresh.{with_new}
 use Rattle.cil_reader.specs.Pools.{KeepsNames}
 use Rattle.cil_reader.specs.Globals.{behind_line}
 use Rattle.cil_reader.specs.Bodies.{texts_of, TextsKnown, names_from, is_tag_word, tag_behind, name_in, names_here, next_names, still_open, closes, lines_before, named_local, apart, local_behind, LocalsKnown}
-use Rattle.cil_reader.proofs.LayersLaws.{no_fewer}
+use Rattle.cil_declarators.proofs.LayersLaws.{no_fewer}
 use Rattle.cil_reader.proofs.MemberLaws.{each_there, types_later}
 use Rattle.cil_reader.proofs.SettingsLaws.{zipped_kept}
 use Rattle.cil_reader.proofs.PoolLaws.{pool_twice, pool_asked, text_stays}

@@ -31,15 +31,15 @@ use Rattle.cil_text.specs.ReadGlobals.{Declaration, local_first, read_locals, pa
 use Rattle.cil_text.specs.ReadGlobals as reading
 use Rattle.cil_reader.specs.declared.globals.Declaration.{Declaration as SeenDeclaration}
 use Rattle.cil_reader.specs.declared.heads.Head.{Head as SeenHead}
-use Rattle.cil_reader.specs.declared.words.Word.{Word as Seen}
+use Rattle.cil_scan.specs.declared.words.Word.{Word as Seen}
 use Rattle.cil_reader.specs.declared.bodies.Locals.{Locals}
-use Rattle.cil_reader.specs.declared.stop.Stop.{Stop}
-use Rattle.cil_reader.specs.declared.stop.Stop.TheVariants.{NotCil, WantOfMemory}
-use Rattle.cil_reader.specs.Gives.{Fails}
-use Rattle.cil_reader.specs.Said.{all_said, all_lines}
+use Rattle.cil_declarators.specs.declared.stop.Stop.{Stop}
+use Rattle.cil_declarators.specs.declared.stop.Stop.TheVariants.{NotCil, WantOfMemory}
+use Rattle.cil_declarators.specs.Gives.{Fails}
+use Rattle.cil_scan.specs.Said.{all_said, all_lines}
 use Rattle.cil_reader.specs.Settings.{locals_of, with_locals, outside}
-use Rattle.cil_reader.specs.Fresh.{with_new}
-use Rattle.cil_reader.specs.Instructions.{is_end}
+use Rattle.cil_declarators.specs.Fresh.{with_new}
+use Rattle.cil_forms.specs.Forms.{is_end}
 use Rattle.cil_reader.specs.Heads.{heads_of, HeadsKnown}
 use Rattle.cil_reader.specs.Nesting.{waiting, StmtsKnown, Carries}
 use Rattle.cil_reader.specs.Pools.{KeepsNames}

@@ -30,21 +30,21 @@ use Rattle.cil_text.specs.ReadExps.{Env}
 use Rattle.cil_text.specs.ReadAggregates.{Lines, LinesReading}
 use Rattle.cil_text.specs.ReadGlobals.{Declaration, declares, declared_with, only_function, declaration_from, declaration_first, read_declarations, without_static, own_name, is_called, object_defined, own_definition, image_end, defined_by, default_of, Definitions, definition_first, read_objects, declared_name, declared_local}
 use Rattle.cil_reader.specs.declared.globals.Declaration.{Declaration as SeenDeclaration}
-use Rattle.cil_reader.specs.declared.words.Word.{Word as Seen}
+use Rattle.cil_scan.specs.declared.words.Word.{Word as Seen}
 use Rattle.cil_reader.specs.declared.names.Names.{Names}
-use Rattle.cil_reader.specs.Said.{all_said, all_lines}
-use Rattle.cil_reader.specs.declared.stop.Stop.{Stop}
-use Rattle.cil_reader.specs.declared.stop.Stop.TheVariants.{NotCil, WantOfMemory}
-use Rattle.cil_reader.specs.Gives.{Gives, Fails}
+use Rattle.cil_scan.specs.Said.{all_said, all_lines}
+use Rattle.cil_declarators.specs.declared.stop.Stop.{Stop}
+use Rattle.cil_declarators.specs.declared.stop.Stop.TheVariants.{NotCil, WantOfMemory}
+use Rattle.cil_declarators.specs.Gives.{Gives, Fails}
 use Rattle.cil_reader.specs.Settings.{zipped, locals_of}
-use Rattle.cil_reader.specs.Instructions.{is_end}
+use Rattle.cil_forms.specs.Forms.{is_end}
 use Rattle.cil_reader.specs.Pools.{KeepsNames}
 use Rattle.cil_reader.specs.Globals.{EachDeclared, declaration_of, declarations_of, types_declared, declaration_behind, declarations_behind, named_apart, next_definition, behind_line, global_with, defined_line, global_from, one_global, globals_with, globals_behind, DefinitionFlat, IsGlobal, GlobalKnown, globals_of, GlobalsKnown, WaitingKnown, names_on, objects_left}
-use Rattle.cil_reader.specs.Fresh.{with_new}
-use Rattle.cil_reader.specs.LineKinds.{storage, next_name}
+use Rattle.cil_declarators.specs.Fresh.{with_new}
+use Rattle.cil_forms.specs.LineKinds.{storage, next_name}
 use Rattle.cil_reader.specs.declared.globals.Waiting.{Waiting}
 use denote.Ref.{Bor}
-use Rattle.cil_reader.proofs.LayersLaws.{no_fewer}
+use Rattle.cil_declarators.proofs.LayersLaws.{no_fewer}
 use Rattle.cil_reader.proofs.PoolLaws.{pool_same, pool_twice}
 use Rattle.cil_reader.specs.Typed.{typed_as, typed}
 

@@ -1,9 +1,8 @@
 -- Device: steps of the readings of a function's lines.
-use Rattle.std.proofs.Common.{◌≡◌, ℕ, zero, suc, Bool, true, false, cond, List, [], ◌∷◌, ◌++◌, length, drop, get_or, append_assoc, append-nil, ◌+◌, ◌<◌, ◌≤◌, Vec, Box, Option, Some, None, refl, sym, ap, ◌∙◌, subst, arith, ℤ, pos, negsuc, ◌-ℤ◌, neg_ℤ}
+use Rattle.std.proofs.Common.{◌≡◌, ℕ, zero, suc, true, false, cond, List, [], ◌∷◌, ◌++◌, length, drop, get_or, append_assoc, append-nil, ◌+◌, ◌<◌, ◌≤◌, Vec, Box, Option, Some, None, refl, sym, ap, ◌∙◌, subst, arith, ℤ}
 use Rattle.std.specs.Option.{option_map, option_and_then}
 use Rattle.std.specs.Global.{Global}
 use Rattle.cil_base.specs.declared.kinds.IntKind.{IntKind}
-use Rattle.cil_base.specs.declared.operators.BinOp.TheVariants.{Sub}
 use Rattle.cil_base.specs.declared.numbers.LabelId.{LabelId}
 use Rattle.type_graph.specs.declared.nodes.Node.{Node}
 use Rattle.type_graph.specs.Arena.{Graph}
@@ -17,35 +16,21 @@ use Rattle.cil_tree.specs.declared.statements.Stmt.TheVariants as stmt
 use Rattle.cil_tree.specs.Tree.{Exp, Instr, Stmt, Do, Label, Return}
 use Rattle.cil_tree.specs.Tree as plain
 use Rattle.cil_tree.specs.View.{stmt_of}
-use Rattle.cil_text.specs.Words.{Word, LeftParen, RightParen, LeftBrace, RightBrace, ElseWord, Colon, Semicolon, Operator, Number, IfWord, SwitchWord, WhileWord, CaseWord, DefaultWord, GotoWord, BreakWord, ReturnWord}
-use Rattle.cil_text.specs.ReadTypes.{Reading, skip_one, closed}
+use Rattle.cil_text.specs.Words.{Word, LeftParen, RightParen, LeftBrace, RightBrace, ElseWord, Colon, Semicolon, IfWord, SwitchWord, WhileWord, CaseWord, DefaultWord, GotoWord, BreakWord, ReturnWord}
+use Rattle.cil_text.specs.ReadTypes.{Reading, closed}
 use Rattle.cil_text.specs.ReadExps.{Env, enclosed, read_exp}
-use Rattle.cil_text.specs.ReadStmts.{Numbered, is_minus, negated, read_number, Head, Whole, Tested, Turned, opened_by, read_tested, is_end_of_line, returned, read_return, case_of, is_label, label_text, read_simple, read_instr, read_head, read_heads, head_first}
+use Rattle.cil_text.specs.ReadStmts.{Numbered, Head, Whole, Tested, Turned, opened_by, read_tested, is_end_of_line, returned, read_return, case_of, is_label, label_text, read_simple, read_instr, read_head, read_heads, head_first}
 use Rattle.cil_reader.specs.declared.heads.Head.{Head as SeenHead}
 use Rattle.cil_reader.specs.declared.heads.Head.TheVariants as seen
 use Rattle.cil_reader.specs.Parts.{ExpKnown}
-use Rattle.cil_reader.specs.Instructions.{InstrKnown, is_end}
-use Rattle.cil_reader.specs.declared.words.Word.{Word as Seen}
-use Rattle.cil_reader.specs.Said.{all_said, all_lines}
-use Rattle.cil_reader.specs.Heads.{below_zero, head_of, heads_of, heads_behind, StmtKnown, HeadKnown, HeadsKnown, opens, opening, ends_opening, ends_case, labelled, brace_of, is_block, block_line, is_jump, jump_line}
+use Rattle.cil_reader.specs.Instructions.{InstrKnown}
+use Rattle.cil_forms.specs.Forms.{is_end, ends_opening, ends_case, is_block, is_jump}
+use Rattle.cil_scan.specs.declared.words.Word.{Word as Seen}
+use Rattle.cil_scan.specs.Said.{all_said, all_lines}
+use Rattle.cil_reader.specs.Heads.{head_of, heads_of, heads_behind, StmtKnown, HeadKnown, HeadsKnown, opens, opening, labelled, brace_of, block_line, jump_line}
 use Rattle.cil_reader.proofs.InstructionLaws.{ended, unended}
 
 -- numbers
-
-pub minus_is : (n : ℕ) → neg_ℤ (pos n) ≡ negated n
-minus_is zero = refl
-minus_is (suc n) = refl
-
-pub least_is : (n : ℕ) → negsuc 0 -ℤ pos n ≡ negsuc n
-least_is zero = refl
-least_is (suc n) = let e : 0 + n ≡ n = omega arith in ap (λ (k : ℕ). negsuc (suc k)) e
-
-pub negative_is : (kind : IntKind) (n : ℕ) (ws : List Word) → read_number (Operator Sub ∷ Number kind n ∷ ws) ≡ Some (below_zero kind n ws)
-negative_is kind n ws = by (is_minus ws)
-  where
-    by : (v : Bool) → cond {A = Reading Numbered} v (Some ((kind, negsuc n), skip_one (skip_one ws))) (Some ((kind, negated n), ws)) ≡ Some (cond {A = Numbered × List Word} v ((kind, negsuc n), skip_one (skip_one ws)) ((kind, negated n), ws))
-    by true = refl
-    by false = refl
 
 -- lines that open blocks
 

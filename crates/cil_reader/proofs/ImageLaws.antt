@@ -24,11 +24,11 @@ use Rattle.cil_text.specs.ReadExps.{Env, find_named, type_of_named, fields, encl
 use Rattle.cil_text.specs.ReadStmts.{Numbered, read_number}
 use Rattle.cil_text.specs.ReadImages.{Path, step_first, read_path, integer_of, address_at, offset_at, read_pointer, converted_to, read_converted, read_constant, item_at, read_item, item_first, next_item, read_items, only_item, is_brace, read_image}
 use Rattle.cil_reader.specs.declared.reader.Scalar.TheVariants.{Int, Pointer, Other}
-use Rattle.cil_reader.specs.declared.stop.Stop.{Stop}
-use Rattle.cil_reader.specs.declared.stop.Stop.TheVariants.{NotCil, WantOfMemory}
-use Rattle.cil_reader.specs.Gives.{Fails}
-use Rattle.cil_reader.specs.Layers.{closing}
-use Rattle.cil_reader.specs.Images.{assigned, Stepped, to_member, path_step, path_behind, PathRead, path_moved, path_by, path_more, path_left, scalar_of, behind_item, items_behind, Listed, listed_as, item_more, offset_in, converted_from}
+use Rattle.cil_declarators.specs.declared.stop.Stop.{Stop}
+use Rattle.cil_declarators.specs.declared.stop.Stop.TheVariants.{NotCil, WantOfMemory}
+use Rattle.cil_declarators.specs.Gives.{Fails}
+use Rattle.cil_forms.specs.Forms.{closing, assigned, behind_item}
+use Rattle.cil_reader.specs.Images.{Stepped, to_member, path_step, path_behind, PathRead, path_moved, path_by, path_more, path_left, scalar_of, items_behind, Listed, listed_as, item_more, offset_in, converted_from}
 use Rattle.cil_reader.specs.Typed.{typed_as, typed}
 
 -- paths

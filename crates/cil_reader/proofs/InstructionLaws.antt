@@ -22,14 +22,14 @@ use Rattle.cil_text.specs.Words.{Word, RightParen, Comma, Semicolon}
 use Rattle.cil_text.specs.ReadTypes.{Reading}
 use Rattle.cil_text.specs.ReadExps.{Env, read_exp, read_place}
 use Rattle.cil_text.specs.ReadStmts.{callee_of, called_place, line_end, read_args, read_list, read_next, argument_first, read_call, read_effect, read_assigned, read_instr, zero_from, is_zero, behind_address}
-use Rattle.cil_reader.specs.declared.stop.Stop.{Stop}
-use Rattle.cil_reader.specs.declared.stop.Stop.TheVariants.{NotCil, WantOfMemory}
-use Rattle.cil_reader.specs.Gives.{Fails}
-use Rattle.cil_reader.specs.Layers.{closing}
+use Rattle.cil_declarators.specs.declared.stop.Stop.{Stop}
+use Rattle.cil_declarators.specs.declared.stop.Stop.TheVariants.{NotCil, WantOfMemory}
+use Rattle.cil_declarators.specs.Gives.{Fails}
+use Rattle.cil_forms.specs.Forms.{closing, is_end, behind_argument}
 use Rattle.cil_reader.specs.Parts.{ExpKnown, PlaceKnown}
 use Rattle.cil_reader.specs.declared.instructions.Called.{Called}
 use Rattle.cil_reader.specs.declared.instructions.Called.TheVariants as called
-use Rattle.cil_reader.specs.Instructions.{args_of, called_seen, result_of, ArgsKnown, ResultKnown, CalleeKnown, InstrKnown, IsCallee, IsCalled, is_end, behind_argument, list_behind, Listed, listed_as, argument_more, list_left, list_from}
+use Rattle.cil_reader.specs.Instructions.{args_of, called_seen, result_of, ArgsKnown, ResultKnown, CalleeKnown, InstrKnown, IsCallee, IsCalled, list_behind, Listed, listed_as, argument_more, list_left, list_from}
 
 -- arguments
 

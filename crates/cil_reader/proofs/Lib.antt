@@ -1,11 +1,3 @@
-mod SignLaws
-mod LineLaws
-mod ScanLaws
-mod SpelledLaws
-mod LinesLaws
-mod NumberingLaws
-mod LayersLaws
-mod AddedLaws
 mod SettingsLaws
 mod OnwardLaws
 mod OnwardParts
@@ -31,5 +23,4 @@ mod FilledLaws
 mod AddedMembers
 mod SameLaws
 mod ImageLaws
-mod LineKindLaws
 mod GlobalLaws

@@ -34,16 +34,16 @@ use Rattle.cil_text.specs.ReadStmts.{Numbered}
 use Rattle.cil_text.proofs.AggregatesBack.{other_way, neither}
 use Rattle.cil_text.specs.ReadAggregates.{Lines, LinesReading, enumerator_at, read_enumerator, member_at, read_member, member_first, is_close, read_members}
 use Rattle.cil_reader.specs.declared.names.Names.{Names}
-use Rattle.cil_reader.specs.declared.stop.Stop.{Stop}
-use Rattle.cil_reader.specs.declared.stop.Stop.TheVariants.{NotCil, WantOfMemory}
-use Rattle.cil_reader.specs.Gives.{Fails, Gives}
+use Rattle.cil_declarators.specs.declared.stop.Stop.{Stop}
+use Rattle.cil_declarators.specs.declared.stop.Stop.TheVariants.{NotCil, WantOfMemory}
+use Rattle.cil_declarators.specs.Gives.{Fails, Gives}
 use Rattle.cil_reader.specs.declared.names.Known.{Known}
 use Rattle.cil_reader.specs.Settings.{EachNames, KnownIn, Setting, env_in}
-use Rattle.cil_reader.specs.Instructions.{is_end}
-use Rattle.cil_reader.specs.Fresh.{with_new}
+use Rattle.cil_forms.specs.Forms.{is_end, is_comma}
+use Rattle.cil_declarators.specs.Fresh.{with_new}
 use Rattle.cil_reader.specs.Pools.{KeepsNames}
-use Rattle.cil_reader.specs.Members.{AreThere, may_hold, may_complete, IsMember, member_in, members_in, is_plain, MembersKnown, type_number, FieldsKnown, is_comma, value_at, enumerator_with, member_with, with_member, enumerator_more, with_other, member_more, NextLine, line_of, next_line, members_behind, enumerators_from, enumerators_on, members_apart, members_from, members_on}
-use Rattle.cil_reader.proofs.LayersLaws.{no_fewer, each_below}
+use Rattle.cil_reader.specs.Members.{AreThere, may_hold, may_complete, IsMember, member_in, members_in, is_plain, MembersKnown, type_number, FieldsKnown, value_at, enumerator_with, member_with, with_member, enumerator_more, with_other, member_more, NextLine, line_of, next_line, members_behind, enumerators_from, enumerators_on, members_apart, members_from, members_on}
+use Rattle.cil_declarators.proofs.LayersLaws.{no_fewer, each_below}
 use Rattle.cil_reader.proofs.SettingsLaws.{known_kept}
 use Rattle.cil_reader.proofs.PoolLaws.{pool_same, pool_twice}
 

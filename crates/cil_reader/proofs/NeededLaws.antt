@@ -19,8 +19,8 @@ use Rattle.cil_text.specs.ReadGlobals.{Declaration, Definitions, Bodies, own_nam
 use Rattle.cil_text.specs.TypesOf.{type_of_one, declared_types, defined_types, member_types, AddsParts, HasNeeded}
 use Rattle.cil_text.proofs.PartsAdded.{adds_twice}
 use Rattle.cil_reader.specs.declared.globals.Declaration.{Declaration as SeenDeclaration}
-use Rattle.cil_reader.specs.declared.stop.Stop.{Stop}
-use Rattle.cil_reader.specs.Gives.{Gives}
+use Rattle.cil_declarators.specs.declared.stop.Stop.{Stop}
+use Rattle.cil_declarators.specs.Gives.{Gives}
 use Rattle.cil_reader.specs.Settings.{outside}
 use Rattle.cil_reader.specs.Aggregates.{aggregates_in}
 use Rattle.cil_reader.specs.Globals.{types_declared, declaration_of, declarations_of, globals_of, globals_from, globals_with}

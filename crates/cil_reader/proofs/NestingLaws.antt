@@ -10,9 +10,9 @@ use Rattle.cil_tree.specs.Tree.{Exp, Stmt, If, Switch, Loop, Block, Stmts, Done,
 use Rattle.cil_tree.specs.View.{exp_of, stmt_of, stmts_of}
 use Rattle.cil_text.specs.ReadStmts.{Head, Whole, Tested, Turned, Looped, Opened, Otherwise, Closed, Nested, seq_first, closed_block, otherwise, nested_from, read_nested}
 use Rattle.cil_reader.specs.declared.heads.Head.{Head as SeenHead}
-use Rattle.cil_reader.specs.declared.stop.Stop.{Stop}
-use Rattle.cil_reader.specs.declared.stop.Stop.TheVariants.{NotCil, WantOfMemory}
-use Rattle.cil_reader.specs.Gives.{Fails}
+use Rattle.cil_declarators.specs.declared.stop.Stop.{Stop}
+use Rattle.cil_declarators.specs.declared.stop.Stop.TheVariants.{NotCil, WantOfMemory}
+use Rattle.cil_declarators.specs.Gives.{Fails}
 use Rattle.cil_reader.specs.Heads.{head_of}
 use Rattle.cil_reader.specs.Nesting.{waiting, closed_next, otherwise_next, behind_end, ended_by, part_read, OneRead, one_from, one_block, one_if, with_first, second_part, two_parts, one_read, joined, read_behind}
 

@@ -7,12 +7,12 @@ use Rattle.cil_tree.specs.Typing.{element_of}
 use Rattle.cil_text.specs.Words.{Word, RightParen, RightBracket, LeftBracket, Dot, Name}
 use Rattle.cil_text.specs.ReadTypes.{Reading, Named, closed}
 use Rattle.cil_text.specs.ReadExps.{Env, enclosed, in_brackets, is_offset, read_step, read_offsets, read_host, read_place, place_from, type_at_host, chosen, chosen_from, read_chosen, read_right, read_binary, read_cast, read_exp, find_named, fields, type_of_named, field_first, index_first}
-use Rattle.cil_reader.specs.declared.stop.Stop.{Stop}
-use Rattle.cil_reader.specs.declared.stop.Stop.TheVariants.{NotCil, WantOfMemory}
-use Rattle.cil_reader.specs.Gives.{Fails}
-use Rattle.cil_reader.specs.Layers.{closing}
+use Rattle.cil_declarators.specs.declared.stop.Stop.{Stop}
+use Rattle.cil_declarators.specs.declared.stop.Stop.TheVariants.{NotCil, WantOfMemory}
+use Rattle.cil_declarators.specs.Gives.{Fails}
+use Rattle.cil_forms.specs.Forms.{closing, bracketed}
 use Rattle.cil_nodes.specs.Built.{joined, part_of}
-use Rattle.cil_reader.specs.Parts.{exp_within, bracketed, part_behind, Part, to_field, to_element, one_step, offsets_left}
+use Rattle.cil_reader.specs.Parts.{exp_within, part_behind, Part, to_field, to_element, one_step, offsets_left}
 
 -- parentheses
 

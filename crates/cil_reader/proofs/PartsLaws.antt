@@ -21,7 +21,7 @@ use Rattle.cil_text.specs.ReadExps.{Env, pointee, type_at_host, type_at_place, t
 use Rattle.cil_reader.specs.Settings.{type_in, TypeBelow}
 use Rattle.cil_nodes.specs.Built.{IsConst, IsUn, IsBin, IsCast, IsValue, IsStart, IsAddress, IsAt, IsField, IsElement, joined, part_of}
 use Rattle.cil_reader.specs.Parts.{ExpKnown, HostKnown, PlaceKnown, IsMoved}
-use Rattle.cil_reader.proofs.LayersLaws.{no_fewer}
+use Rattle.cil_declarators.proofs.LayersLaws.{no_fewer}
 
 -- parts
 

@@ -11,8 +11,8 @@ use Rattle.cil_tree.specs.Programs.{SeenAggregate, seen_aggregate}
 use Rattle.cil_text.specs.ReadExps.{Env}
 use Rattle.cil_text.specs.ReadAggregates.{Lines, LinesReading, tag_of, read_aggregates}
 use Rattle.cil_text.specs.ReadGlobals.{Declaration, Definitions, Bodies, body_first, begins_with, header_names, behind_first, split_block, read_body, read_declarations, read_objects, read_bodies, declared_name, declared_local, seen_fields, env_from, definition_with, assembled, Seen, seen_end, read_defined, read_lines}
-use Rattle.cil_reader.specs.declared.words.Word.{Word as SeenWord}
-use Rattle.cil_reader.specs.Said.{all_lines}
+use Rattle.cil_scan.specs.declared.words.Word.{Word as SeenWord}
+use Rattle.cil_scan.specs.Said.{all_lines}
 use Rattle.cil_reader.specs.Settings.{Setting, with_globals, outside}
 use Rattle.cil_reader.specs.Pools.{KeepsNames}
 use Rattle.cil_reader.specs.Aggregates.{program_with, aggregates_in, AggregatesKnown, IsBlank}

@@ -15,9 +15,9 @@ use Rattle.cil_text.specs.TypesOf.{HasNeeded}
 use Rattle.cil_text.proofs.OneText.{text_back}
 use Rattle.cil_text.proofs.EnoughWhole.{enough}
 use Rattle.cil_text.proofs.ReadTexts.{read_has_text}
-use Rattle.cil_reader.specs.declared.stop.Stop.{Stop}
-use Rattle.cil_reader.specs.declared.stop.Stop.TheVariants.{NotCil, WantOfMemory}
-use Rattle.cil_reader.specs.Gives.{Fails}
+use Rattle.cil_declarators.specs.declared.stop.Stop.{Stop}
+use Rattle.cil_declarators.specs.declared.stop.Stop.TheVariants.{NotCil, WantOfMemory}
+use Rattle.cil_declarators.specs.Gives.{Fails}
 use Rattle.cil_reader.specs.Aggregates.{aggregates_in}
 use Rattle.cil_reader.specs.Globals.{globals_of}
 use Rattle.cil_reader.specs.Stops.{IsNoText}

@@ -2,16 +2,14 @@
 use Rattle.std.proofs.Common.{◌≡◌, ℕ, zero, suc, ◌<◌, ◌≤◌, List, [], ◌∷◌, Option, Some, None, refl, sym, ap, ◌∙◌, map, length, arith, slice_get, get_or, subst}
 use Rattle.cil_base.specs.declared.numbers.TypeId.{TypeId}
 use Rattle.type_graph.specs.declared.nodes.Node.{Node}
-use Rattle.type_graph.specs.Shapes.{Shape, shape}
+use Rattle.type_graph.specs.Shapes.{Shape, shape, AggType}
 use Rattle.type_graph.specs.Arena.{Graph, EachType}
 use Rattle.type_graph.specs.Growth.{Grows}
 use Rattle.type_graph.proofs.ShapeLaws.{kept}
-use Rattle.cil_tree.specs.Tree.{Local}
+use Rattle.cil_tree.specs.Tree.{Local, Global, Var}
 use Rattle.std.specs.Prelude.{IfSome}
 use Rattle.std.specs.Option.{option_map}
-use Rattle.type_graph.specs.Shapes.{AggType}
 use Rattle.cil_tree.specs.Names.{local_name_of}
-use Rattle.cil_tree.specs.Tree.{Global, Var}
 use Rattle.cil_tree.specs.declared.expressions.Host.{Global as SeenGlobal, Var as SeenVar}
 use Rattle.cil_text.specs.ReadTypes.{find}
 use Rattle.cil_text.specs.ReadExps.{Env, find_named, type_of_named, host_named, host_or_global, fields, fields_of, members_at}
@@ -19,7 +17,7 @@ use Rattle.cil_reader.specs.Parts.{HostKnown}
 use Rattle.cil_reader.specs.declared.names.Names.{Names}
 use Rattle.cil_reader.specs.declared.names.Known.{Known}
 use Rattle.cil_reader.specs.Settings.{zipped, locals_of, env_of, EachNames, KnownIn, Setting, env_in, FoundIn, FoundAmong, type_in}
-use Rattle.cil_reader.proofs.LayersLaws.{no_fewer, each_below}
+use Rattle.cil_declarators.proofs.LayersLaws.{no_fewer, each_below}
 
 pub zipped_kept : (g h : Graph) (ns : List (List ℕ)) (ts : List TypeId) → Grows g h → EachType (length g.nodes) ts → zipped h.nodes ns ts ≡ zipped g.nodes ns ts
 zipped_kept g h [] ts e b = refl

@@ -18,7 +18,7 @@ use Rattle.cil_text.specs.ReadAggregates.{Lines, is_close}
 use Rattle.cil_text.specs.TypesOf.{types_in_body}
 use Rattle.cil_text.specs.ReadGlobals.{Declaration, Bodies, plain_names, header_names, is_outermost, one_less, begins_with, behind_first, split_block, read_body}
 use Rattle.cil_reader.specs.declared.bodies.Locals.{Locals}
-use Rattle.cil_reader.specs.Fresh.{with_new}
+use Rattle.cil_declarators.specs.Fresh.{with_new}
 use Rattle.cil_reader.specs.Settings.{locals_of}
 use Rattle.cil_reader.specs.Pools.{KeepsNames}
 use Rattle.cil_reader.specs.Globals.{behind_line}

@@ -7,8 +7,8 @@ use Rattle.cil_tree.specs.Programs.{SeenAggregate}
 use Rattle.cil_text.specs.ReadExps.{Env}
 use Rattle.cil_text.specs.ReadAggregates.{Lines}
 use Rattle.cil_text.specs.ReadGlobals.{Declaration, Seen, read_declarations, read_objects, read_bodies}
-use Rattle.cil_reader.specs.declared.stop.Stop.{Stop}
-use Rattle.cil_reader.specs.declared.stop.Stop.TheVariants.{NotCil, WantOfMemory}
+use Rattle.cil_declarators.specs.declared.stop.Stop.{Stop}
+use Rattle.cil_declarators.specs.declared.stop.Stop.TheVariants.{NotCil, WantOfMemory}
 use Rattle.cil_reader.specs.Settings.{with_globals, outside}
 use Rattle.cil_reader.specs.Globals.{named_apart, globals_with}
 use Rattle.cil_reader.specs.Bodies.{bodied}

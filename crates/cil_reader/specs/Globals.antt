@@ -16,8 +16,8 @@ use Rattle.cil_text.specs.ReadAggregates.{Lines, LinesReading}
 use Rattle.cil_text.specs.ReadGlobals.{Declaration, Definitions, is_called, own_definition, default_of, read_objects, declared_name, declared_local}
 use Rattle.cil_reader.specs.declared.globals.Declaration.{Declaration as SeenDeclaration}
 use Rattle.cil_reader.specs.declared.globals.Waiting.{Waiting}
-use Rattle.cil_reader.specs.Said.{all_lines}
-use Rattle.cil_reader.specs.LineKinds.{next_name}
+use Rattle.cil_scan.specs.Said.{all_lines}
+use Rattle.cil_forms.specs.LineKinds.{next_name}
 use Rattle.cil_reader.specs.Pools.{KeepsNames}
 
 -- the types of declarations are among the first n

@@ -1,23 +1,18 @@
 -- Device: lines of functions as the code has them, and their readings by the code's steps.
-use Rattle.std.specs.Prelude.{◌≡◌, ℕ, Bool, true, false, if◌then◌else◌, List, [], ◌∷◌, Option, Some, None, negsuc, ◌++◌, map}
+use Rattle.std.specs.Prelude.{◌≡◌, ℕ, List, [], ◌∷◌, Option, Some, None, ◌++◌, map}
 use Rattle.std.specs.Option.{option_map, option_and_then}
-use Rattle.cil_base.specs.declared.kinds.IntKind.{IntKind}
 use Rattle.type_graph.specs.declared.nodes.Node.{Node}
 use Rattle.type_graph.specs.Arena.{Graph}
 use Rattle.type_graph.specs.Growth.{Grows}
 use Rattle.cil_tree.specs.declared.statements.Stmt.{Stmt as SeenStmt}
 use Rattle.cil_tree.specs.Tree.{Exp, Stmt, Default, Goto, Break}
 use Rattle.cil_tree.specs.View.{exp_of, stmt_of}
-use Rattle.cil_text.specs.Words.{Word, LeftParen, RightParen, LeftBrace, ElseWord, Colon, Semicolon, IfWord, SwitchWord, WhileWord, RightBrace, CaseWord, DefaultWord, GotoWord, BreakWord, ReturnWord}
-use Rattle.cil_text.specs.ReadTypes.{skip_one, find}
+use Rattle.cil_text.specs.Words.{Word, LeftParen, LeftBrace, ElseWord, IfWord, SwitchWord, WhileWord, RightBrace, CaseWord, DefaultWord, GotoWord, BreakWord, ReturnWord}
+use Rattle.cil_text.specs.ReadTypes.{find}
 use Rattle.cil_text.specs.ReadExps.{Env, enclosed, read_exp}
-use Rattle.cil_text.specs.ReadStmts.{Numbered, is_minus, negated, Head, Whole, Tested, Turned, Looped, Opened, Otherwise, Closed, case_of, read_number, label_text, read_return, read_tested}
+use Rattle.cil_text.specs.ReadStmts.{Head, Whole, Tested, Turned, Looped, Opened, Otherwise, Closed, case_of, read_number, label_text, read_return, read_tested}
 use Rattle.cil_reader.specs.declared.heads.Head.{Head as SeenHead}
 use Rattle.cil_reader.specs.declared.heads.Head.TheVariants as seen
-
--- behind `- n`
-abbrev pub below_zero : IntKind → ℕ → List Word → Numbered × List Word
-below_zero kind n ws = if is_minus ws then ((kind, negsuc n), skip_one (skip_one ws)) else ((kind, negated n), ws)
 
 abbrev pub head_of : List Node → SeenHead → Head
 head_of nodes (seen.Whole s) = Whole (stmt_of nodes s.value)
@@ -45,16 +40,6 @@ abbrev pub opening : Env → ℕ → List Word → Option Exp
 opening env n (LeftParen ∷ ws) = option_and_then opens (enclosed (λ (e : Exp). e) (read_exp env n ws))
 opening env n _ = None
 
--- the end of such a line
-abbrev pub ends_opening : List Word → Bool
-ends_opening (RightParen ∷ LeftBrace ∷ []) = true
-ends_opening _ = false
-
--- the end of a line with a case label
-abbrev pub ends_case : List Word → Bool
-ends_case (Colon ∷ Semicolon ∷ []) = true
-ends_case _ = false
-
 -- a line that begins with `}`, by what stands behind it
 abbrev pub brace_of : List Word → Head
 brace_of (ElseWord ∷ ws) = Otherwise
@@ -63,15 +48,6 @@ brace_of _ = Closed
 abbrev pub labelled : List (List ℕ) → (ℕ → Stmt) → List ℕ → Option Head
 labelled labels f name = option_map (λ (l : ℕ). Whole (f l)) (find name labels)
 
--- a line that opens a part of a statement, or closes one
-abbrev pub is_block : List Word → Bool
-is_block (IfWord ∷ ws) = true
-is_block (SwitchWord ∷ ws) = true
-is_block (WhileWord ∷ ws) = true
-is_block (LeftBrace ∷ ws) = true
-is_block (RightBrace ∷ ws) = true
-is_block _ = false
-
 abbrev pub block_line : Env → ℕ → List Word → Option Head
 block_line env n (IfWord ∷ ws) = read_tested env n Tested ws
 block_line env n (SwitchWord ∷ ws) = read_tested env n Turned ws
@@ -79,15 +55,6 @@ block_line env n (WhileWord ∷ ws) = Some Looped
 block_line env n (LeftBrace ∷ ws) = Some Opened
 block_line env n (RightBrace ∷ ws) = Some (brace_of ws)
 block_line env n _ = None
-
--- a line with a case label or a jump
-abbrev pub is_jump : List Word → Bool
-is_jump (CaseWord ∷ ws) = true
-is_jump (DefaultWord ∷ ws) = true
-is_jump (GotoWord ∷ ws) = true
-is_jump (BreakWord ∷ ws) = true
-is_jump (ReturnWord ∷ ws) = true
-is_jump _ = false
 
 abbrev pub jump_line : Env → List (List ℕ) → ℕ → List Word → Option Head
 jump_line env labels n (CaseWord ∷ ws) = option_and_then case_of (read_number ws)

@@ -10,21 +10,18 @@ use Rattle.type_graph.specs.Shapes.{Shape, IntType, AggType, PtrType}
 use Rattle.cil_tree.specs.Tree.{Step, ToField, ToIndex, Item}
 use Rattle.cil_tree.specs.Typing.{element_of}
 use Rattle.cil_tree.specs.View.{item_of, step_of}
-use Rattle.cil_text.specs.Words.{Word, LeftBracket, RightBracket, RightBrace, Dot, Comma, Assign, Number, Name}
+use Rattle.cil_text.specs.Words.{Word, LeftBracket, RightBracket, Dot, Number, Name}
 use Rattle.cil_text.specs.ReadTypes.{Reading, Named, read_decl}
 use Rattle.cil_text.specs.ReadExps.{Env, find_named, type_of_named, fields, enclosed}
 use Rattle.cil_text.specs.ReadImages.{Path, read_path, converted_to}
-use Rattle.cil_reader.specs.declared.words.Word.{Word as Seen}
-use Rattle.cil_reader.specs.Said.{all_said}
+use Rattle.cil_scan.specs.declared.words.Word.{Word as Seen}
+use Rattle.cil_scan.specs.Said.{all_said}
+use Rattle.cil_forms.specs.Forms.{assigned, behind_item}
 use Rattle.cil_reader.specs.declared.images.Items.{Items}
 use Rattle.cil_reader.specs.declared.images.Path.{Path as SeenPath}
 use Rattle.cil_reader.specs.Settings.{type_in}
 use Rattle.cil_reader.specs.declared.reader.Scalar.{Scalar}
 use Rattle.cil_reader.specs.declared.reader.Scalar.TheVariants.{Int, Pointer, Other}
-
-abbrev pub assigned : List Word → Option (List Word)
-assigned (Assign ∷ ws) = Some ws
-assigned _ = None
 
 -- a step, and the type of the place that it leads to
 abbrev pub Stepped : Type 0
@@ -70,12 +67,6 @@ scalar_of (IntType kind) = Int kind
 scalar_of (AggType a) = Int int
 scalar_of (PtrType q s) = Pointer
 scalar_of _ = Other
-
--- what stands behind an item, and whether it was the last
-abbrev pub behind_item : List Word → Option (Bool × List Word)
-behind_item (RightBrace ∷ ws) = Some (true, ws)
-behind_item (Comma ∷ ws) = Some (false, ws)
-behind_item _ = None
 
 -- items behind others
 abbrev pub items_behind : List Item → List Item × List Word → List Item × List Word

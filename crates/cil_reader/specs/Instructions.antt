@@ -1,5 +1,5 @@
 -- Device: parts of instructions as the code has them, and their readings by the code's steps.
-use Rattle.std.specs.Prelude.{◌≡◌, ℕ, Bool, true, false, List, [], ◌∷◌, ◌++◌, Option, Some, None, map}
+use Rattle.std.specs.Prelude.{◌≡◌, ℕ, Bool, true, false, List, [], ◌∷◌, ◌++◌, Option, Some, map}
 use Rattle.std.specs.Option.{option_map, option_and_then}
 use Rattle.type_graph.specs.declared.nodes.Node.{Node}
 use Rattle.type_graph.specs.Arena.{Graph}
@@ -9,9 +9,10 @@ use Rattle.cil_tree.specs.declared.expressions.Lval.{Lval as SeenLval}
 use Rattle.cil_tree.specs.declared.statements.Instr.{Instr as SeenInstr}
 use Rattle.cil_tree.specs.Tree.{Exp, Lval, Callee, Direct, Through}
 use Rattle.cil_tree.specs.View.{exp_of, lval_of, instr_of}
-use Rattle.cil_text.specs.Words.{Word, RightParen, Comma, Semicolon}
+use Rattle.cil_text.specs.Words.{Word}
 use Rattle.cil_text.specs.ReadTypes.{Reading}
-use Rattle.cil_reader.specs.Said.{all_said}
+use Rattle.cil_scan.specs.Said.{all_said}
+use Rattle.cil_forms.specs.Forms.{behind_argument}
 use Rattle.cil_reader.specs.declared.arguments.Arguments.{Arguments}
 use Rattle.cil_reader.specs.declared.instructions.Called.{Called}
 use Rattle.cil_reader.specs.declared.instructions.Called.TheVariants as called
@@ -46,16 +47,6 @@ pub record IsCallee (l : SeenLval) (c : Option Called) : Type 0 where
 
 pub record IsCalled (e : SeenExp) (c : Option Called) : Type 0 where
   pub at : (nodes : List Node) → option_map (called_seen nodes) c ≡ called_place (exp_of nodes e)
-
-abbrev pub is_end : List Word → Bool
-is_end (Semicolon ∷ []) = true
-is_end _ = false
-
--- what stands behind an argument, and whether it was the last
-abbrev pub behind_argument : List Word → Option (Bool × List Word)
-behind_argument (RightParen ∷ ws) = Some (true, ws)
-behind_argument (Comma ∷ ws) = Some (false, ws)
-behind_argument _ = None
 
 abbrev pub list_behind : List Exp → List Exp × List Word → List Exp × List Word
 list_behind xs r = (xs ++ r.0, r.1)

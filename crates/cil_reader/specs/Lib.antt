@@ -1,12 +1,3 @@
-pub mod Signs
-pub mod Scan
-pub mod Said
-pub mod Spelled
-pub mod Lines
-pub mod Gives
-pub mod Fresh
-pub mod Bases
-pub mod Layers
 pub mod Added
 pub mod Settings
 pub mod Parts
@@ -18,7 +9,6 @@ pub mod Images
 pub mod Pools
 pub mod Members
 pub mod Aggregates
-pub mod LineKinds
 pub mod Globals
 pub mod Bodies
 pub mod Stops

@@ -67,10 +67,6 @@ pub record FieldsKnown (g : Graph) (names : List (List ℕ)) (ms : List Member) 
 
 -- enumerators
 
-abbrev pub is_comma : List Word → Bool
-is_comma (Comma ∷ []) = true
-is_comma _ = false
-
 -- a value and `,`
 abbrev pub value_at : Numbered × List Word → Option ℤ
 value_at (x, Comma ∷ []) = if fits int x.1 then Some x.1 else None

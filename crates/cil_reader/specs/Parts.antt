@@ -15,13 +15,12 @@ use Rattle.cil_tree.specs.Tree.{Local, Exp, Const, Host, Offsets, Here, Field, I
 use Rattle.cil_tree.specs.Typing.{element_of}
 use Rattle.cil_tree.specs.View.{exp_of, host_of, lval_of}
 use Rattle.cil_nodes.specs.Built.{part_of}
-use Rattle.cil_text.specs.Words.{Word, RightBracket, LeftBracket, Dot, Name}
+use Rattle.cil_text.specs.Words.{Word, LeftBracket, Dot, Name}
 use Rattle.cil_text.specs.ReadTypes.{Reading, read_decl}
-use Rattle.cil_text.specs.ReadExps.{Env, pointee, moved_pointee, type_at_host, type_at_place, find_named, fields, type_of_named, in_brackets, exp_from, read_exp, read_offsets, Form, Negated, Complemented, Denied, Addressed, Pointed, Converted, Combined}
+use Rattle.cil_text.specs.ReadExps.{Env, pointee, moved_pointee, type_at_host, type_at_place, find_named, fields, type_of_named, in_brackets, exp_from, read_exp, read_offsets, Form}
 use Rattle.cil_reader.specs.declared.operands.Walk.{Walk}
-use Rattle.cil_reader.specs.Said.{all_said}
-use Rattle.cil_reader.specs.declared.parts.Form.{Form as SeenForm}
-use Rattle.cil_reader.specs.declared.parts.Form.TheVariants as form
+use Rattle.cil_scan.specs.Said.{all_said}
+use Rattle.cil_forms.specs.declared.ahead.Form.TheVariants as form
 use Rattle.cil_reader.specs.Settings.{type_in, TypeBelow}
 
 -- an expression with what it points to
@@ -49,15 +48,6 @@ pub record IsMoved (op : BinOp) (s t u : Option TypeId) : Type 0 where
 
 -- readings by the code's steps
 
-abbrev pub form_said : SeenForm → Form
-form_said form.Negated = Negated
-form_said form.Complemented = Complemented
-form_said form.Denied = Denied
-form_said form.Addressed = Addressed
-form_said form.Pointed = Pointed
-form_said form.Converted = Converted
-form_said form.Combined = Combined
-
 -- a constant, and what stands behind it
 abbrev pub constant_read : IntKind → ℕ → List Word → Reading Exp
 constant_read kind n ws = Some (Const kind n, ws)
@@ -69,11 +59,6 @@ host_read ws o = option_map (λ (h : Host). (h, ws)) o
 -- an expression within which others are read with so many steps
 abbrev pub exp_within : Env → ℕ → List Word → Reading Exp
 exp_within env n ws = exp_from env (read_exp env n) (read_decl env.tags n) n ws
-
--- what stands behind `]`
-abbrev pub bracketed : List Word → Option (List Word)
-bracketed (RightBracket ∷ ws) = Some ws
-bracketed _ = None
 
 abbrev pub part_behind : Lval → Offsets × List Word → Lval × List Word
 part_behind l r = (part_of l r.0, r.1)

@@ -42,11 +42,6 @@ pub record Setting : Type 0 where
 unfoldable pub env_in : Setting → Env
 env_in s = env_of s.graph.nodes s.known
 
--- what reading leaves of a graph: it has grown, and its aggregates stay
-pub record Extends (old new : Graph) : Type 0 where
-  pub grows : Grows old new
-  pub keeps : KeepsAggregates old new
-
 -- what reading leaves: the graph has grown, its aggregates stay, and what is known stays
 pub record Onward (old new : Setting) : Type 0 where
   pub grows : Grows old.graph new.graph

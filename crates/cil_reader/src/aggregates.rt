@@ -4,26 +4,24 @@ ghost use Rattle.std.specs.List.{list_all};
 ghost use Rattle.cil_base.specs.Arithmetic.{fits};
 ghost use Rattle.cil_base.specs.declared.kinds.IntKind.TheVariants.{Int as int_kind};
 ghost use Rattle.type_graph.specs.Shapes.{IntType, shape};
-ghost use Rattle.type_graph.specs.Growth.{Grows, KeepsAggregates};
 ghost use Rattle.cil_tree.specs.WellFormedTypes.{members_are_unqualified};
 ghost use Rattle.cil_text.specs.Allowed.{allowed};
-ghost use Rattle.cil_text.specs.ReadAggregates.{incomplete, is_close, opened_tag, lone_tag, tag_of, read_enumerator, read_member, read_placed, read_aggregates};
+ghost use Rattle.cil_text.specs.ReadAggregates.{incomplete, tag_of, read_enumerator, read_member, read_placed, read_aggregates};
 ghost use Rattle.cil_text.specs.ReadGlobals.{seen_fields};
 ghost use Rattle.cil_text.specs.TypesOf.{AddsParts, member_types};
-ghost use Rattle.cil_reader.specs.Said.{all_said, all_lines};
-ghost use Rattle.cil_reader.specs.Gives.{Gives};
+ghost use Rattle.cil_scan.specs.Said.{all_said, all_lines};
+ghost use Rattle.cil_declarators.specs.Gives.{Gives};
 ghost use Rattle.cil_reader.specs.Settings.{Onward, env_in};
 ghost use Rattle.cil_reader.specs.Pools.{KeepsNames};
-ghost use Rattle.cil_reader.specs.Members.{AreThere, IsMember, MembersKnown, FieldsKnown, members_in, is_comma, valued, enumerator_with, enumerator_more, member_with, with_other, member_more, next_line, enumerators_from, members_from};
+ghost use Rattle.cil_reader.specs.Members.{AreThere, IsMember, MembersKnown, FieldsKnown, members_in, valued, enumerator_with, enumerator_more, member_with, with_other, member_more, next_line, enumerators_from, members_from};
 ghost use Rattle.cil_reader.specs.Aggregates.{aggregates_in, AggregatesKnown, Holds, IsBlank, AreOpen, ArePlain, one_enum, next_enum, enums_from, with_tag, next_tag, tags_from, tag_at, one_complete, one_struct, own_members, tagged_structs, bit, types_at, FieldsAdded, AggregatesAdded};
 
-use crate::instructions::is_end;
 use crate::names::Names;
-use crate::numbers::read_number;
 use crate::reader::Reader;
-use crate::stop::Stop;
-use crate::words::Word;
 use cil_base::{AggId, NamePool, TypeId};
+use cil_declarators::Stop;
+use cil_forms::{is_close, is_comma, is_end, lone_tag, opened_tag, read_number};
+use cil_scan::Word;
 use type_graph::{AggKind, Member, QualType, Quals};
 
 /// Lines that were read of an aggregate's members, and the names of those that expressions can name.
@@ -31,26 +29,6 @@ use type_graph::{AggKind, Member, QualType, Quals};
 struct Fields {
     members: Vec<Member>,
     names: Names,
-}
-
-/// Whether a line closes a block.
-pub(crate) fn is_close(words: &[Word]) -> bool
-    ensures { result ≡ is_close (all_said words.now) }
-{
-    match words {
-        [Word::RightBrace, ..] => true,
-        _ => false,
-    }
-}
-
-/// Whether the line of an enumerator ends here.
-fn is_comma(words: &[Word]) -> bool
-    ensures { result ≡ is_comma (all_said words.now) }
-{
-    match words {
-        [Word::Comma] => true,
-        _ => false,
-    }
 }
 
 /// The value that a number is, if an enumerator may have it (C11 6.7.2.2p2).
@@ -86,27 +64,6 @@ fn read_enumerator<'a>(words: &[Word<'a>]) -> Option<(&'a [u8], i32)>
 {
     match words {
         [Word::Name(name), Word::Assign, rest @ ..] => Some((*name, valued(rest)?)),
-        _ => None,
-    }
-}
-
-/// The tag in the line that opens an aggregate.
-fn opened_tag<'a>(words: &[Word<'a>]) -> Option<&'a [u8]>
-    ensures { option_map (λ t. t.now) result ≡ opened_tag (all_said words.now) }
-{
-    match words {
-        [Word::TagWord(_), Word::Name(tag), Word::LeftBrace, ..] => Some(*tag),
-        _ => None,
-    }
-}
-
-/// The tag of a struct or union in a line of its own.
-fn lone_tag<'a>(words: &[Word<'a>]) -> Option<(AggKind, &'a [u8])>
-    ensures { option_map (λ t. (t.0, t.1.now)) result ≡ lone_tag (all_said words.now) }
-{
-    match words {
-        [Word::TagWord(AggKind::Enum), ..] => None,
-        [Word::TagWord(kind), Word::Name(tag), Word::Semicolon, ..] => Some((*kind, *tag)),
         _ => None,
     }
 }

@@ -1,20 +1,19 @@
-ghost use Rattle.std.specs.Prelude.{◌≡◌, [], IfOk};
-ghost use Rattle.std.specs.Option.{option_map};
+ghost use Rattle.std.specs.Prelude.{IfOk};
 ghost use Rattle.type_graph.specs.Arena.{Graph};
 ghost use Rattle.cil_text.specs.ReadExps.{read_exp};
 ghost use Rattle.cil_text.specs.ReadStmts.{read_args, read_list};
 ghost use Rattle.cil_text.specs.TypesOf.{AddsParts, types_in_args};
-ghost use Rattle.cil_reader.specs.Said.{all_said};
-ghost use Rattle.cil_reader.specs.Gives.{Gives};
+ghost use Rattle.cil_scan.specs.Said.{all_said};
+ghost use Rattle.cil_declarators.specs.Gives.{Gives};
 ghost use Rattle.cil_reader.specs.Settings.{Onward, env_in};
-ghost use Rattle.cil_reader.specs.Instructions.{args_of, ArgsKnown, behind_argument, argument_more, arguments_of};
+ghost use Rattle.cil_reader.specs.Instructions.{args_of, ArgsKnown, argument_more, arguments_of};
 
-use crate::declarators::closing;
 use crate::operands::read_exp;
 use crate::reader::Reader;
-use crate::stop::Stop;
-use crate::words::Word;
+use cil_declarators::Stop;
+use cil_forms::{behind_argument, closing};
 use cil_nodes::push_argument;
+use cil_scan::Word;
 use cil_tree::Exp;
 
 /// Arguments that were read, what stands behind them, and whether the last one is among them.
@@ -23,17 +22,6 @@ struct Arguments<'w, 'a> {
     all: Vec<Exp>,
     rest: &'w [Word<'a>],
     closed: bool,
-}
-
-/// What stands behind an argument, and whether it was the last.
-fn behind_argument<'w, 'a>(words: &'w [Word<'a>]) -> Option<(bool, &'w [Word<'a>])>
-    ensures { option_map (λ r. (r.0, all_said r.1.now)) result ≡ behind_argument (all_said words.now) }
-{
-    match words {
-        [Word::RightParen, rest @ ..] => Some((true, rest)),
-        [Word::Comma, rest @ ..] => Some((false, rest)),
-        _ => None,
-    }
 }
 
 /// One argument more.

@@ -1,28 +1,26 @@
 ghost use Rattle.std.specs.Prelude.{◌≡◌, ◌<◌, IfOk, OnOk, Some, [], ◌∷◌, false, length, drop};
 ghost use Rattle.std.specs.Option.{option_map, option_and_then};
 ghost use Rattle.type_graph.specs.Arena.{Graph, EachType};
-ghost use Rattle.type_graph.specs.Growth.{Grows, KeepsAggregates};
 ghost use Rattle.type_graph.specs.Shapes.{shape};
 ghost use Rattle.cil_tree.specs.View.{definition_of, global_of};
 ghost use Rattle.cil_text.specs.ReadTypes.{read_decl};
 ghost use Rattle.cil_text.specs.ReadImages.{read_image};
-ghost use Rattle.cil_text.specs.ReadGlobals.{declared_with, only_function, declaration_from, read_declarations, without_static, image_end, defined_by, own_definition, default_of};
+ghost use Rattle.cil_text.specs.ReadGlobals.{declared_with, only_function, declaration_from, read_declarations, image_end, defined_by, own_definition, default_of};
 ghost use Rattle.cil_text.specs.TypesOf.{AddsParts};
-ghost use Rattle.cil_reader.specs.Said.{all_said, all_lines};
-ghost use Rattle.cil_reader.specs.Gives.{Gives};
+ghost use Rattle.cil_scan.specs.Said.{all_said, all_lines};
+ghost use Rattle.cil_declarators.specs.Gives.{Gives};
 ghost use Rattle.cil_reader.specs.Settings.{Onward, env_in, locals_of};
 ghost use Rattle.cil_reader.specs.Pools.{KeepsNames};
 ghost use Rattle.cil_reader.specs.Globals.{EachDeclared, declaration_of, declarations_of, types_declared, declaration_behind, named_apart, next_definition, behind_line, global_with, defined_line, one_global, objects_left, DefinitionFlat, IsGlobal, GlobalKnown, globals_of, GlobalsKnown, WaitingKnown};
 
 use crate::images::read_image;
-use crate::instructions::is_end;
-use crate::line_kinds::{declares, is_called, next_name, storage};
 use crate::names::Names;
 use crate::reader::Reader;
-use crate::stop::Stop;
 use crate::typed::read_typed;
-use crate::words::Word;
 use cil_base::{NamePool, TypeId};
+use cil_declarators::Stop;
+use cil_forms::{declares, is_called, is_end, next_name, storage, without_static};
+use cil_scan::Word;
 use cil_tree::{GlobalDecl, GlobalDef};
 
 /// A global as it is declared.
@@ -156,16 +154,6 @@ pub(crate) fn names_of(r: &Reader, declarations: &[Declaration]) -> Result<Names
         names = names.with(declarations[i].name, declarations[i].ty)?;
     }
     Ok(names)
-}
-
-/// A line without `static` in front.
-fn without_static<'w, 'a>(words: &'w [Word<'a>]) -> &'w [Word<'a>]
-    ensures { all_said result.now ≡ without_static (all_said words.now) }
-{
-    match words {
-        [Word::StaticWord, rest @ ..] => rest,
-        _ => words,
-    }
 }
 
 /// Behind `=`: an object's scalars, up to the end of its line.

@@ -1,29 +1,31 @@
-ghost use Rattle.std.specs.Prelude.{◌≡◌, [], Some, None, IfOk, map, List, Option};
+ghost use Rattle.std.specs.Prelude.{◌≡◌, Some, IfOk, List};
 ghost use Rattle.std.specs.Option.{option_map, option_and_then};
 ghost use Rattle.type_graph.specs.declared.nodes.Node.{Node};
 ghost use Rattle.type_graph.specs.Arena.{Graph};
 ghost use Rattle.cil_tree.specs.Tree.{Do, Label, Case, Goto};
 ghost use Rattle.cil_tree.specs.View.{exp_of, stmt_of};
 ghost use Rattle.cil_text.specs.ReadExps.{enclosed, read_exp};
-ghost use Rattle.cil_text.specs.ReadStmts.{Head as Line, Whole, Tested, Turned, is_end_of_line, read_tested, read_return, read_simple, read_head, read_heads, read_instr, read_number, case_of, label_text, is_label};
+ghost use Rattle.cil_text.specs.ReadStmts.{Whole, Tested, Turned, read_tested, read_return, read_simple, read_head, read_heads, read_instr, read_number, case_of, label_text};
 ghost use Rattle.cil_text.specs.TypesOf.{AddsParts, types_in_exp};
 ghost use Rattle.cil_reader.specs.Added.{types_in_head, types_in_heads};
-ghost use Rattle.cil_reader.specs.Said.{all_said, all_lines};
-ghost use Rattle.cil_reader.specs.Gives.{Gives};
+ghost use Rattle.cil_scan.specs.Said.{all_said, all_lines};
+ghost use Rattle.cil_declarators.specs.Gives.{Gives};
 ghost use Rattle.cil_reader.specs.Settings.{Onward, env_in};
 ghost use Rattle.cil_reader.specs.Parts.{ExpKnown};
-ghost use Rattle.cil_reader.specs.Heads.{head_of, heads_of, StmtKnown, HeadKnown, HeadsKnown, opens, opening, ends_opening, ends_case, labelled, brace_of, is_block, is_jump, block_line, jump_line};
+ghost use Rattle.cil_reader.specs.Heads.{head_of, heads_of, StmtKnown, HeadKnown, HeadsKnown, opens, opening, labelled, brace_of, block_line, jump_line};
 
-use crate::instructions::{is_end, read_instr};
-use crate::numbering::Numbering;
-use crate::numbers::{Numbered, read_number};
+use crate::instructions::read_instr;
 use crate::operands::read_exp;
 use crate::parts::Operand;
 use crate::reader::Reader;
-use crate::stop::Stop;
-use crate::words::Word;
 use cil_base::LabelId;
+use cil_declarators::{Numbering, Stop};
+use cil_forms::{
+    Numbered, ends_case, ends_opening, is_block, is_end, is_end_of_line, is_jump, is_label,
+    label_text, read_number,
+};
 use cil_nodes::{boxed_statement, case, goto, label, return_value};
+use cil_scan::Word;
 use cil_tree::{Exp, Stmt};
 
 /// A line of a function's body (C11 6.8): a statement that is whole, or what opens or closes a block.
@@ -42,56 +44,6 @@ pub(crate) enum Head {
     Otherwise,
     /// `}`
     Closed,
-}
-
-/// Whether the line of an `if` or `switch` ends here.
-fn ends_opening(words: &[Word]) -> bool
-    ensures { result ≡ ends_opening (all_said words.now) }
-{
-    match words {
-        [Word::RightParen, Word::LeftBrace] => true,
-        _ => false,
-    }
-}
-
-/// Whether the line of a case label ends here.
-fn ends_case(words: &[Word]) -> bool
-    ensures { result ≡ ends_case (all_said words.now) }
-{
-    match words {
-        [Word::Colon, Word::Semicolon] => true,
-        _ => false,
-    }
-}
-
-/// Whether a `return` gives nothing.
-fn is_end_of_line(words: &[Word]) -> bool
-    ensures { result ≡ is_end_of_line (all_said words.now) }
-{
-    match words {
-        [Word::Semicolon, ..] => true,
-        _ => false,
-    }
-}
-
-/// Whether a label stands in front (C11 6.8.1).
-pub(crate) fn is_label(words: &[Word]) -> bool
-    ensures { result ≡ is_label (all_said words.now) }
-{
-    match words {
-        [Word::Name(_), Word::Colon, ..] => true,
-        _ => false,
-    }
-}
-
-/// The name in front, or no text.
-pub(crate) fn label_text<'w, 'a>(words: &'w [Word<'a>]) -> &'a [u8]
-    ensures { result.now ≡ label_text (all_said words.now) }
-{
-    match words {
-        [Word::Name(name), ..] => *name,
-        _ => b"",
-    }
 }
 
 /// Behind the `(` of an `if` or `switch`: its expression, and the end of its line.
@@ -261,34 +213,6 @@ fn behind_brace(words: &[Word]) -> Head
     match words {
         [Word::ElseWord, ..] => Head::Otherwise,
         _ => Head::Closed,
-    }
-}
-
-/// Whether a line opens a part of a statement, or closes one (C11 6.8.2, 6.8.4, 6.8.5).
-fn is_block(words: &[Word]) -> bool
-    ensures { result ≡ is_block (all_said words.now) }
-{
-    match words {
-        [Word::IfWord, ..] => true,
-        [Word::SwitchWord, ..] => true,
-        [Word::WhileWord, ..] => true,
-        [Word::LeftBrace, ..] => true,
-        [Word::RightBrace, ..] => true,
-        _ => false,
-    }
-}
-
-/// Whether a line has a case label or a jump (C11 6.8.1, 6.8.6).
-fn is_jump(words: &[Word]) -> bool
-    ensures { result ≡ is_jump (all_said words.now) }
-{
-    match words {
-        [Word::CaseWord, ..] => true,
-        [Word::DefaultWord, ..] => true,
-        [Word::GotoWord, ..] => true,
-        [Word::BreakWord, ..] => true,
-        [Word::ReturnWord, ..] => true,
-        _ => false,
     }
 }
 

@@ -1,24 +1,21 @@
 ghost use Rattle.std.specs.Prelude.{◌≡◌, ◌<◌, IfOk, OnOk, IfSome, Some, length, map};
 ghost use Rattle.std.specs.Option.{option_map, option_and_then};
-ghost use Rattle.type_graph.specs.Growth.{Grows, KeepsAggregates};
 ghost use Rattle.type_graph.specs.Shapes.{shape};
 ghost use Rattle.cil_tree.specs.View.{step_of, item_of};
 ghost use Rattle.cil_text.specs.ReadStmts.{read_number};
 ghost use Rattle.cil_text.specs.ReadExps.{host_named};
-ghost use Rattle.cil_text.specs.ReadImages.{integer_of, integer_as, only_global, function_named, offset_at, read_path, read_address, read_pointer, read_converted, read_constant, read_item, read_items, only_item, is_brace, read_image};
-ghost use Rattle.cil_reader.specs.Said.{all_said};
-ghost use Rattle.cil_reader.specs.Gives.{Gives};
+ghost use Rattle.cil_text.specs.ReadImages.{integer_of, integer_as, only_global, function_named, offset_at, read_path, read_address, read_pointer, read_converted, read_constant, read_item, read_items, only_item, read_image};
+ghost use Rattle.cil_scan.specs.Said.{all_said};
+ghost use Rattle.cil_declarators.specs.Gives.{Gives};
 ghost use Rattle.cil_reader.specs.Settings.{Onward, env_in, type_in, TypeBelow};
-ghost use Rattle.cil_reader.specs.Images.{path_step, path_more, path_of, assigned, behind_item, items_of, item_more, offset_in, converted_from, constant_of};
+ghost use Rattle.cil_reader.specs.Images.{path_step, path_more, path_of, items_of, item_more, offset_in, converted_from, constant_of};
 
-use crate::declarators::closing;
-use crate::numbers::read_number;
-use crate::parts::skip_one;
 use crate::reader::{Reader, Scalar};
-use crate::stop::Stop;
 use crate::typed::read_typed;
-use crate::words::Word;
 use cil_base::{BinOp, Constant, EntityId, IntKind, TypeId};
+use cil_declarators::Stop;
+use cil_forms::{assigned, behind_item, closing, is_brace, read_number, skip_one};
+use cil_scan::Word;
 use cil_tree::{Host, ImageItem, Step};
 
 /// A path to a part of an object, the type of the place that it leads to, what stands behind it, and whether `=` was
@@ -44,16 +41,6 @@ struct Items<'w, 'a> {
     all: Vec<ImageItem>,
     rest: &'w [Word<'a>],
     closed: bool,
-}
-
-/// What stands behind `=`, if it comes first.
-fn assigned<'w, 'a>(words: &'w [Word<'a>]) -> Option<&'w [Word<'a>]>
-    ensures { option_map (λ r. all_said r.now) result ≡ assigned (all_said words.now) }
-{
-    match words {
-        [Word::Assign, rest @ ..] => Some(rest),
-        _ => None,
-    }
 }
 
 /// A step from a place of a type (C11 6.7.9p6).
@@ -330,17 +317,6 @@ fn read_item<'w, 'a>(
     Ok((ImageItem { path, value }, behind))
 }
 
-/// What stands behind an item, and whether it was the last.
-fn behind_item<'w, 'a>(words: &'w [Word<'a>]) -> Option<(bool, &'w [Word<'a>])>
-    ensures { option_map (λ r. (r.0, all_said r.1.now)) result ≡ behind_item (all_said words.now) }
-{
-    match words {
-        [Word::RightBrace, rest @ ..] => Some((true, rest)),
-        [Word::Comma, rest @ ..] => Some((false, rest)),
-        _ => None,
-    }
-}
-
 /// One item more.
 #[tactic(auto, using(crate::proofs::ImageLaws::item_end, crate::proofs::ImageLaws::item_open, crate::proofs::ImageLaws::item_none, crate::proofs::OnwardLaws::onward_twice, crate::proofs::OnwardLaws::onward_env, crate::proofs::OnwardLaws::onward_grows, crate::proofs::OnwardLaws::onward_none))]
 fn one_item<'w, 'a>(
@@ -408,16 +384,6 @@ fn only_value<'w, 'a>(
     let mut items = Vec::new(r.alloc());
     items.push(ImageItem { path, value })?;
     Ok((items, rest))
-}
-
-/// Whether `{` comes first.
-fn is_brace(words: &[Word]) -> bool
-    ensures { result ≡ is_brace (all_said words.now) }
-{
-    match words {
-        [Word::LeftBrace, ..] => true,
-        _ => false,
-    }
 }
 
 /// Behind `=`: an object's scalars in braces, or the one value of a scalar (C11 6.7.9).

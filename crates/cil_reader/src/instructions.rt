@@ -1,27 +1,27 @@
-ghost use Rattle.std.specs.Prelude.{◌≡◌, ◌++◌, Some, None, IfOk, List};
-ghost use Rattle.std.specs.Option.{option_map, option_and_then};
-ghost use Rattle.std.specs.Str.{bytes_eq};
+ghost use Rattle.std.specs.Prelude.{◌≡◌, ◌++◌, IfOk, List};
+ghost use Rattle.std.specs.Option.{option_and_then};
 ghost use Rattle.type_graph.specs.declared.nodes.Node.{Node};
 ghost use Rattle.type_graph.specs.Arena.{Graph};
 ghost use Rattle.cil_tree.specs.Tree.{Set, Call};
 ghost use Rattle.cil_tree.specs.View.{exp_of, lval_of, instr_of, callee_of};
 ghost use Rattle.cil_text.specs.ReadExps.{read_exp, read_place};
-ghost use Rattle.cil_text.specs.ReadStmts.{line_end, zero_from, read_call, read_assigned, read_effect, read_instr, memset, is_zero, opens_address, behind_address};
+ghost use Rattle.cil_text.specs.ReadStmts.{line_end, zero_from, read_call, read_assigned, read_effect, read_instr};
 ghost use Rattle.cil_text.specs.TypesOf.{AddsParts, types_in_exp, types_in_place, types_in_result, types_in_callee, types_in_instr};
-ghost use Rattle.cil_reader.specs.Said.{all_said};
-ghost use Rattle.cil_reader.specs.Gives.{Gives};
+ghost use Rattle.cil_scan.specs.Said.{all_said};
+ghost use Rattle.cil_declarators.specs.Gives.{Gives};
 ghost use Rattle.cil_reader.specs.Settings.{Onward, env_in};
 ghost use Rattle.cil_reader.specs.Parts.{ExpKnown, PlaceKnown};
-ghost use Rattle.cil_reader.specs.Instructions.{args_of, called_seen, result_of, ResultKnown, CalleeKnown, InstrKnown, IsCallee, IsCalled, is_end};
+ghost use Rattle.cil_reader.specs.Instructions.{args_of, called_seen, result_of, ResultKnown, CalleeKnown, InstrKnown, IsCallee, IsCalled};
 
 use crate::arguments::read_args;
 use crate::operands::{read_exp, read_place};
 use crate::parts::{Located, Operand};
 use crate::reader::Reader;
-use crate::stop::Stop;
-use crate::words::Word;
-use cil_base::{BinOp, EntityId};
+use cil_base::EntityId;
+use cil_declarators::Stop;
+use cil_forms::{behind_address, is_end, is_zero};
 use cil_nodes::{direct, set, through, zero};
+use cil_scan::Word;
 use cil_tree::{Callee, Exp, Host, Instr, Lval};
 
 /// What is called: a function by its name, or what a pointer points to.
@@ -29,57 +29,6 @@ use cil_tree::{Callee, Exp, Host, Instr, Lval};
 pub(crate) enum Called {
     Direct(EntityId),
     Through(Box<Exp>),
-}
-
-/// Whether a line ends here.
-pub(crate) fn is_end(words: &[Word]) -> bool
-    ensures { result ≡ is_end (all_said words.now) }
-{
-    match words {
-        [Word::Semicolon] => true,
-        _ => false,
-    }
-}
-
-/// Whether an address stands in front.
-fn opens_address(words: &[Word]) -> bool
-    ensures { result ≡ opens_address (all_said words.now) }
-{
-    match words {
-        [Word::LeftParen, Word::Operator(BinOp::And), ..] => true,
-        _ => false,
-    }
-}
-
-/// Whether a name is that of the function that fills objects.
-fn is_memset(name: &[u8]) -> bool
-    ensures { result ≡ bytes_eq name.now memset }
-{
-    name == b"__builtin_memset".as_slice()
-}
-
-/// Whether a line fills an object with zero bytes.
-fn is_zero(words: &[Word]) -> bool
-    ensures { result ≡ is_zero (all_said words.now) }
-{
-    match words {
-        [Word::Name(name), Word::LeftParen, rest @ ..] => is_memset(name) && opens_address(rest),
-        _ => false,
-    }
-}
-
-/// What stands behind the four words in front of a zero fill's place.
-#[tactic(auto, using(crate::proofs::LayersLaws::rest_of))]
-fn behind_address<'w, 'a>(words: &'w [Word<'a>]) -> &'w [Word<'a>]
-    ensures { all_said result.now ≡ behind_address (all_said words.now) }
-{
-    match words {
-        [_, _, _, _, rest @ ..] => rest,
-        [_, _, _] => &words[3..],
-        [_, _] => &words[2..],
-        [_] => &words[1..],
-        [] => words,
-    }
 }
 
 /// What is called where a place stands before `(`: a function by its name, or what a pointer points to.

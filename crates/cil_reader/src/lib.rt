@@ -11,30 +11,19 @@
 
 mod aggregates;
 mod arguments;
-mod bases;
 mod bodies;
-mod declarators;
 mod fitting;
 mod globals;
 mod heads;
 mod images;
 mod instructions;
-mod layout;
-mod line_kinds;
-mod lines;
 mod members;
 mod names;
 mod nesting;
-mod numbering;
-mod numbers;
 mod operands;
 mod parts;
 mod program;
 mod reader;
-mod signs;
-mod stop;
 mod typed;
-mod words;
 
-pub use layout::bad_place;
 pub use program::{ReadStop, read};

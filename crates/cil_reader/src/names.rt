@@ -1,10 +1,9 @@
 ghost use Rattle.std.specs.Prelude.{◌≡◌, [], ◌∷◌, ◌++◌, length, IfOk};
-ghost use Rattle.cil_reader.specs.Gives.{Gives};
-ghost use Rattle.cil_reader.specs.Fresh.{with_new};
+ghost use Rattle.cil_declarators.specs.Gives.{Gives};
+ghost use Rattle.cil_declarators.specs.Fresh.{with_new};
 
-use crate::numbering::Numbering;
-use crate::stop::Stop;
 use cil_base::TypeId;
+use cil_declarators::{Numbering, Stop};
 use std::alloc::Global;
 
 /// Different names in order, each with its type.

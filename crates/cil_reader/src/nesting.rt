@@ -2,14 +2,14 @@ ghost use Rattle.std.specs.Prelude.{◌≡◌, ◌++◌, ◌∷◌, [], Some, No
 ghost use Rattle.cil_tree.specs.Tree.{Switch, Loop, Block};
 ghost use Rattle.cil_tree.specs.View.{exp_of, stmts_of};
 ghost use Rattle.cil_text.specs.ReadStmts.{Head as Line, read_nested};
-ghost use Rattle.cil_reader.specs.Gives.{Gives};
+ghost use Rattle.cil_declarators.specs.Gives.{Gives};
 ghost use Rattle.cil_reader.specs.Heads.{head_of};
 ghost use Rattle.cil_reader.specs.declared.heads.Head.TheVariants as seen;
 ghost use Rattle.cil_reader.specs.Nesting.{waiting, closed_next, otherwise_next, part_read, two_parts, one_read, one_if, one_block, maybe_seen, Carries, CarriesOne};
 
 use crate::heads::Head;
 use crate::reader::Reader;
-use crate::stop::Stop;
+use cil_declarators::Stop;
 use cil_nodes::{boxed_statement, if_else, looped, push_statement, switch};
 use cil_tree::{Exp, Stmt};
 

@@ -8,21 +8,21 @@ ghost use Rattle.cil_text.specs.Words.{LeftParen};
 ghost use Rattle.cil_text.specs.ReadTypes.{read_decl};
 ghost use Rattle.cil_text.specs.ReadExps.{enclosed, read_exp, read_formed, read_chosen, read_place, read_host, read_offsets, read_cast, read_binary, read_right, type_at_host, host_named, find_named, fields, in_brackets};
 ghost use Rattle.cil_text.specs.TypesOf.{AddsParts, types_in_exp, types_in_host, types_in_place};
-ghost use Rattle.cil_reader.specs.Said.{all_said};
-ghost use Rattle.cil_reader.specs.Gives.{Gives};
+ghost use Rattle.cil_scan.specs.Said.{all_said};
+ghost use Rattle.cil_declarators.specs.Gives.{Gives};
 ghost use Rattle.cil_reader.specs.Settings.{Onward, env_in, type_in};
-ghost use Rattle.cil_reader.specs.Parts.{ExpKnown, HostKnown, PlaceKnown, constant_read, host_read, exp_within, form_said, part_behind, walked, one_step, to_field, to_element};
+ghost use Rattle.cil_reader.specs.Parts.{ExpKnown, HostKnown, PlaceKnown, constant_read, host_read, exp_within, part_behind, walked, one_step, to_field, to_element};
+ghost use Rattle.cil_forms.specs.Forms.{form_said};
 
-use crate::declarators::closing;
 use crate::parts::{
-    Based, Form, Located, Operand, bracketed, chosen, form_of, is_offset, skip_one,
-    step_to_element, step_to_member, with_address, with_base, with_binary, with_cast,
-    with_constant, with_pointer, with_unary,
+    Based, Located, Operand, chosen, step_to_element, step_to_member, with_address, with_base,
+    with_binary, with_cast, with_constant, with_pointer, with_unary,
 };
 use crate::reader::Reader;
-use crate::stop::Stop;
-use crate::words::Word;
 use cil_base::{BinOp, IntKind, TypeId, UnOp};
+use cil_declarators::Stop;
+use cil_forms::{Form, bracketed, closing, form_of, is_offset, skip_one};
+use cil_scan::Word;
 
 /// A place with its type, and what stands behind it.
 #[derive(Drop)]

@@ -1,35 +1,20 @@
 ghost use Rattle.std.specs.Prelude.{◌≡◌, ◌<◌, true, false, Some, length, IfOk, OnOk};
-ghost use Rattle.std.specs.Option.{option_map, option_and_then};
+ghost use Rattle.std.specs.Option.{option_and_then};
 ghost use Rattle.type_graph.specs.Shapes.{shape};
 ghost use Rattle.cil_nodes.specs.Built.{part_of};
 ghost use Rattle.cil_tree.specs.Tree.{Const, Un, Bin, Cast, AddrOf, At, Place, Here, Field, Index};
 ghost use Rattle.cil_tree.specs.Typing.{element_of};
 ghost use Rattle.cil_tree.specs.View.{exp_of, host_of, lval_of};
-ghost use Rattle.cil_text.specs.ReadTypes.{skip_one};
-ghost use Rattle.cil_text.specs.ReadExps.{form_of, is_base, is_offset, chosen, is_array_type, fields, type_of_named};
-ghost use Rattle.cil_reader.specs.Said.{all_said};
+ghost use Rattle.cil_text.specs.ReadExps.{chosen, is_array_type, fields, type_of_named};
 ghost use Rattle.cil_reader.specs.Settings.{env_in, type_in};
-ghost use Rattle.cil_reader.specs.Parts.{ExpKnown, HostKnown, PlaceKnown, IsMoved, form_said, bracketed};
+ghost use Rattle.cil_reader.specs.Parts.{ExpKnown, HostKnown, PlaceKnown, IsMoved};
 
 use crate::reader::Reader;
-use crate::words::Word;
 use cil_base::{BinOp, IntKind, Memory, TypeId, UnOp};
 use cil_nodes::{
     add_element, add_field, address, at, binary, boxed, cast, constant, start, unary, value, whole,
 };
 use cil_tree::{Exp, Host, Lval};
-
-/// What an expression is whose first token is a `(`, by what stands behind it.
-#[derive(Clone, Copy, Debug, PartialEq, Eq)]
-pub(crate) enum Form {
-    Negated,
-    Complemented,
-    Denied,
-    Addressed,
-    Pointed,
-    Converted,
-    Combined,
-}
 
 /// An expression, and what it points to if its type is a pointer.
 #[derive(Drop)]
@@ -50,70 +35,6 @@ pub(crate) struct Based {
 pub(crate) struct Located {
     pub place: Lval,
     pub ty: Option<TypeId>,
-}
-
-/// Whether a type's first word stands in front (C11 6.7.2).
-pub(crate) fn is_base(words: &[Word]) -> bool
-    ensures { result ≡ is_base (all_said words.now) }
-{
-    match words {
-        [Word::VoidWord, ..] => true,
-        [Word::BoolWord, ..] => true,
-        [Word::CharWord, ..] => true,
-        [Word::ShortWord, ..] => true,
-        [Word::IntWord, ..] => true,
-        [Word::LongWord, ..] => true,
-        [Word::SignedWord, ..] => true,
-        [Word::UnsignedWord, ..] => true,
-        [Word::TagWord(_), ..] => true,
-        _ => false,
-    }
-}
-
-/// What stands behind a `(`.
-pub(crate) fn form_of(words: &[Word]) -> Form
-    ensures { form_said result ≡ form_of (all_said words.now) }
-{
-    match words {
-        [Word::Operator(BinOp::Sub), ..] => Form::Negated,
-        [Word::Tilde, ..] => Form::Complemented,
-        [Word::Bang, ..] => Form::Denied,
-        [Word::Operator(BinOp::And), ..] => Form::Addressed,
-        [Word::Operator(BinOp::Mul), ..] => Form::Pointed,
-        [Word::LeftParen, rest @ ..] if is_base(rest) => Form::Converted,
-        _ => Form::Combined,
-    }
-}
-
-/// Whether a step into a part stands in front.
-pub(crate) fn is_offset(words: &[Word]) -> bool
-    ensures { result ≡ is_offset (all_said words.now) }
-{
-    match words {
-        [Word::Dot, ..] => true,
-        [Word::LeftBracket, ..] => true,
-        _ => false,
-    }
-}
-
-/// What stands behind a `]` in front.
-pub(crate) fn bracketed<'w, 'a>(words: &'w [Word<'a>]) -> Option<&'w [Word<'a>]>
-    ensures { option_map (λ r. all_said r.now) result ≡ bracketed (all_said words.now) }
-{
-    match words {
-        [Word::RightBracket, rest @ ..] => Some(rest),
-        _ => None,
-    }
-}
-
-/// What stands behind the first word.
-pub(crate) fn skip_one<'w, 'a>(words: &'w [Word<'a>]) -> &'w [Word<'a>]
-    ensures { all_said result.now ≡ skip_one (all_said words.now) }
-{
-    match words {
-        [] => words,
-        [_, rest @ ..] => rest,
-    }
 }
 
 /// What a sum or a difference points to (C11 6.5.6), by what its operands point to.

@@ -1,8 +1,8 @@
-ghost use Rattle.std.specs.Prelude.{◌≡◌, ◌<◌, ◌≤◌, [], ◌∷◌, Some, length, map, IfSome, IfOk, OnOk, slice_get};
+ghost use Rattle.std.specs.Prelude.{◌≡◌, ◌<◌, [], ◌∷◌, Some, length, IfSome, IfOk, OnOk};
 ghost use Rattle.std.specs.Option.{option_map, option_and_then};
 ghost use Rattle.cil_base.specs.declared.kinds.IntKind.TheVariants.{Int as int};
 ghost use Rattle.type_graph.specs.Shapes.{shape, shapes_of, IntType};
-ghost use Rattle.type_graph.specs.Growth.{Grows, KeepsAggregates};
+ghost use Rattle.type_graph.specs.Growth.{Grows};
 ghost use Rattle.type_graph.specs.Arena.{IsArena, EachType};
 ghost use Rattle.std.specs.List.{list_all};
 ghost use Rattle.cil_tree.specs.WellFormedTypes.{has_member};
@@ -12,26 +12,25 @@ ghost use Rattle.cil_text.specs.ReadTypes.{find, read_decl};
 ghost use Rattle.cil_text.specs.ReadExps.{host_named, find_named, fields, type_of_named, is_array_type};
 ghost use Rattle.cil_text.specs.ReadGlobals.{params_of};
 ghost use Rattle.cil_text.specs.TypesOf.{AddsParts};
-ghost use Rattle.cil_reader.specs.Said.{all_said};
-ghost use Rattle.cil_reader.specs.Gives.{Gives};
-ghost use Rattle.cil_reader.specs.Layers.{named_of};
+ghost use Rattle.cil_scan.specs.Said.{all_said};
+ghost use Rattle.cil_declarators.specs.Gives.{Gives};
+ghost use Rattle.cil_declarators.specs.Layers.{named_of};
 ghost use Rattle.cil_reader.specs.Settings.{Onward, type_in, TypeBelow, env_in, locals_of, with_globals, with_locals, outside};
 ghost use Rattle.cil_reader.specs.Parts.{HostKnown};
 ghost use Rattle.cil_reader.specs.Pools.{KeepsNames};
 ghost use Rattle.cil_reader.specs.Images.{scalar_of};
-ghost use Rattle.cil_reader.specs.Fresh.{with_new};
+ghost use Rattle.cil_declarators.specs.Fresh.{with_new};
 ghost use Rattle.cil_reader.specs.Members.{AreThere};
 ghost use Rattle.cil_reader.specs.Aggregates.{AddsTag, completed, with_fields, is_number};
 
-use crate::declarators::{Named, read_decl};
 use crate::fitting::{are_filled, may_complete};
 use crate::members::find_member;
 use crate::names::{Known, Names};
 use crate::parts::Based;
-use crate::stop::Stop;
 use crate::typed::is_same;
-use crate::words::Word;
 use cil_base::{AggId, EntityId, IntKind, LocalId, NamePool, TypeId};
+use cil_declarators::{Named, Stop, read_decl};
+use cil_scan::Word;
 use cil_tree::Host;
 use std::alloc::Global;
 use std::marker::Model;
@@ -81,7 +80,7 @@ impl Reader {
     }
 
     /// A declaration without storage class, or a type's name.
-    #[tactic(auto, using(crate::proofs::SettingsLaws::setting_kept, crate::proofs::SettingsLaws::known_kept, crate::proofs::SettingsLaws::setting_tags, crate::proofs::OnwardLaws::extends_grows, crate::proofs::OnwardLaws::extends_keeps, crate::proofs::OnwardLaws::onward_from))]
+    #[tactic(auto, using(crate::proofs::SettingsLaws::setting_kept, crate::proofs::SettingsLaws::known_kept, crate::proofs::SettingsLaws::setting_tags, cil_declarators::proofs::ExtendsLaws::extends_grows, cil_declarators::proofs::ExtendsLaws::extends_keeps, crate::proofs::OnwardLaws::onward_from))]
     pub(crate) fn read_decl<'w, 'a>(
         &mut self,
         left: u32,

@@ -1,17 +1,16 @@
 ghost use Rattle.std.specs.Prelude.{◌≡◌, ◌<◌, OnOk, length};
 ghost use Rattle.type_graph.specs.Shapes.{shape};
 ghost use Rattle.type_graph.specs.Arena.{IsArena};
-ghost use Rattle.type_graph.specs.Growth.{Grows, KeepsAggregates};
 ghost use Rattle.cil_tree.specs.Typing.{same_shape};
-ghost use Rattle.cil_reader.specs.Said.{all_said};
-ghost use Rattle.cil_reader.specs.Gives.{Gives};
+ghost use Rattle.cil_scan.specs.Said.{all_said};
+ghost use Rattle.cil_declarators.specs.Gives.{Gives};
 ghost use Rattle.cil_reader.specs.Settings.{Onward, env_in};
 ghost use Rattle.cil_reader.specs.Typed.{typed};
 
 use crate::reader::Reader;
-use crate::stop::Stop;
-use crate::words::Word;
 use cil_base::TypeId;
+use cil_declarators::Stop;
+use cil_scan::Word;
 use type_graph::TypeGraph;
 
 /// Whether two types are one.

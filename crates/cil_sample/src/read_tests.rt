@@ -1,6 +1,7 @@
 use super::*;
 use cil_base::NamePool;
-use cil_reader::{ReadStop, bad_place, read};
+use cil_layout::bad_place;
+use cil_reader::{ReadStop, read};
 use std::test::Fail;
 
 /// The place that is named for bytes, or none where they are read.

@@ -1,5 +1,5 @@
 use Rattle.std.proofs.Common.{length}
-use Rattle.cil_reader.specs.Said.{all_lines}
+use Rattle.cil_scan.specs.Said.{all_lines}
 use Rattle.cil_reader.proofs.AggregateLaws.{enum_holds}
 use Rattle.cil_reader.proofs.AddedMembers.{enum_added}
 use Rattle.cil_reader.proofs.aggregates.read_enum.Goals as goal

@@ -1,5 +1,5 @@
 use Rattle.std.proofs.Common.{[]}
-use Rattle.cil_reader.specs.Said.{all_lines}
+use Rattle.cil_scan.specs.Said.{all_lines}
 use Rattle.cil_reader.specs.Members.{members_in, enumerators_from}
 use Rattle.cil_reader.proofs.MemberLaws.{none_known, enumerators_next}
 use Rattle.cil_reader.proofs.PoolLaws.{pool_twice}

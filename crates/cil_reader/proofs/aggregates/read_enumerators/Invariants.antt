@@ -1,5 +1,5 @@
 use Rattle.std.proofs.Common.{◌≡◌, [], length}
-use Rattle.cil_reader.specs.Said.{all_lines}
+use Rattle.cil_scan.specs.Said.{all_lines}
 use Rattle.cil_reader.specs.Pools.{KeepsNames}
 use Rattle.cil_reader.specs.Members.{AreThere, MembersKnown, members_in, enumerators_from, enumerators_on}
 use Rattle.cil_reader.proofs.aggregates.read_enumerators.Given as goal

@@ -1,5 +1,5 @@
 use Rattle.std.proofs.Common.{◌≡◌, length, true, rules}
-use Rattle.cil_reader.specs.Said.{all_lines}
+use Rattle.cil_scan.specs.Said.{all_lines}
 use Rattle.cil_reader.specs.Aggregates.{aggregates_in, enums_from}
 use Rattle.cil_reader.proofs.AggregateLaws.{enums_next}
 use Rattle.cil_reader.proofs.PoolLaws.{pool_twice}

@@ -1,8 +1,8 @@
 use Rattle.std.proofs.Common.{[], rules, IsErr, IfErr}
 use Rattle.cil_reader.proofs.OnwardLaws.{onward_twice}
 use Rattle.cil_text.specs.ReadAggregates.{read_member}
-use Rattle.cil_reader.specs.Gives.{Fails}
-use Rattle.cil_reader.specs.Said.{all_lines}
+use Rattle.cil_declarators.specs.Gives.{Fails}
+use Rattle.cil_scan.specs.Said.{all_lines}
 use Rattle.cil_reader.specs.Settings.{env_in}
 use Rattle.cil_reader.specs.Members.{members_in, members_from, member_more, next_line}
 use Rattle.cil_reader.proofs.MemberLaws.{no_fields, members_next, members_fail, stops_so}

@@ -1,5 +1,5 @@
 use Rattle.std.proofs.Common.{◌+◌, take}
-use Rattle.cil_reader.specs.Said.{all_lines}
+use Rattle.cil_scan.specs.Said.{all_lines}
 use Rattle.cil_reader.specs.Aggregates.{aggregates_in}
 use Rattle.cil_reader.proofs.AggregateLaws.{struct_left}
 use Rattle.cil_reader.proofs.aggregates.read_struct.Goals as goal

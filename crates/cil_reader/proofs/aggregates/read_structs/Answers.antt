@@ -1,7 +1,7 @@
 use Rattle.std.proofs.Common.{◌<◌, ◌≤◌, length, take, sym, ◌∙◌, arith, rules, IsErr, IfErr}
 use Rattle.cil_text.specs.ReadAggregates.{read_member}
-use Rattle.cil_reader.specs.Gives.{Fails}
-use Rattle.cil_reader.specs.Said.{all_lines}
+use Rattle.cil_declarators.specs.Gives.{Fails}
+use Rattle.cil_scan.specs.Said.{all_lines}
 use Rattle.cil_reader.specs.Settings.{env_in}
 use Rattle.cil_reader.specs.Aggregates.{aggregates_in, tag_at, one_struct, tagged_structs}
 use Rattle.cil_reader.proofs.MemberLaws.{stops_so}

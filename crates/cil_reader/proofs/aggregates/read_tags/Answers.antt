@@ -1,4 +1,4 @@
-use Rattle.cil_reader.specs.Said.{all_lines}
+use Rattle.cil_scan.specs.Said.{all_lines}
 use Rattle.cil_reader.specs.Aggregates.{aggregates_in, tags_from}
 use Rattle.cil_reader.proofs.AggregateLaws.{tags_next}
 use Rattle.cil_reader.proofs.PoolLaws.{pool_twice}

@@ -2,7 +2,7 @@ use Rattle.std.proofs.Common.{◌≡◌}
 use Rattle.cil_text.specs.ReadExps.{read_exp}
 use Rattle.cil_text.specs.ReadStmts.{read_list}
 use Rattle.cil_text.specs.TypesOf.{AddsParts, types_in_args}
-use Rattle.cil_reader.specs.Said.{all_said}
+use Rattle.cil_scan.specs.Said.{all_said}
 use Rattle.cil_reader.specs.Settings.{Onward, env_in}
 use Rattle.cil_reader.specs.Instructions.{args_of, ArgsKnown, list_from}
 use Rattle.cil_reader.proofs.arguments.read_list.Given as goal

@@ -1,6 +1,6 @@
 use Rattle.std.proofs.Common.{◌≡◌, ◌≤◌, drop, take}
 use Rattle.cil_text.specs.ReadGlobals.{split_block}
-use Rattle.cil_reader.specs.Said.{all_lines}
+use Rattle.cil_scan.specs.Said.{all_lines}
 use Rattle.cil_reader.specs.Bodies.{lines_before}
 use Rattle.cil_reader.proofs.bodies.block_length.Given as goal
 

@@ -1,6 +1,6 @@
 use Rattle.std.proofs.Common.{◌≡◌, ◌<◌, Some, length, get_or, rules, arith}
 use Rattle.cil_text.specs.ReadGlobals.{labels_in}
-use Rattle.cil_reader.specs.Said.{all_said, all_lines}
+use Rattle.cil_scan.specs.Said.{all_said, all_lines}
 use Rattle.cil_reader.specs.Bodies.{label_behind}
 use Rattle.cil_reader.proofs.FunctionLaws.{label_different, labels_step}
 use Rattle.cil_reader.proofs.PoolLaws.{pool_twice}

@@ -1,7 +1,7 @@
 use Rattle.std.proofs.Common.{◌≡◌, ◌++◌, true, drop}
 use Rattle.cil_tree.specs.Names.{are_different}
 use Rattle.cil_text.specs.ReadGlobals.{labels_in}
-use Rattle.cil_reader.specs.Said.{all_lines}
+use Rattle.cil_scan.specs.Said.{all_lines}
 use Rattle.cil_reader.specs.Pools.{KeepsNames}
 use Rattle.cil_reader.specs.Bodies.{TextsKnown}
 use Rattle.cil_reader.proofs.bodies.labels_in.Given as goal

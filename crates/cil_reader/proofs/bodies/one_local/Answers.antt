@@ -2,8 +2,8 @@ use Rattle.std.proofs.Common.{◌≡◌, true, List, ℕ, Bor, Option, ap, rules
 use Rattle.std.specs.Option.{option_map}
 use Rattle.type_graph.specs.Shapes.{shape}
 use Rattle.cil_text.specs.ReadTypes.{read_decl}
-use Rattle.cil_reader.specs.Said.{all_said}
-use Rattle.cil_reader.specs.Instructions.{is_end}
+use Rattle.cil_scan.specs.Said.{all_said}
+use Rattle.cil_forms.specs.Forms.{is_end}
 use Rattle.cil_reader.specs.Settings.{env_in, locals_of}
 use Rattle.cil_reader.proofs.BodyLaws.{locals_same, locals_later}
 use Rattle.cil_reader.proofs.FunctionLaws.{one_taken}

@@ -1,6 +1,6 @@
 use Rattle.std.proofs.Common.{◌<◌, length, arith}
 use Rattle.cil_text.specs.ReadGlobals.{plain_names}
-use Rattle.cil_reader.specs.Said.{all_said}
+use Rattle.cil_scan.specs.Said.{all_said}
 use Rattle.cil_reader.specs.Bodies.{texts_of}
 use Rattle.cil_reader.proofs.BodyLaws.{names_next}
 use Rattle.cil_reader.proofs.bodies.plain_names.Goals as goal

@@ -1,6 +1,6 @@
 use Rattle.std.proofs.Common.{◌≡◌, ◌++◌, drop}
 use Rattle.cil_text.specs.ReadGlobals.{plain_names}
-use Rattle.cil_reader.specs.Said.{all_said}
+use Rattle.cil_scan.specs.Said.{all_said}
 use Rattle.cil_reader.specs.Bodies.{texts_of, names_from}
 use Rattle.cil_reader.proofs.bodies.plain_names.Given as goal
 

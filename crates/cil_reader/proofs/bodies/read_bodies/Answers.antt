@@ -5,8 +5,8 @@ use Rattle.std.proofs.Math.ListN.{set}
 use Rattle.type_graph.proofs.GrowthLaws.{grows_twice}
 use Rattle.cil_tree.specs.declared.globals.Body.{Body as SeenBody}
 use Rattle.cil_tree.specs.declared.globals.GlobalDecl.{GlobalDecl as SeenGlobal}
-use Rattle.cil_reader.specs.declared.words.Word.{Word}
-use Rattle.cil_reader.specs.Said.{all_lines}
+use Rattle.cil_scan.specs.declared.words.Word.{Word}
+use Rattle.cil_scan.specs.Said.{all_lines}
 use Rattle.cil_reader.specs.Settings.{env_in, outside}
 use Rattle.cil_reader.specs.Globals.{globals_of, behind_line}
 use Rattle.cil_reader.specs.Bodies.{texts_of, next_names, BodyKnown}

@@ -3,7 +3,7 @@ use Rattle.std.specs.Option.{option_map}
 use Rattle.type_graph.specs.Growth.{Grows, KeepsAggregates}
 use Rattle.cil_text.specs.ReadGlobals.{read_bodies}
 use Rattle.cil_text.specs.TypesOf.{AddsParts, defined_types}
-use Rattle.cil_reader.specs.Said.{all_lines}
+use Rattle.cil_scan.specs.Said.{all_lines}
 use Rattle.cil_reader.specs.Settings.{env_in, outside}
 use Rattle.cil_reader.specs.Pools.{KeepsNames}
 use Rattle.cil_reader.specs.Globals.{declarations_of, globals_of, GlobalsKnown}

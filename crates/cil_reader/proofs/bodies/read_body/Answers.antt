@@ -10,7 +10,7 @@ use Rattle.cil_text.specs.ReadExps.{Env}
 use Rattle.cil_text.specs.ReadStmts.{read_heads, read_nested}
 use Rattle.cil_text.specs.ReadGlobals.{labels_in, read_body}
 use Rattle.cil_text.specs.TypesOf.{AddsParts, types_in_stmts}
-use Rattle.cil_reader.specs.Said.{all_lines}
+use Rattle.cil_scan.specs.Said.{all_lines}
 use Rattle.cil_reader.specs.Settings.{env_in, locals_of, with_locals, outside}
 use Rattle.cil_reader.specs.Bodies.{texts_of, whole_stmts}
 use Rattle.cil_reader.proofs.BodyLaws.{texts_later}

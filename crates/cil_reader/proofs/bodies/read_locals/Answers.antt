@@ -3,7 +3,7 @@ use Rattle.std.specs.Option.{option_map, option_and_then}
 use Rattle.cil_text.specs.ReadTypes.{read_decl}
 use Rattle.cil_text.specs.ReadExps.{is_base}
 use Rattle.cil_text.specs.ReadGlobals.{local_of, read_locals}
-use Rattle.cil_reader.specs.Said.{all_said, all_lines}
+use Rattle.cil_scan.specs.Said.{all_said, all_lines}
 use Rattle.cil_reader.specs.Settings.{env_in, locals_of}
 use Rattle.cil_reader.specs.Bodies.{local_behind, locals_behind}
 use Rattle.cil_reader.proofs.FunctionLaws.{locals_step, apart_next}

@@ -2,7 +2,7 @@ use Rattle.std.proofs.Common.{◌≡◌, true, drop}
 use Rattle.std.specs.Option.{option_map}
 use Rattle.cil_text.specs.ReadGlobals.{read_locals}
 use Rattle.cil_text.specs.TypesOf.{AddsParts, types_in_locals}
-use Rattle.cil_reader.specs.Said.{all_lines}
+use Rattle.cil_scan.specs.Said.{all_lines}
 use Rattle.cil_reader.specs.Settings.{Onward, env_in, locals_of}
 use Rattle.cil_reader.specs.Pools.{KeepsNames}
 use Rattle.cil_reader.specs.Bodies.{apart, locals_behind, LocalsKnown}

@@ -1,4 +1,4 @@
-use Rattle.cil_reader.specs.Said.{all_lines}
+use Rattle.cil_scan.specs.Said.{all_lines}
 use Rattle.cil_reader.specs.Settings.{env_in}
 use Rattle.cil_reader.specs.Globals.{declaration_of, next_definition}
 use Rattle.cil_reader.proofs.GlobalLaws.{defined_seen, defined_known}

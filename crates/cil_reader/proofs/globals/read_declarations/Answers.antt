@@ -1,7 +1,7 @@
 use Rattle.std.proofs.Common.{◌≡◌, ◌<◌, ◌≤◌, true, false, Some, length, get_or, rules}
 use Rattle.std.specs.Option.{option_map}
 use Rattle.cil_text.specs.ReadGlobals.{declaration_from, declares}
-use Rattle.cil_reader.specs.Said.{all_said}
+use Rattle.cil_scan.specs.Said.{all_said}
 use Rattle.cil_reader.specs.Settings.{env_in}
 use Rattle.cil_reader.specs.Globals.{declarations_of, declaration_behind}
 use Rattle.cil_reader.proofs.GlobalLaws.{declarations_stop, declarations_next, declarations_end}

@@ -2,7 +2,7 @@ use Rattle.std.proofs.Common.{◌≡◌, drop, length}
 use Rattle.std.specs.Option.{option_map}
 use Rattle.cil_text.specs.ReadGlobals.{read_declarations}
 use Rattle.cil_text.specs.TypesOf.{AddsParts}
-use Rattle.cil_reader.specs.Said.{all_lines}
+use Rattle.cil_scan.specs.Said.{all_lines}
 use Rattle.cil_reader.specs.Settings.{Onward, env_in}
 use Rattle.cil_reader.specs.Globals.{EachDeclared, declarations_of, types_declared, declarations_behind}
 use Rattle.cil_reader.proofs.globals.read_declarations.Given as goal

@@ -1,5 +1,5 @@
 use Rattle.std.proofs.Common.{◌≡◌, ◌<◌, ◌≤◌, length, Err, ◌∙◌, rules}
-use Rattle.cil_reader.specs.Said.{all_lines}
+use Rattle.cil_scan.specs.Said.{all_lines}
 use Rattle.cil_reader.specs.Settings.{env_in}
 use Rattle.cil_reader.specs.Globals.{globals_of}
 use Rattle.cil_reader.proofs.GlobalLaws.{declared_later, globals_pushed, objects_next, objects_stop, objects_end}

@@ -2,7 +2,7 @@ use Rattle.std.proofs.Common.{◌≡◌, ◌≤◌, List, Some, get_or, length, 
 use Rattle.cil_text.specs.ReadStmts.{read_head, read_heads}
 use Rattle.cil_text.specs.TypesOf.{AddsParts}
 use Rattle.cil_reader.specs.declared.heads.Head.{Head}
-use Rattle.cil_reader.specs.Said.{all_said, all_lines}
+use Rattle.cil_scan.specs.Said.{all_said, all_lines}
 use Rattle.cil_reader.specs.Settings.{env_in}
 use Rattle.cil_reader.specs.Heads.{head_of, heads_of, HeadsKnown}
 use Rattle.cil_reader.specs.Added.{types_in_heads}

@@ -2,7 +2,7 @@ use Rattle.std.proofs.Common.{◌≡◌, drop}
 use Rattle.std.specs.Option.{option_map}
 use Rattle.cil_text.specs.ReadStmts.{read_heads}
 use Rattle.cil_text.specs.TypesOf.{AddsParts}
-use Rattle.cil_reader.specs.Said.{all_lines}
+use Rattle.cil_scan.specs.Said.{all_lines}
 use Rattle.cil_reader.specs.Settings.{Onward, env_in}
 use Rattle.cil_reader.specs.Heads.{heads_of, heads_behind, HeadsKnown}
 use Rattle.cil_reader.specs.Added.{types_in_heads}

@@ -1,6 +1,6 @@
 use Rattle.std.proofs.Common.{◌≡◌, ◌<◌, map, Err, ◌∙◌, rules}
 use Rattle.cil_tree.specs.View.{item_of}
-use Rattle.cil_reader.specs.Said.{all_said}
+use Rattle.cil_scan.specs.Said.{all_said}
 use Rattle.cil_reader.specs.Settings.{env_in}
 use Rattle.cil_reader.proofs.OnwardLaws.{onward_twice}
 use Rattle.cil_reader.proofs.ImageLaws.{items_closed, items_next, items_stop}

@@ -3,7 +3,7 @@ use Rattle.std.specs.Option.{option_map}
 use Rattle.type_graph.specs.Shapes.{shape}
 use Rattle.cil_tree.specs.View.{item_of}
 use Rattle.cil_text.specs.ReadImages.{read_items}
-use Rattle.cil_reader.specs.Said.{all_said}
+use Rattle.cil_scan.specs.Said.{all_said}
 use Rattle.cil_reader.specs.Settings.{Onward, env_in}
 use Rattle.cil_reader.specs.Images.{items_behind}
 use Rattle.cil_reader.proofs.images.read_items.Given as goal

@@ -1,6 +1,6 @@
 use Rattle.std.proofs.Common.{◌≡◌, ◌<◌, false, Err, map, rules}
 use Rattle.cil_tree.specs.View.{step_of}
-use Rattle.cil_reader.specs.Said.{all_said}
+use Rattle.cil_scan.specs.Said.{all_said}
 use Rattle.cil_reader.specs.Settings.{env_in, type_in}
 use Rattle.cil_reader.proofs.ImageLaws.{path_next, path_stop}
 use Rattle.cil_reader.proofs.images.read_path.Goals as goal

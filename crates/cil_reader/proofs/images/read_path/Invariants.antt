@@ -2,7 +2,7 @@ use Rattle.std.proofs.Common.{◌≡◌, Some, map, length}
 use Rattle.type_graph.specs.Shapes.{shape}
 use Rattle.cil_tree.specs.View.{step_of}
 use Rattle.cil_text.specs.ReadImages.{read_path}
-use Rattle.cil_reader.specs.Said.{all_said}
+use Rattle.cil_scan.specs.Said.{all_said}
 use Rattle.cil_reader.specs.Settings.{env_in, type_in, TypeBelow}
 use Rattle.cil_reader.specs.Images.{path_left}
 use Rattle.cil_reader.proofs.images.read_path.Given as goal

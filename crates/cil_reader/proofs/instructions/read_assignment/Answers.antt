@@ -1,5 +1,5 @@
 use Rattle.cil_tree.specs.View.{exp_of, lval_of}
-use Rattle.cil_reader.specs.Said.{all_said}
+use Rattle.cil_scan.specs.Said.{all_said}
 use Rattle.cil_reader.specs.Settings.{env_in}
 use Rattle.cil_reader.proofs.PartsLaws.{place_later}
 use Rattle.cil_reader.proofs.InstructionLaws.{assigned_later}

@@ -1,7 +1,7 @@
 use Rattle.std.proofs.Common.{◌≡◌, false, sym, rules}
 use Rattle.cil_tree.specs.View.{lval_of}
 use Rattle.cil_text.specs.ReadStmts.{is_zero}
-use Rattle.cil_reader.specs.Said.{all_said}
+use Rattle.cil_scan.specs.Said.{all_said}
 use Rattle.cil_reader.specs.Settings.{env_in}
 use Rattle.cil_reader.proofs.InstructionLaws.{instr_next}
 use Rattle.cil_reader.proofs.instructions.read_instr.Goals as goal

@@ -2,8 +2,8 @@ use Rattle.std.proofs.Common.{◌≡◌, ◌<◌, true, None, Err, sym, rules}
 use Rattle.cil_tree.specs.Tree.{Bin}
 use Rattle.cil_tree.specs.View.{exp_of, host_of, lval_of}
 use Rattle.cil_text.specs.ReadExps.{read_exp, is_offset}
-use Rattle.cil_reader.specs.Said.{all_said}
-use Rattle.cil_reader.specs.Layers.{closing}
+use Rattle.cil_scan.specs.Said.{all_said}
+use Rattle.cil_forms.specs.Forms.{closing}
 use Rattle.cil_reader.specs.Settings.{env_in, type_in}
 use Rattle.cil_reader.proofs.OnwardLaws.{onward_twice}
 use Rattle.cil_reader.proofs.PartsLaws.{exp_later, place_later}

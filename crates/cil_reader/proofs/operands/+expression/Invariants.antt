@@ -3,7 +3,7 @@ use Rattle.type_graph.specs.Arena.{Graph}
 use Rattle.cil_tree.specs.View.{lval_of}
 use Rattle.cil_text.specs.ReadExps.{read_exp}
 use Rattle.cil_text.specs.TypesOf.{AddsParts, types_in_place}
-use Rattle.cil_reader.specs.Said.{all_said}
+use Rattle.cil_scan.specs.Said.{all_said}
 use Rattle.cil_reader.specs.Settings.{Onward, env_in, type_in}
 use Rattle.cil_reader.specs.Parts.{PlaceKnown, offsets_left}
 use Rattle.cil_reader.proofs.operands.+expression.Given as goal

@@ -3,7 +3,7 @@ use Rattle.std.specs.Option.{option_map}
 use Rattle.cil_tree.specs.declared.globals.GlobalDecl.{GlobalDecl}
 use Rattle.cil_text.specs.ReadGlobals.{read_bodies}
 use Rattle.cil_text.specs.TypesOf.{AddsParts, defined_types}
-use Rattle.cil_reader.specs.Said.{all_lines}
+use Rattle.cil_scan.specs.Said.{all_lines}
 use Rattle.cil_reader.specs.Settings.{env_in, outside}
 use Rattle.cil_reader.specs.Globals.{declarations_of, globals_of}
 use Rattle.cil_reader.specs.Bodies.{bodied}

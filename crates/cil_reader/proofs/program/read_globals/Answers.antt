@@ -1,6 +1,6 @@
 use Rattle.std.proofs.Common.{◌≡◌, List, Err, sym, subst, rules}
 use Rattle.cil_text.specs.TypesOf.{AddsParts}
-use Rattle.cil_reader.specs.Said.{all_lines}
+use Rattle.cil_scan.specs.Said.{all_lines}
 use Rattle.cil_reader.specs.Settings.{env_in}
 use Rattle.cil_reader.specs.declared.globals.Declaration.{Declaration}
 use Rattle.cil_reader.specs.Globals.{declarations_of, named_apart, types_declared}

@@ -3,7 +3,7 @@ use Rattle.type_graph.specs.Arena.{Graph}
 use Rattle.cil_text.specs.ReadAggregates.{read_aggregates}
 use Rattle.cil_text.specs.ReadGlobals.{read_lines}
 use Rattle.cil_text.specs.ReadText.{words_in}
-use Rattle.cil_reader.specs.Said.{all_lines}
+use Rattle.cil_scan.specs.Said.{all_lines}
 use Rattle.cil_reader.specs.Settings.{env_in}
 use Rattle.cil_reader.specs.Aggregates.{aggregates_in}
 use Rattle.cil_reader.specs.Globals.{globals_of}

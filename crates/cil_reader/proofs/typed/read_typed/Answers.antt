@@ -1,5 +1,5 @@
 use Rattle.std.proofs.Common.{sym}
-use Rattle.cil_reader.specs.Said.{all_said}
+use Rattle.cil_scan.specs.Said.{all_said}
 use Rattle.cil_reader.specs.Settings.{env_in}
 use Rattle.cil_reader.proofs.SameLaws.{typed_other}
 use Rattle.cil_reader.proofs.typed.read_typed.Goals as goal

@@ -1,0 +1,4 @@
+pub mod ExtendsLaws
+pub mod NumberingLaws
+pub mod LayersLaws
+pub mod AddedLaws
