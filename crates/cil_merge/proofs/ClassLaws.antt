@@ -17,7 +17,9 @@ use Rattle.type_graph.proofs.GrowthLaws.{grows_none}
 use Rattle.type_graph.proofs.Lists.{get_push, get_there, get_set_same, get_set_other}
 use Rattle.map_graph.specs.Mapped.{number_in, Maps}
 use Rattle.link_names.specs.declared.units.Fronted.{Fronted}
-use Rattle.cil_merge.specs.Classes.{IsAggregate, IsMember, AreMembers, IsCompleted, StandsThere, AreTypesOf, AreTypes, HasTypes}
+use Rattle.type_iso.specs.declared.class_table.Classes.{Classes}
+use Rattle.type_iso.specs.Classes.{class_in}
+use Rattle.cil_merge.specs.Classes.{IsAggregate, IsMember, AreMembers, IsCompleted, StandsThere, AreClassesOf, AreTypesOf, AreTypes, HasTypes}
 use Rattle.cil_merge.specs.Numbering.{GainsTypes, IsBegun, AreBegun, IsOnWay, AreOnWay, Completes}
 use Rattle.cil_merge.proofs.GainLaws.{maps_grown}
 
@@ -75,34 +77,48 @@ begun_kept units stands first second aggs later one two stay before =
 abbrev tables : List (Vec TypeId Global) → List (List TypeId)
 tables all = map (λ v. v.items) all
 
-pub none_mapped : (units : List Fronted) (g : Graph) (all : List (Vec TypeId Global)) → all ≡ [] → AreTypes units g (tables all) 0
-none_mapped units g all none = subst (λ (vs : List (Vec TypeId Global)). AreTypes units g (tables vs) 0) (sym none) (record { so_many = refl; each = λ u f types e h. cc })
+pub no_classes : (c : Classes) (u : ℕ) (numbers : List AggId) → numbers ≡ [] → AreClassesOf c u 0 numbers
+no_classes c u numbers none = subst (AreClassesOf c u 0) (sym none) (record { so_many = refl; each = λ a k e. cc })
 
-types_grown : (unit g h : Graph) (types : List TypeId) → Grows g h → AreTypesOf unit g types → AreTypesOf unit h types
-types_grown unit g h types grows t = record { classes = t.classes; each_class = t.each_class; each_type = t.each_type; maps = maps_grown unit g h (number_in t.classes) false types grows t.maps }
+pub classes_next : (c : Classes) (u count : ℕ) (old new : List AggId) (k : AggId) → AreClassesOf c u count old → class_in c u count ≡ Some k.0 → new ≡ old ++ k ∷ [] → AreClassesOf c u (count + 1) new
+classes_next c u count old new k before is put = subst (AreClassesOf c u (count + 1)) (sym put) (record {
+  so_many = length-append old (k ∷ []) ∙ ap (λ i. i + 1) before.so_many;
+  each = λ a j e. by a j (get_push old k a j e);
+})
+  where
+    by : (a : ℕ) (j : AggId) → (slice_get old a ≡ Some j) ⊎ ((a ≡ length old) × (k ≡ j)) → class_in c u a ≡ Some j.0
+    by a j (inl there) = before.each a j there
+    by a j (inr here) = ap (class_in c u) (here.0 ∙ before.so_many) ∙ is ∙ ap (λ (i : AggId). Some i.0) here.1
 
-pub mapped_next : (units : List Fronted) (g h : Graph) (all new : List (Vec TypeId Global)) (u : ℕ) (f d : Fronted) (classes : List AggId) (v : Vec TypeId Global) → AreTypes units g (tables all) u → Grows g h → u < length units → f ≡ get_or units u d
-    → length classes ≡ length f.cil.graph.aggs → length v.items ≡ length f.cil.graph.nodes → Maps f.cil.graph h (number_in classes) false v.items → new ≡ all ++ v ∷ [] → AreTypes units h (tables new) (u + 1)
-mapped_next units g h all new u f d classes v before grows less is each_class each_type maps put =
-    subst (λ (vs : List (Vec TypeId Global)). AreTypes units h (tables vs) (u + 1)) (sym put) (subst (λ (ts : List (List TypeId)). AreTypes units h ts (u + 1)) (sym (map-append (λ (w : Vec TypeId Global). w.items) all (v ∷ []))) (record {
+pub none_mapped : (c : Classes) (units : List Fronted) (g : Graph) (all : List (Vec TypeId Global)) → all ≡ [] → AreTypes c units g (tables all) 0
+none_mapped c units g all none = subst (λ (vs : List (Vec TypeId Global)). AreTypes c units g (tables vs) 0) (sym none) (record { so_many = refl; each = λ u f types e h. cc })
+
+types_grown : (c : Classes) (u : ℕ) (unit g h : Graph) (types : List TypeId) → Grows g h → AreTypesOf c u unit g types → AreTypesOf c u unit h types
+types_grown c u unit g h types grows t = record { classes = t.classes; are_classes = t.are_classes; each_type = t.each_type; maps = maps_grown unit g h (number_in t.classes) false types grows t.maps }
+
+pub mapped_next : (c : Classes) (units : List Fronted) (g h : Graph) (all new : List (Vec TypeId Global)) (u : ℕ) (f d : Fronted) (classes : List AggId) (v : Vec TypeId Global) → AreTypes c units g (tables all) u → Grows g h → u < length units → f ≡ get_or units u d
+    → AreClassesOf c u (length f.cil.graph.aggs) classes → length v.items ≡ length f.cil.graph.nodes → Maps f.cil.graph h (number_in classes) false v.items → new ≡ all ++ v ∷ [] → AreTypes c units h (tables new) (u + 1)
+mapped_next c units g h all new u f d classes v before grows less is are_classes each_type maps put =
+    subst (λ (vs : List (Vec TypeId Global)). AreTypes c units h (tables vs) (u + 1)) (sym put) (subst (λ (ts : List (List TypeId)). AreTypes c units h ts (u + 1)) (sym (map-append (λ (w : Vec TypeId Global). w.items) all (v ∷ []))) (record {
       so_many = length-append (tables all) (v.items ∷ []) ∙ ap (λ i. i + 1) before.so_many;
       each = λ w e ts at h. by w e ts at (get_push (tables all) v.items w ts h);
     }))
   where
-    here : AreTypesOf f.cil.graph h v.items
-    here = record { classes = classes; each_class = each_class; each_type = each_type; maps = maps }
+    here : AreTypesOf c u f.cil.graph h v.items
+    here = record { classes = classes; are_classes = are_classes; each_type = each_type; maps = maps }
 
-    by : (w : ℕ) (e : Fronted) (ts : List TypeId) → slice_get units w ≡ Some e → (slice_get (tables all) w ≡ Some ts) ⊎ ((w ≡ length (tables all)) × (v.items ≡ ts)) → AreTypesOf e.cil.graph h ts
-    by w e ts at (inl there) = types_grown e.cil.graph g h ts grows (before.each w e ts at there)
+    by : (w : ℕ) (e : Fronted) (ts : List TypeId) → slice_get units w ≡ Some e → (slice_get (tables all) w ≡ Some ts) ⊎ ((w ≡ length (tables all)) × (v.items ≡ ts)) → AreTypesOf c w e.cil.graph h ts
+    by w e ts at (inl there) = types_grown c w e.cil.graph g h ts grows (before.each w e ts at there)
     by w e ts at (inr last) =
-        let same : f ≡ e = one_item units u f e (found units u f d less is) (sym (ap (slice_get units) (last.0 ∙ before.so_many)) ∙ at) in
-        subst (λ (k : Fronted). AreTypesOf k.cil.graph h ts) same (subst (AreTypesOf f.cil.graph h) last.1 here)
+        let place : w ≡ u = last.0 ∙ before.so_many in
+        let same : f ≡ e = one_item units u f e (found units u f d less is) (sym (ap (slice_get units) place) ∙ at) in
+        subst (λ (i : ℕ). AreTypesOf c i e.cil.graph h ts) (sym place) (subst (λ (k : Fronted). AreTypesOf c u k.cil.graph h ts) same (subst (AreTypesOf c u f.cil.graph h) last.1 here))
 
 pub table_is : (all : List (Vec TypeId Global)) (u : ℕ) (v : Vec TypeId Global) (ts : List TypeId) → slice_get all u ≡ Some v → ts ≡ v.items → slice_get (tables all) u ≡ Some ts
 table_is all u v ts e is = slice_get-map (λ (w : Vec TypeId Global). w.items) all u ∙ ap (option_map (λ (w : Vec TypeId Global). w.items)) e ∙ ap Some (sym is)
 
-pub mapped_all : (units : List Fronted) (g : Graph) (ts : List (List TypeId)) (u : ℕ) → AreTypes units g ts u → u ≤ length units → length units ≤ u → AreTypes units g ts (length units)
-mapped_all units g ts u mapped low high = let all : u ≡ length units = omega (arith, low, high) in subst (AreTypes units g ts) all mapped
+pub mapped_all : (c : Classes) (units : List Fronted) (g : Graph) (ts : List (List TypeId)) (u : ℕ) → AreTypes c units g ts u → u ≤ length units → length units ≤ u → AreTypes c units g ts (length units)
+mapped_all c units g ts u mapped low high = let all : u ≡ length units = omega (arith, low, high) in subst (AreTypes c units g ts) all mapped
 
 -- members
 
@@ -219,11 +235,11 @@ on_way_next units ts stands k g h at d before less at_is step = record { so_many
 pub on_way_all : (units : List Fronted) (ts : List (List TypeId)) (stands : List (UnitNo × AggId)) (k : ℕ) (aggs : List Aggregate) → AreOnWay units ts stands k aggs → k ≤ length stands → length stands ≤ k → AreOnWay units ts stands (length stands) aggs
 on_way_all units ts stands k aggs way low high = let all : k ≡ length stands = omega (arith, low, high) in subst (λ i. AreOnWay units ts stands i aggs) all way
 
-pub has_types : (units : List Fronted) (g h : Graph) (first ts : List (List TypeId)) (stands : List (UnitNo × AggId)) → AreTypes units g first (length units) → ts ≡ first → Grows g h → AreOnWay units ts stands (length stands) h.aggs → HasTypes units h
-has_types units g h first ts stands types same grows way = record {
+pub has_types : (c : Classes) (units : List Fronted) (g h : Graph) (first ts : List (List TypeId)) (stands : List (UnitNo × AggId)) → AreTypes c units g first (length units) → ts ≡ first → Grows g h → AreOnWay units ts stands (length stands) h.aggs → HasTypes c units h
+has_types c units g h first ts stands types same grows way = record {
   tables = ts;
   stands = stands;
-  types = subst (λ (t : List (List TypeId)). AreTypes units h t (length units)) (sym same) (record { so_many = types.so_many; each = λ u f t e d. types_grown f.cil.graph g h t grows (types.each u f t e d) });
+  types = subst (λ (t : List (List TypeId)). AreTypes c units h t (length units)) (sym same) (record { so_many = types.so_many; each = λ u f t e d. types_grown c u f.cil.graph g h t grows (types.each u f t e d) });
   so_many = way.so_many;
   each = each;
 }
@@ -241,11 +257,11 @@ has_types units g h first ts stands types same grows way = record {
         }
 
 -- the types of a program grow, and its classes stay
-pub types_gained : (units : List Fronted) (g h : Graph) → HasTypes units g → GainsTypes g h → HasTypes units h
-types_gained units g h has gains = record {
+pub types_gained : (c : Classes) (units : List Fronted) (g h : Graph) → HasTypes c units g → GainsTypes g h → HasTypes c units h
+types_gained c units g h has gains = record {
   tables = has.tables;
   stands = has.stands;
-  types = record { so_many = has.types.so_many; each = λ u f t e d. types_grown f.cil.graph g h t gains.grows (has.types.each u f t e d) };
+  types = record { so_many = has.types.so_many; each = λ u f t e d. types_grown c u f.cil.graph g h t gains.grows (has.types.each u f t e d) };
   so_many = ap length gains.stay ∙ has.so_many;
   each = λ k at y e there. has.each k at y e (sym (ap (λ (q : List Aggregate). slice_get q k) gains.stay) ∙ there);
 }

@@ -1,4 +1,4 @@
--- Definition: the types of the program that units become (C11 6.2.7): each type of a unit has its shape there, with the numbers of classes for structs, unions and enums, and each class is one of these in a unit, with its kind, its tag and its members.
+-- Definition: the types of the program that units become (C11 6.2.7): each type of a unit has its shape there, with the numbers of their classes for structs, unions and enums, and each class is one of these in a unit, with its kind, its tag and its members.
 use Rattle.std.specs.Prelude.{◌≡◌, ℕ, false, List, Option, Some, None, length, slice_get}
 use Rattle.cil_base.specs.declared.numbers.AggId.{AggId}
 use Rattle.cil_base.specs.declared.numbers.TypeId.{TypeId}
@@ -7,6 +7,8 @@ use Rattle.type_graph.specs.declared.aggregates.Aggregate.{Aggregate}
 use Rattle.type_graph.specs.declared.aggregates.Member.{Member}
 use Rattle.type_graph.specs.Arena.{Graph}
 use Rattle.map_graph.specs.Mapped.{number_in, Maps}
+use Rattle.type_iso.specs.declared.class_table.Classes.{Classes}
+use Rattle.type_iso.specs.Classes.{class_in}
 use Rattle.link_names.specs.declared.units.Fronted.{Fronted}
 
 -- a struct, union or enum of one of these units
@@ -38,22 +40,27 @@ pub record StandsThere (units : List Fronted) (tables : List (List TypeId)) (at 
   pub tag_is : y.tag ≡ x.tag
   pub members_are : IsCompleted tables at.0 x.members y.members
 
+-- so many structs, unions and enums of a unit, by the numbers of their classes
+pub record AreClassesOf (c : Classes) (u count : ℕ) (numbers : List AggId) : Type 0 where
+  pub so_many : length numbers ≡ count
+  pub each : (a : ℕ) (k : AggId) → slice_get numbers a ≡ Some k → class_in c u a ≡ Some k.0
+
 -- the types of a unit, by the numbers that they have in the program; qualifiers are dropped
-pub record AreTypesOf (unit program : Graph) (types : List TypeId) : Type 0 where
+pub record AreTypesOf (c : Classes) (u : ℕ) (unit program : Graph) (types : List TypeId) : Type 0 where
   pub classes : List AggId
-  pub each_class : length classes ≡ length unit.aggs
+  pub are_classes : AreClassesOf c u (length unit.aggs) classes
   pub each_type : length types ≡ length unit.nodes
   pub maps : Maps unit program (number_in classes) false types
 
 -- the types of so many of the units
-pub record AreTypes (units : List Fronted) (program : Graph) (tables : List (List TypeId)) (count : ℕ) : Type 0 where
+pub record AreTypes (c : Classes) (units : List Fronted) (program : Graph) (tables : List (List TypeId)) (count : ℕ) : Type 0 where
   pub so_many : length tables ≡ count
-  pub each : (u : ℕ) (f : Fronted) (types : List TypeId) → slice_get units u ≡ Some f → slice_get tables u ≡ Some types → AreTypesOf f.cil.graph program types
+  pub each : (u : ℕ) (f : Fronted) (types : List TypeId) → slice_get units u ≡ Some f → slice_get tables u ≡ Some types → AreTypesOf c u f.cil.graph program types
 
 -- the types of a program, and what stands for each of its structs, unions and enums
-pub record HasTypes (units : List Fronted) (program : Graph) : Type 0 where
+pub record HasTypes (c : Classes) (units : List Fronted) (program : Graph) : Type 0 where
   pub tables : List (List TypeId)
   pub stands : List (UnitNo × AggId)
-  pub types : AreTypes units program tables (length units)
+  pub types : AreTypes c units program tables (length units)
   pub so_many : length program.aggs ≡ length stands
   pub each : (k : ℕ) (at : UnitNo × AggId) (y : Aggregate) → slice_get stands k ≡ Some at → slice_get program.aggs k ≡ Some y → StandsThere units tables at y

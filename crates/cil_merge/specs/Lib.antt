@@ -1,4 +1,5 @@
 pub mod Merging
+pub mod Refusing
 pub mod Listing
 pub mod Classes
 pub mod Merged

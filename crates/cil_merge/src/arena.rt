@@ -1,7 +1,7 @@
 ghost use Rattle.std.specs.Prelude.{◌≡◌, ◌<◌, [], None, Some, map, length, slice_get, OnOk, IfOk};
 ghost use Rattle.type_graph.specs.declared.aggregates.Aggregate.{Aggregate};
 ghost use Rattle.type_graph.specs.Growth.{Grows, with_members};
-ghost use Rattle.cil_merge.specs.Classes.{IsAggregate, IsMember, AreMembers, AreTypes, HasTypes};
+ghost use Rattle.cil_merge.specs.Classes.{IsAggregate, IsMember, AreMembers, AreClassesOf, AreTypes, HasTypes};
 ghost use Rattle.cil_merge.specs.Numbering.{GainsTypes, AreBegun, AreOnWay, Completes};
 
 use crate::numbers::{impossible, type_in, unit_number};
@@ -82,13 +82,14 @@ fn add_classes(
 }
 
 /// The classes of the aggregates of a unit, as aggregates of the program.
+#[tactic(auto, using(crate::proofs::ClassLaws::no_classes, crate::proofs::ClassLaws::classes_next))]
 fn class_table(
     alloc: Global,
     classes: &Classes,
     u: UnitNo,
     graph: &TypeGraph,
 ) -> Result<Vec<AggId>, Memory>
-    ensures { IfOk result (λ table. length table.items ≡ length graph.now.aggs) }
+    ensures { IfOk result (λ table. AreClassesOf classes.now u.0 (length graph.now.aggs) table.items) }
 {
     let mut table = Vec::new(alloc);
     for a in 0..graph.agg_count() {
@@ -108,7 +109,7 @@ fn map_units(
     classes: &Classes,
     graph: &mut TypeGraph,
 ) -> Result<Vec<Vec<TypeId>>, Memory>
-    ensures types { IfOk result (λ all. AreTypes units.now graph.new (map (λ v. v.items) all.items) (length units.now)) }
+    ensures types { IfOk result (λ all. AreTypes classes.now units.now graph.new (map (λ v. v.items) all.items) (length units.now)) }
     ensures gains { OnOk result (GainsTypes graph.old graph.new) }
 {
     let mut all = Vec::new(alloc);
@@ -214,7 +215,7 @@ pub(crate) fn arena_of(
     classes: &Classes,
     abi: Abi,
 ) -> Result<Arena, Memory>
-    ensures { IfOk result (λ r. HasTypes units.now r.graph) }
+    ensures { IfOk result (λ r. HasTypes classes.now units.now r.graph) }
 {
     let mut graph = TypeGraph::new_for(alloc, abi);
     let stands = representatives(alloc, classes)?;

@@ -1,9 +1,11 @@
-ghost use Rattle.std.specs.Prelude.{◌≡◌, None, map, OnOk, IfOk, IfErr};
-ghost use Rattle.link_names.specs.Linking.{declared_from, grouped, first_twice};
+ghost use Rattle.std.specs.Prelude.{◌≡◌, Bool, List, None, map, OnOk, IfOk, IfErr};
+ghost use Rattle.link_names.specs.Linked.{AreLinks};
+ghost use Rattle.link_names.specs.Linking.{Linked, declared_from, grouped, first_twice};
 ghost use Rattle.cil_merge.specs.Listing.{mark};
 ghost use Rattle.cil_merge.specs.Numbering.{GainsTypes};
-ghost use Rattle.cil_merge.specs.Merged.{IsJoined, IsMerged};
-ghost use Rattle.cil_merge.specs.Merging.{IsMergeRefusal};
+ghost use Rattle.type_iso.specs.Classes.{AreClasses};
+ghost use Rattle.cil_merge.specs.Merged.{IsJoined, IsNamedAndJoined, IsMerged};
+ghost use Rattle.cil_merge.specs.Merging.{graphs_of, Correspond, IsMergeRefusal};
 
 use crate::arena::{Arena, arena_of};
 use crate::definitions::give_definitions;
@@ -67,7 +69,7 @@ fn joined(
     classes: &Classes,
     mode: Mode,
 ) -> Result<CilUnit, Memory>
-    ensures { IfOk result (IsJoined units.items) }
+    ensures { IfOk result (IsJoined classes.now units.items) }
 {
     let mut arena = arena_of(alloc, &units, classes, mode.abi)?;
     let globals = all_globals(alloc, &units, &arena)?;
@@ -88,19 +90,36 @@ fn merged(
     names: &mut NamePool,
     mode: Mode,
 ) -> Result<CilUnit, Memory>
-    ensures { IfOk result (IsMerged (map (λ l. l.name) links.now.names.items) names.new units.items) }
+    ensures { IfOk result (IsNamedAndJoined (map (λ l. l.name) links.now.names.items) names.new classes.now units.items) }
 {
     let mut units = units;
     rename(alloc, &mut units, links, classes, names)?;
     Ok(joined(alloc, units, classes, mode)?)
 }
 
+/// The classes of the structs, unions and enums of units whose external names are linked, or why they have none.
+fn classes_of(
+    alloc: Global,
+    units: &[Fronted],
+    links: &Links,
+    names: &NamePool,
+) -> Result<Classes, Stop>
+    ensures classes { IfOk result (AreClasses names.now (graphs_of units.now) links.now.groups.items) }
+    ensures refused { (common : Bool) (ls : List Linked) → AreLinks ls common links.now → IfErr result (IsMergeRefusal common names.now (graphs_of units.now) ls) }
+{
+    match classes(alloc, units, &links.groups, names) {
+        Ok(classes) => Ok(classes),
+        Err(stop) => Err(class_stop(&links.names, stop)),
+    }
+}
+
 /// The program that units become (C11 5.1.1.1): each external name is one object or function (6.2.2p2), each class of structs, unions and
 /// enums one type, and every other name is made distinct.
 ///
 /// It refuses with `Duplicate` where two units define one name, and else with `Incompatible` where two declare one with types that do not
-/// correspond (6.2.7p2), at the first declaration in the later unit, with that in the earlier one as the other place.
-#[tactic(auto, using(crate::proofs::MergingLaws::duplicate_refused, crate::proofs::MergingLaws::clash_refused, crate::proofs::MergingLaws::merged_is))]
+/// correspond (6.2.7p2), for the first link that lets the links up to it correspond in no way: at the first declaration in the later unit,
+/// with that in the earlier one as the other place.
+#[tactic(auto, using(crate::proofs::MergingLaws::duplicate_refused, crate::proofs::MergingLaws::links_correspond))]
 pub fn merge(
     alloc: Global,
     units: Vec<Fronted>,
@@ -108,13 +127,11 @@ pub fn merge(
     mode: Mode,
 ) -> Result<CilUnit, Stop>
     ensures once { OnOk result (first_twice mode.common (grouped (declared_from 0 units.items)) ≡ None) }
-    ensures merged { IfOk result (IsMerged (map (λ l. l.0) (grouped (declared_from 0 units.items))) names.new units.items) }
-    ensures refused { IfErr result (IsMergeRefusal mode.common (grouped (declared_from 0 units.items))) }
+    ensures correspond { OnOk result (Correspond names.old (graphs_of units.items) (grouped (declared_from 0 units.items))) }
+    ensures merged { IfOk result (IsMerged mode.common names.old names.new units.items) }
+    ensures refused { IfErr result (IsMergeRefusal mode.common names.old (graphs_of units.items) (grouped (declared_from 0 units.items))) }
 {
     let links = links(alloc, &units, mode)?;
-    let classes = match classes(alloc, &units, &links.groups, names) {
-        Ok(classes) => classes,
-        Err(stop) => return Err(class_stop(&links.names, stop)),
-    };
+    let classes = classes_of(alloc, &units, &links, names)?;
     Ok(merged(alloc, units, &links, &classes, names, mode)?)
 }

@@ -1,6 +1,7 @@
 ghost use Rattle.std.specs.Prelude.{◌≡◌, Some, map, slice_get, IfOk};
 ghost use Rattle.link_names.specs.Grouping.{linked_of};
-ghost use Rattle.cil_merge.specs.Merging.{AreSites, IsSiteOf, IsClash, IfRefused};
+ghost use Rattle.cil_merge.specs.Merging.{AreSites, IsSiteOf, IsLinkRefusal};
+ghost use Rattle.cil_merge.specs.Refusing.{IsLinkStop};
 
 use crate::numbers::impossible;
 use cil_base::{Fault, Memory, Place, Refusal, Stop};
@@ -44,11 +45,8 @@ fn incompatible(
     earlier: u32,
     later: u32,
 ) -> Result<Refusal, Memory>
-    ensures { IfOk result (IsClash (map linked_of names.now)) }
+    ensures { IfOk result (IsLinkRefusal (map linked_of names.now) group earlier later) }
 {
-    if earlier >= later {
-        return Err(impossible());
-    }
     let at = first_place(names, group, later)?;
     let other = first_place(names, group, earlier)?;
     Ok(Refusal {
@@ -60,7 +58,7 @@ fn incompatible(
 
 /// Why units are refused that have no classes.
 pub(crate) fn class_stop(names: &[LinkedName], stop: ClassStop) -> Stop
-    ensures { IfRefused result (IsClash (map linked_of names.now)) }
+    ensures { IsLinkStop (map linked_of names.now) stop result }
 {
     match stop {
         ClassStop::Memory => Stop::Memory,

@@ -10,5 +10,5 @@ complete_classes-requires c =
 
 pub returns : goal.returns
 returns c =
-    has_types c.args.units.now c.map_units.new.graph c.complete_classes.new.graph (map (λ v. v.items) c.in_ok-types.types.items) (map (λ v. v.items) c.deref-3.result.now) c.deref-2.result.now
+    has_types c.args.classes.now c.args.units.now c.map_units.new.graph c.complete_classes.new.graph (map (λ v. v.items) c.in_ok-types.types.items) (map (λ v. v.items) c.deref-3.result.now) c.deref-2.result.now
     c.in_ok-types.ensures.types (ap (λ (vs : List (Vec TypeId Global)). map (λ v. v.items) vs) c.deref-3.ensures.value) c.in_ok-complete_classes.ensures.grows c.in_ok-complete_classes.ensures.classes

@@ -1,5 +1,5 @@
-use Rattle.std.proofs.Common.{◌≡◌, length}
+use Rattle.cil_merge.specs.Classes.{AreClassesOf}
 use Rattle.cil_merge.proofs.arena.class_table.Given as goal
 
 abbrev pub invariant-loop-a : goal.invariant-loop-a
-invariant-loop-a l = length l.table.items ≡ l.a
+invariant-loop-a l = AreClassesOf l.classes l.u.0 l.a l.table.items
