@@ -18,7 +18,7 @@ use Rattle.type_graph.specs.Arena.{Graph}
 use Rattle.type_iso.specs.declared.class_table.Classes.{Classes}
 use Rattle.type_iso.specs.declared.merging.ClassStop.{ClassStop}
 use Rattle.type_iso.specs.declared.merging.ClassStop.TheVariants as classes
-use Rattle.type_iso.specs.declared.parties.Group.{Group}
+use Rattle.type_links.specs.declared.parties.Group.{Group}
 use Rattle.type_iso.specs.Classes.{AreClasses, IsRefused}
 use Rattle.cil_tree.specs.declared.globals.CilUnit.{CilUnit}
 use Rattle.cil_merge.specs.Merged.{IsNamedAndJoined, IsMerged}

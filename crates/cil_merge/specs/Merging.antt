@@ -10,10 +10,10 @@ use Rattle.link_names.specs.declared.names.LinkedSite.{LinkedSite}
 use Rattle.link_names.specs.declared.units.Fronted.{Fronted}
 use Rattle.link_names.specs.Linking.{Linked, first_twice, duplicate_of, party_of}
 use Rattle.link_names.specs.Grouping.{group_of}
-use Rattle.type_iso.specs.declared.parties.Group.{Group}
-use Rattle.type_iso.specs.Things.{Joint}
-use Rattle.type_iso.specs.Units.{things}
-use Rattle.type_iso.specs.Links.{links_of, FailsFirst}
+use Rattle.type_links.specs.declared.parties.Group.{Group}
+use Rattle.type_things.specs.Things.{Joint}
+use Rattle.type_things.specs.Units.{things}
+use Rattle.type_links.specs.Links.{links_of, FailsFirst}
 use Rattle.type_iso.specs.Classes.{sides}
 
 -- the declarations of a name, which is given by its place among all
