@@ -2,7 +2,10 @@
 use Rattle.std.proofs.Common.{◌≡◌, ◌⊎◌, inl, inr, ◌↔◌, ℕ, zero, suc, ◌+◌, ◌<◌, ◌≤◌, Bool, true, false, List, [], ◌∷◌, Option, Some, None, map, length, get_or, slice_get, nat_lt, if◌then◌else◌, subst, refl, sym, ap, ◌∙◌, arith, Vec}
 use borrow.Author.Tests.{ltb-true}
 use Rattle.std.specs.Option.{option_map, option_and_then}
+use Rattle.cil_base.specs.declared.numbers.UnitNo.{UnitNo}
+use Rattle.cil_base.specs.declared.numbers.AggId.{AggId}
 use Rattle.type_graph.specs.Arena.{Graph}
+use Rattle.type_graph.proofs.Lists.{get_there}
 use Rattle.type_iso.specs.declared.class_table.Classes.{Classes}
 use Rattle.type_links.specs.declared.parties.Group.{Group}
 use Rattle.type_things.specs.declared.web.First.{First}
@@ -24,6 +27,8 @@ use Rattle.type_partition.specs.Keys.{num_at}
 use Rattle.type_partition.specs.Gathered.{AreGathered}
 use Rattle.type_iso.specs.Standing.{at_own, AreLeast, AreStanding, AreOrdered, AreClassed}
 use Rattle.type_iso.specs.Classes.{aggregate_number, class_in, sides, IsClashOf, AreClasses, IsRefused}
+use Rattle.type_iso.specs.Places.{ArePlaced}
+use Rattle.type_iso.proofs.PlaceLaws.{place_number}
 use Rattle.type_things.proofs.WovenLaws.{get_map, things_web, things_whole, things_aggregates, map_length}
 
 module _ {H L : Type 0} (ts : List (Thing H L)) (done : List (ℕ × ℕ)) where
@@ -45,7 +50,22 @@ module _ {H L : Type 0} (ts : List (Thing H L)) (done : List (ℕ × ℕ)) where
       (λ e. g.partition.same x y (class_at x hx ∙ to x y hx hy e ∙ sym (class_at y hy))),
       (λ e. o.same x y (long x hx) (long y hy) (s.same x y hx hy (sym (class_at x hx) ∙ g.partition.found x y e ∙ class_at y hy))),
     );
-    placed = λ x hx. (at_own standing x, o.each x (long x hx), g.partition.same (at_own standing x) x (sym (g.listed (at_own standing x) (inside x hx)) ∙ (s.each x hx).member ∙ sym (class_at x hx)));
+    own = λ k y q. (let r = o.own k y q in let l = s.count in let h = r.0 in (omega (arith, h, l), r.1));
+    placed = λ x hx. (
+      at_own standing x,
+      o.each x (long x hx),
+      record {
+        within = below x hx;
+        same = g.partition.same (at_own standing x) x (sym (g.listed (at_own standing x) (inside x hx)) ∙ (s.each x hx).member ∙ sym (class_at x hx));
+        complete = λ y hy q p. (s.each x hx).full y hy (sym (class_at y hy) ∙ g.partition.found y x q ∙ class_at x hx) p;
+        incomplete = λ e y hy q. (
+            let low = (s.each x hx).empty e in
+            let least = g.below y in
+            let one = g.partition.found y x q in
+            let at = class_at x hx in
+            omega (arith, low, least, one, at));
+      },
+    );
   }
     where
       long : (x : ℕ) → x < m → x < length standing
@@ -58,6 +78,12 @@ module _ {H L : Type 0} (ts : List (Thing H L)) (done : List (ℕ × ℕ)) where
       to x y hx hy e =
           let same : at_own standing x ≡ at_own standing y = some_same (at_own standing x) (at_own standing y) (sym (o.each x (long x hx)) ∙ ap (slice_get order) e ∙ o.each y (long y hy)) in
           sym (s.each x hx).member ∙ ap (at_own cs) same ∙ (s.each y hy).member
+
+      below : (x : ℕ) → x < m → at_own standing x < m
+      below x h = elim (s.each x h).early [
+        | inl e ↦ (let b = g.below x in let a = class_at x h in omega (arith, e, h, b, a))
+        | inr l ↦ l
+      ]
 
       inside : (x : ℕ) → x < m → at_own standing x < length cs
       inside x h = elim (s.each x h).early [
@@ -111,8 +137,8 @@ class_number gs c u a x firsts count e =
     (ap (option_and_then (λ (z : First). slice_get c.of.items (z.aggregate + a))) f.1 ∙ ap (slice_get c.of.items) same ∙ get_own c.of.items x (omega (arith, less, count)), less)
 
 pub are_classes : (names : List (List ℕ)) (gs : List Graph) (groups : List Group) (c : Classes) (w : Web) (order : List ℕ) → IsWoven names gs w → c.firsts ≡ w.firsts
-    → AreClassed (things_of w) (links_of (things_of w) (map (sides_in (first_pairs w)) groups)) w.aggregates c.of.items order → AreClasses names gs groups c
-are_classes names gs groups c w order woven firsts a =
+    → AreClassed (things_of w) (links_of (things_of w) (map (sides_in (first_pairs w)) groups)) w.aggregates c.of.items order → ArePlaced w.firsts.items order c.representatives.items → AreClasses names gs groups c
+are_classes names gs groups c w order woven firsts a places =
     let first : AreClassed (things names gs) (links_of (things names gs) (map (sides_in (first_pairs w)) groups)) w.aggregates c.of.items order =
     subst (λ ts. AreClassed ts (links_of ts (map (sides_in (first_pairs w)) groups)) w.aggregates c.of.items order) woven.things a in
     let second : AreClassed (things names gs) (links_of (things names gs) (sides gs groups)) w.aggregates c.of.items order =
@@ -120,6 +146,7 @@ are_classes names gs groups c w order woven firsts a =
     let k : AreClassed (things names gs) (links_of (things names gs) (sides gs groups)) (aggregate_count gs) c.of.items order =
     subst (λ m. AreClassed (things names gs) (links_of (things names gs) (sides gs groups)) m c.of.items order) woven.aggregates second in
     let pairs : map first_pair c.firsts.items ≡ firsts_from 0 (aggregate_count gs) gs = ap (λ v. map first_pair v.items) firsts ∙ woven.firsts in
+    let here : ArePlaced c.firsts.items order c.representatives.items = subst (λ v. ArePlaced v.items order c.representatives.items) (sym firsts) places in
     record {
       joint = k.joint;
       some = λ u b x e. (at_own c.of.items x, (class_number gs c u b x pairs k.count e).0);
@@ -128,10 +155,31 @@ are_classes names gs groups c w order woven firsts a =
           let q = class_number gs c v d y pairs k.count f in
           let both = k.same x y p.1 q.1 in
           ((λ h. both.0 (some_number (at_own c.of.items x) (at_own c.of.items y) (sym p.0 ∙ h ∙ q.0))), (λ h. p.0 ∙ ap Some (both.1 h) ∙ sym q.0)));
+      own = λ n p q. (
+          let at = get_there order n (subst (λ z. n < z) places.count (inside c.representatives.items n p q)) in
+          let r = k.own n at.0 at.1 in
+          let place = here.each n at.0 at.1 in
+          let one : place.0 ≡ p = some_place place.0 p (sym place.1 ∙ q) in
+          let number = subst (λ (z : UnitNo × AggId). aggregate_number gs z.0.0 z.1.0 ≡ Some at.0) one (place_number gs c.firsts.items at.0 place.0 pairs r.0 place.2) in
+          (class_number gs c p.0.0 p.1.0 at.0 pairs k.count number).0 ∙ ap Some r.1);
+      stands = λ u b x n e q. (
+          let p = class_number gs c u b x pairs k.count e in
+          let same : at_own c.of.items x ≡ n = some_number (at_own c.of.items x) n (sym p.0 ∙ q) in
+          let r = k.placed x p.1 in
+          let place = here.each (at_own c.of.items x) r.0 r.1 in
+          (place.0, r.0, ap (slice_get c.representatives.items) (sym same) ∙ place.1, place_number gs c.firsts.items r.0 place.0 pairs r.2.within place.2, r.2));
     }
   where
     some_number : (m n : ℕ) → ◌≡◌ {A = Option ℕ} (Some m) (Some n) → m ≡ n
     some_number m n e = cc
+
+    some_place : (p q : UnitNo × AggId) → ◌≡◌ {A = Option (UnitNo × AggId)} (Some p) (Some q) → p ≡ q
+    some_place p q e = cc
+
+    inside : (ps : List (UnitNo × AggId)) (i : ℕ) (p : UnitNo × AggId) → slice_get ps i ≡ Some p → i < length ps
+    inside [] i p e = (let bad : ⊥ = cc in absurd bad)
+    inside (q ∷ ps) zero p e = omega arith
+    inside (q ∷ ps) (suc i) p e = (let w = inside ps i p e in omega (arith, w))
 
 pub fails_first : (names : List (List ℕ)) (gs : List Graph) (groups : List Group) (w : Web) (group earlier later : ℕ) (pair : ℕ × ℕ) → IsWoven names gs w
     → FailsFirst (things_of w) (map (sides_in (first_pairs w)) groups) group earlier later pair → FailsFirst (things names gs) (sides gs groups) group earlier later pair

@@ -2,7 +2,8 @@
 use Rattle.std.proofs.Common.{◌≡◌, ◌≢◌, ◌⊎◌, inl, inr, ℕ, zero, suc, ◌+◌, ◌<◌, ◌≤◌, Bool, true, false, List, [], ◌∷◌, ◌++◌, Option, Some, None, Result, Ok, Err, OnOk, length, get_or, slice_get, slice_set, subst, refl, sym, ap, ◌∙◌, arith, true≢false}
 use Rattle.std.proofs.lemmas.List.{get_or-set_same, get_or-set_other, length-set}
 use Rattle.type_things.specs.Things.{Thing}
-use Rattle.type_iso.specs.Standing.{at_own, AreLeast, has_parts, StandsFor, LetsStand, StandUpTo, AllUpTo, AreStanding, AreNumbersIn, AreOrdered, OrderedUpTo}
+use Rattle.type_iso.specs.Classes.{has_parts}
+use Rattle.type_iso.specs.Standing.{at_own, AreLeast, StandsFor, LetsStand, StandUpTo, AllUpTo, AreStanding, AreNumbersIn, IsStandingAt, AreNumbersOf, AreOrdered, OrderedUpTo}
 use Rattle.type_things.proofs.NumberLaws.{same_or_not}
 use Rattle.type_things.proofs.WebLaws.{push_left, push_at, push_length}
 
@@ -123,6 +124,11 @@ module _ {H L : Type 0} (ts : List (Thing H L)) where
   }
   let_new (Err r) old ds new low x before b c e h at ib tb ic tc set = set
 
+pub got : (xs : List ℕ) (i d : ℕ) → i < length xs → slice_get xs i ≡ Some (get_or xs i d)
+got [] i d h = absurd (omega (arith, h))
+got (x ∷ xs) zero d h = refl
+got (x ∷ xs) (suc i) d h = got xs i d (omega (arith, h))
+
 -- numbers by places
 
 set_read : (xs : List (Option ℕ)) (i j : ℕ) (x y : Option ℕ) → slice_get (slice_set xs i x) j ≡ Some y → ((j ≡ i) × (y ≡ x)) ⊎ (slice_get xs j ≡ Some y)
@@ -132,14 +138,60 @@ set_read (z ∷ xs) zero (suc j) x y e = inr e
 set_read (z ∷ xs) (suc i) zero x y e = inr e
 set_read (z ∷ xs) (suc i) (suc j) x y e = elim (set_read xs i j x y e) [ inl h ↦ inl (ap suc h.0, h.1) | inr h ↦ inr h ]
 
-pub numbers_step : (order : List ℕ) (old new : List (Option ℕ)) (k s : ℕ) → slice_get order k ≡ Some s → new ≡ slice_set old s (Some k) → AreNumbersIn order old → AreNumbersIn order new
-numbers_step order old new k s at e h = λ t n q. elim (set_read old s t (Some k) (Some n) (ap (λ l. slice_get l t) (sym e) ∙ q)) [
+placed_number : (order : List ℕ) (old new : List (Option ℕ)) (k s : ℕ) → slice_get order k ≡ Some s → new ≡ slice_set old s (Some k) → AreNumbersIn order old → AreNumbersIn order new
+placed_number order old new k s at e h = λ t n q. elim (set_read old s t (Some k) (Some n) (ap (λ l. slice_get l t) (sym e) ∙ q)) [
   | inl w ↦ (let two : n ≡ k = some_one n k w.1 in ap (slice_get order) two ∙ at ∙ ap Some (sym w.0))
   | inr w ↦ h t n w
 ]
   where
     some_one : (a b : ℕ) → ◌≡◌ {A = Option ℕ} (Some a) (Some b) → a ≡ b
     some_one a b w = cc
+
+set_kept : (xs : List (Option ℕ)) (i j : ℕ) (x y : Option ℕ) → j ≢ i → slice_get xs j ≡ Some y → slice_get (slice_set xs i x) j ≡ Some y
+set_kept [] i j x y n e = e
+set_kept (z ∷ xs) zero zero x y n e = absurd (n refl)
+set_kept (z ∷ xs) zero (suc j) x y n e = e
+set_kept (z ∷ xs) (suc i) zero x y n e = e
+set_kept (z ∷ xs) (suc i) (suc j) x y n e = set_kept xs i j x y (λ q. n (ap suc q)) e
+
+set_there : (xs : List (Option ℕ)) (i : ℕ) (x y : Option ℕ) → slice_get xs i ≡ Some y → slice_get (slice_set xs i x) i ≡ Some x
+set_there [] i x y e = (let bad : ⊥ = cc in absurd bad)
+set_there (z ∷ xs) zero x y e = refl
+set_there (z ∷ xs) (suc i) x y e = set_there xs i x y e
+
+pub numbers_start : (order standing : List ℕ) (numbers : List (Option ℕ)) → AreNumbersIn order numbers → AreNumbersOf order standing numbers 0
+numbers_start order standing numbers h = record { places = h; each = λ i s l. absurd (omega (arith, l)) }
+
+pub numbers_step : (order standing : List ℕ) (old new : List (Option ℕ)) (k s : ℕ) → IsStandingAt order standing k s → slice_get old s ≡ Some None → new ≡ slice_set old s (Some k) → AreNumbersOf order standing old k → AreNumbersOf order standing new (k + 1)
+numbers_step order standing old new k s is free e a = record {
+  places = placed_number order old new k s is.there e a.places;
+  each = λ i t h q. elim (same_or_not i k) [
+    | inl w ↦ (
+        let one : t ≡ s = some_one t s (sym q ∙ ap (slice_get order) w ∙ is.there) in (
+          ap (λ l. slice_get l t) e ∙ ap (slice_get (slice_set old s (Some k))) one ∙ set_there old s (Some k) None free ∙ ap (λ n. Some (Some n)) (sym w),
+          subst (λ n. IsStandingAt order standing n t) (sym w) (subst (IsStandingAt order standing k) (sym one) is),
+        ))
+    | inr w ↦ (
+        let r = a.each i t (omega (arith, h, w)) q in
+        (ap (λ l. slice_get l t) e ∙ set_kept old s t (Some k) (Some i) (λ v. none_some i (sym (ap (slice_get old) v ∙ free) ∙ r.0)) r.0, r.1))
+  ];
+}
+  where
+    some_one : (a b : ℕ) → ◌≡◌ {A = Option ℕ} (Some a) (Some b) → a ≡ b
+    some_one a b w = cc
+
+    none_some : (n : ℕ) → ◌≡◌ {A = Option (Option ℕ)} (Some None) (Some (Some n)) → ⊥
+    none_some n w = cc
+
+pub numbers_end : (order standing : List ℕ) (numbers : List (Option ℕ)) (k n : ℕ) → k ≡ n → AreNumbersOf order standing numbers k → AreNumbersOf order standing numbers n
+numbers_end order standing numbers k n e a = subst (AreNumbersOf order standing numbers) e a
+
+pub standing_there : (order standing : List ℕ) (k a b : ℕ) (c : Bool) → k < length order → ((d : ℕ) → get_or order k d ≡ a) → a < length standing → ((d : ℕ) → get_or standing a d ≡ b) → b ≡ a → IsStandingAt order standing k a
+standing_there order standing k a b c h at_k l at_a e = record {
+  there = got order k 0 h ∙ ap Some (at_k 0);
+  within = l;
+  own = at_a a ∙ e;
+}
 
 pub numbers_none : (order : List ℕ) (xs : List (Option ℕ)) → ((i n : ℕ) → slice_get xs i ≡ Some (Some n) → ⊥) → AreNumbersIn order xs
 numbers_none order xs h = λ s n q. absurd (h s n q)
@@ -150,15 +202,24 @@ none_push [] h (suc i) n q = (let bad : ⊥ = cc in bad)
 none_push (x ∷ xs) h zero n q = h 0 n q
 none_push (x ∷ xs) h (suc i) n q = none_push xs (λ j m w. h (suc j) m w) i n q
 
-pub ordered_end : (order standing all : List ℕ) (numbers : List (Option ℕ)) (k : ℕ) → AreNumbersIn order numbers → k ≡ length standing → OrderedUpTo order standing all numbers k → AreOrdered order standing all
+pub ordered_end : (order standing all : List ℕ) (numbers : List (Option ℕ)) (k : ℕ) → AreNumbersOf order standing numbers (length order) → k ≡ length standing → OrderedUpTo order standing all numbers k → AreOrdered order standing all
 ordered_end order standing all numbers k h e o = record {
   count = o.count ∙ e;
-  each = λ x l. h (at_own standing x) (at_own all x) (o.each x (omega (arith, l, e)));
+  each = λ x l. h.places (at_own standing x) (at_own all x) (o.each x (omega (arith, l, e)));
   same = λ x y l m q. some_one (at_own all x) (at_own all y) (sym (o.each x (omega (arith, l, e))) ∙ ap (slice_get numbers) q ∙ o.each y (omega (arith, m, e)));
+  own = λ i s q. (
+      let r = h.each i s (inside order i s q) q in
+      let l = r.1.within in
+      (l, some_one (at_own all s) i (sym (o.each s (omega (arith, l, e))) ∙ ap (slice_get numbers) r.1.own ∙ r.0)));
 }
   where
     some_one : (a b : ℕ) → ◌≡◌ {A = Option (Option ℕ)} (Some (Some a)) (Some (Some b)) → a ≡ b
     some_one a b w = cc
+
+    inside : (xs : List ℕ) (i s : ℕ) → slice_get xs i ≡ Some s → i < length xs
+    inside [] i s q = (let bad : ⊥ = cc in absurd bad)
+    inside (x ∷ xs) zero s q = omega arith
+    inside (x ∷ xs) (suc i) s q = (let w = inside xs i s q in omega (arith, w))
 
 pub ordered_step : (order standing all more : List ℕ) (numbers : List (Option ℕ)) (k s n : ℕ) → at_own standing k ≡ s → slice_get numbers s ≡ Some (Some n) → more ≡ all ++ n ∷ [] → OrderedUpTo order standing all numbers k → OrderedUpTo order standing more numbers (k + 1)
 ordered_step order standing all more numbers k s n at found e o = record {
@@ -177,8 +238,3 @@ ordered_start order standing all numbers e = record { count = ap length e; each 
 pub none_start : (xs : List (Option ℕ)) → xs ≡ [] → (i n : ℕ) → slice_get xs i ≡ Some (Some n) → ⊥
 none_start [] e i n q = (let bad : ⊥ = cc in bad)
 none_start (x ∷ xs) e i n q = (let bad : ⊥ = cc in bad)
-
-pub got : (xs : List ℕ) (i d : ℕ) → i < length xs → slice_get xs i ≡ Some (get_or xs i d)
-got [] i d h = absurd (omega (arith, h))
-got (x ∷ xs) zero d h = refl
-got (x ∷ xs) (suc i) d h = got xs i d (omega (arith, h))

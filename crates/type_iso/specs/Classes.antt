@@ -1,8 +1,9 @@
 -- Definition: the classes of the structs, unions and enums of several units, once the declarations of each external name are linked (C11 6.2.7p1, p2).
-use Rattle.std.specs.Prelude.{◌≡◌, ◌↔◌, ℕ, zero, suc, ◌+◌, List, [], ◌∷◌, Option, Some, None, Result, Ok, Err, map, length, nat_lt, slice_get, if◌then◌else◌}
+use Rattle.std.specs.Prelude.{◌≡◌, ◌↔◌, ℕ, zero, suc, ◌+◌, ◌<◌, ◌≤◌, Bool, true, false, List, [], ◌∷◌, Option, Some, None, Result, Ok, Err, map, length, is_some, nat_lt, slice_get, if◌then◌else◌}
 use Rattle.std.specs.Option.{option_map, option_and_then}
 use Rattle.cil_base.specs.declared.numbers.TypeId.{TypeId}
 use Rattle.cil_base.specs.declared.numbers.UnitNo.{UnitNo}
+use Rattle.cil_base.specs.declared.numbers.AggId.{AggId}
 use Rattle.type_graph.specs.Arena.{Graph}
 use Rattle.type_iso.specs.declared.class_table.Classes.{Classes}
 use Rattle.type_iso.specs.declared.merging.ClassStop.{ClassStop}
@@ -10,7 +11,7 @@ use Rattle.type_iso.specs.declared.merging.ClassStop.TheVariants as stop
 use Rattle.type_links.specs.declared.linking.Side.{Side}
 use Rattle.type_links.specs.declared.parties.Group.{Group}
 use Rattle.type_things.specs.declared.web.First.{First}
-use Rattle.type_things.specs.Things.{Joint, Same}
+use Rattle.type_things.specs.Things.{Thing, inside_of, Joint, Same}
 use Rattle.type_things.specs.Units.{things, aggregate_count, firsts_from}
 use Rattle.type_links.specs.Links.{sides_in, links_of, FailsFirst}
 
@@ -24,6 +25,21 @@ aggregate_number (g ∷ gs) (suc u) a = option_map (λ n. length g.aggs + n) (ag
 abbrev pub class_in : Classes → ℕ → ℕ → Option ℕ
 class_in c u a = option_and_then (λ (f : First). slice_get c.of.items (f.aggregate + a)) (slice_get c.firsts.items u)
 
+-- the aggregate that stands for a class, by its unit and its number there
+abbrev pub representative_in : Classes → ℕ → Option (UnitNo × AggId)
+representative_in c k = slice_get c.representatives.items k
+
+module _ {H L : Type 0} (ts : List (Thing H L)) where
+  abbrev pub has_parts : ℕ → Bool
+  has_parts x = is_some (inside_of ts x)
+
+  -- of the aggregates, which are the first m things, s is that of x's class that stands first among the complete ones, or first of all where none is complete (own)
+  pub record Represents (ds : List (ℕ × ℕ)) (m s x : ℕ) : Type 0 where
+    pub within : s < m
+    pub same : Same ts ds s x
+    pub complete : (y : ℕ) → y < m → Same ts ds y x → has_parts y ≡ true → (has_parts s ≡ true) × (s ≤ y)
+    pub incomplete : has_parts s ≡ false → (y : ℕ) → y < m → Same ts ds y x → s ≤ y
+
 -- what is compared of the declarations of each name
 abbrev pub sides : List Graph → List Group → List (List Side)
 sides gs groups = map (sides_in (firsts_from 0 (aggregate_count gs) gs)) groups
@@ -33,11 +49,14 @@ abbrev pub IsClashOf : ℕ → ℕ → ℕ → ClassStop → Type 0
 IsClashOf group earlier later s = (left : UnitNo × TypeId) × (right : UnitNo × TypeId) × (s ≡ stop.Clash group earlier later left right)
 
 module _ (names : List (List ℕ)) (gs : List Graph) (groups : List Group) where
-  -- all links have a joint equivalence, and two aggregates have one class where they are one in the least equivalence
+  -- all links have a joint equivalence, two aggregates have one class where they are one in the least equivalence, and each class has its representative
   pub record AreClasses (c : Classes) : Type 0 where
     pub joint : Joint (things names gs) (links_of (things names gs) (sides gs groups))
     pub some : (u a x : ℕ) → aggregate_number gs u a ≡ Some x → (n : ℕ) × (class_in c u a ≡ Some n)
     pub same : (u a v b x y : ℕ) → aggregate_number gs u a ≡ Some x → aggregate_number gs v b ≡ Some y → (class_in c u a ≡ class_in c v b) ↔ Same (things names gs) (links_of (things names gs) (sides gs groups)) x y
+    pub own : (k : ℕ) (p : UnitNo × AggId) → representative_in c k ≡ Some p → class_in c p.0.0 p.1.0 ≡ Some k
+    pub stands : (u a x k : ℕ) → aggregate_number gs u a ≡ Some x → class_in c u a ≡ Some k
+        → (p : UnitNo × AggId) × (s : ℕ) × (representative_in c k ≡ Some p) × (aggregate_number gs p.0.0 p.1.0 ≡ Some s) × Represents (things names gs) (links_of (things names gs) (sides gs groups)) (aggregate_count gs) s x
 
   -- the first link that fails is that of two declarations of a group, by their places
   abbrev pub IsRefused : ClassStop → Type 0

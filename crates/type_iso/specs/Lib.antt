@@ -1,2 +1,3 @@
-pub mod Standing
 pub mod Classes
+pub mod Standing
+pub mod Places

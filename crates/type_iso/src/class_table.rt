@@ -1,5 +1,5 @@
-ghost use Rattle.std.specs.Prelude.{◌≡◌, option_map};
-ghost use Rattle.type_iso.specs.Classes.{class_in};
+ghost use Rattle.std.specs.Prelude.{◌≡◌, length, option_map};
+ghost use Rattle.type_iso.specs.Classes.{class_in, representative_in};
 
 use cil_base::{AggId, UnitNo};
 use type_things::First;
@@ -18,7 +18,9 @@ pub struct Classes {
 
 impl Classes {
     /// The number of classes.
-    pub fn count(&self) -> usize {
+    pub fn count(&self) -> usize
+        ensures { result ≡ length self.now.representatives.items }
+    {
         self.representatives.len()
     }
 
@@ -41,7 +43,9 @@ impl Classes {
 
     /// The aggregate that stands for a class, if there is such a class: the first complete one by unit and number, or the first of
     /// all where none is complete.
-    pub fn representative(&self, class: ClassNo) -> Option<(UnitNo, AggId)> {
+    pub fn representative(&self, class: ClassNo) -> Option<(UnitNo, AggId)>
+        ensures { result ≡ representative_in self.now class.0 }
+    {
         match self.representatives.get(class.0 as usize) {
             Some(found) => Some(*found),
             None => None,

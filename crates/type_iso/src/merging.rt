@@ -1,8 +1,9 @@
-ghost use Rattle.std.specs.Prelude.{◌≡◌, ℕ, ◌≤◌, List, [], Option, Some, map, length, slice_get, slice_set, IfOk, OnOk};
+ghost use Rattle.std.specs.Prelude.{◌≡◌, ℕ, ◌≤◌, List, [], Option, Some, None, map, length, slice_get, slice_set, IsTrue, IfOk, OnOk};
 ghost use Rattle.type_joins.specs.Forests.{root, IsForest};
 ghost use Rattle.type_joins.specs.Joined.{IsJoining};
 ghost use Rattle.type_things.specs.Webs.{IsWeb, things_of};
-ghost use Rattle.type_iso.specs.Standing.{AreLeast, LetsStand, StandUpTo, AreStanding, AreNumbersIn, AreOrdered, AreClassed};
+ghost use Rattle.type_iso.specs.Places.{EndsAbove, IsPlace, ArePlaces, ArePlaced};
+ghost use Rattle.type_iso.specs.Standing.{AreLeast, LetsStand, StandUpTo, AreStanding, AreNumbersIn, IsStandingAt, AreNumbersOf, AreOrdered, AreClassed};
 ghost use Rattle.type_iso.specs.Classes.{IsClashOf, Answers};
 
 use crate::class_table::Classes;
@@ -153,24 +154,46 @@ fn no_numbers(alloc: Global, count: usize) -> Result<Vec<Option<u32>>, Memory>
     Ok(numbers)
 }
 
-/// Gives a thing a number.
+/// Whether a thing is in a table and has no number there.
+fn lacks_number(numbers: &[Option<u32>], x: u32) -> bool
+    ensures { IsTrue result → slice_get numbers.now x ≡ Some None }
+{
+    matches!(numbers.get(x as usize), Some(None))
+}
+
+/// Gives a thing that has none a number.
 fn put_number(numbers: &mut Vec<Option<u32>>, x: u32, number: u32) -> Result<(), Memory>
-    ensures { OnOk result (numbers.new.items ≡ slice_set numbers.old.items x (Some number)) }
+    ensures free { OnOk result (slice_get numbers.old.items x ≡ Some None) }
+    ensures set { OnOk result (numbers.new.items ≡ slice_set numbers.old.items x (Some number)) }
 {
     if x as usize >= numbers.len() {
+        return Err(impossible());
+    }
+    if !lacks_number(numbers, x) {
         return Err(impossible());
     }
     numbers[x as usize] = Some(number);
     Ok(())
 }
 
-/// For each aggregate of an order its place there.
-fn class_numbers(alloc: Global, order: &[u32], count: usize) -> Result<Vec<Option<u32>>, Memory>
-    ensures { IfOk result (λ v. AreNumbersIn order.now v.items) }
+/// An aggregate of an order, which stands for its class.
+fn standing_at(order: &[u32], standing: &[u32], k: u32) -> Result<u32, Memory>
+    ensures { IfOk result (IsStandingAt order.now standing.now k) }
 {
-    let mut numbers = no_numbers(alloc, count)?;
+    let a = at(order, k)?;
+    if at(standing, a)? != a {
+        return Err(impossible());
+    }
+    Ok(a)
+}
+
+/// For each aggregate of an order its place there.
+fn class_numbers(alloc: Global, order: &[u32], standing: &[u32]) -> Result<Vec<Option<u32>>, Memory>
+    ensures { IfOk result (λ v. AreNumbersOf order.now standing.now v.items (length order.now)) }
+{
+    let mut numbers = no_numbers(alloc, standing.len())?;
     for k in 0..narrow(order.len())? {
-        put_number(&mut numbers, order[k as usize], k)?;
+        put_number(&mut numbers, standing_at(order, standing, k)?, k)?;
     }
     Ok(numbers)
 }
@@ -189,7 +212,7 @@ fn number_of(numbers: &[Option<u32>], x: u32) -> Result<u32, Memory>
 fn numbered(alloc: Global, order: &[u32], standing: &[u32]) -> Result<Vec<u32>, Memory>
     ensures { IfOk result (λ v. AreOrdered order.now standing.now v.items) }
 {
-    let numbers = class_numbers(alloc, order, standing.len())?;
+    let numbers = class_numbers(alloc, order, standing)?;
     let mut of = Vec::new(alloc);
     for x in 0..standing.len() {
         of.push(number_of(&numbers, standing[x])?)?;
@@ -197,23 +220,12 @@ fn numbered(alloc: Global, order: &[u32], standing: &[u32]) -> Result<Vec<u32>, 
     Ok(of)
 }
 
-/// For each aggregate its unit and its number there.
-fn places(alloc: Global, web: &Web) -> Result<Vec<(UnitNo, AggId)>, Memory> {
-    let mut all = Vec::new(alloc);
-    let mut u = 0;
-    for x in 0..web.aggregates {
-        u = later_unit(web.firsts(), u, x)?;
-        let first = web.firsts().get(u as usize).ok_or(impossible())?;
-        let number = x.checked_sub(first.aggregate).ok_or(impossible())?;
-        all.push((UnitNo(u), AggId(number)))?;
-    }
-    Ok(all)
-}
-
-/// The last unit from one on whose first aggregate is not above an aggregate.
-fn later_unit(firsts: &[First], from: u32, x: u32) -> Result<u32, Memory> {
+/// The last unit from one on before which the next one begins above an aggregate.
+fn later_unit(firsts: &[First], from: u32, x: u32) -> Result<u32, Memory>
+    ensures { IfOk result (EndsAbove firsts.now x) }
+{
     let mut u = from;
-    for next in from as usize..firsts.len() {
+    for next in from as usize + 1..firsts.len() {
         if firsts[next].aggregate > x {
             return Ok(u);
         }
@@ -222,16 +234,52 @@ fn later_unit(firsts: &[First], from: u32, x: u32) -> Result<u32, Memory> {
     Ok(u)
 }
 
+/// The unit of an aggregate, from one on, and its number there.
+fn place_of(firsts: &[First], from: UnitNo, x: u32) -> Result<(UnitNo, AggId), Memory>
+    ensures { IfOk result (IsPlace firsts.now x) }
+{
+    let u = later_unit(firsts, from.0, x)?;
+    let Some(first) = firsts.get(u as usize) else {
+        return Err(impossible());
+    };
+    match x.checked_sub(first.aggregate) {
+        Some(number) => Ok((UnitNo(u), AggId(number))),
+        None => Err(impossible()),
+    }
+}
+
+/// For each aggregate its unit and its number there.
+fn places(alloc: Global, web: &Web) -> Result<Vec<(UnitNo, AggId)>, Memory>
+    ensures { IfOk result (λ v. ArePlaces web.now.firsts.items web.now.aggregates v.items) }
+{
+    let mut all = Vec::new(alloc);
+    let mut u = UnitNo(0);
+    for x in 0..web.aggregates {
+        let place = place_of(web.firsts(), u, x)?;
+        all.push(place)?;
+        u = place.0;
+    }
+    Ok(all)
+}
+
+/// The place of an aggregate in a table.
+fn place_at(places: &[(UnitNo, AggId)], x: u32) -> Result<(UnitNo, AggId), Memory>
+    ensures { IfOk result (λ p. slice_get places.now x ≡ Some p) }
+{
+    match places.get(x as usize) {
+        Some(place) => Ok(*place),
+        None => Err(impossible()),
+    }
+}
+
 /// The aggregates of an order by unit and number.
-fn representatives(
-    alloc: Global,
-    web: &Web,
-    order: &[u32],
-) -> Result<Vec<(UnitNo, AggId)>, Memory> {
+fn representatives(alloc: Global, web: &Web, order: &[u32]) -> Result<Vec<(UnitNo, AggId)>, Memory>
+    ensures { IfOk result (λ v. ArePlaced web.now.firsts.items order.now v.items) }
+{
     let places = places(alloc, web)?;
     let mut all = Vec::new(alloc);
-    for a in order {
-        all.push(*places.get(*a as usize).ok_or(impossible())?)?;
+    for k in 0..order.len() {
+        all.push(place_at(&places, order[k])?)?;
     }
     Ok(all)
 }
@@ -256,7 +304,7 @@ fn classed(alloc: Global, web: Web, joining: Joining) -> Result<Classes, Memory>
     requires web { IsWeb (things_of web) web.aggregates }
     requires within { web.aggregates ≤ length web.things.items }
     requires forest { IsForest joining.forest.parents.items }
-    ensures { (done : List (ℕ × ℕ)) → IsJoining (things_of web) done (root joining.forest.parents.items) joining.stand.items [] → IfOk result (λ c. (c.firsts ≡ web.firsts) × ((order : List ℕ) × AreClassed (things_of web) done web.aggregates c.of.items order)) }
+    ensures { (done : List (ℕ × ℕ)) → IsJoining (things_of web) done (root joining.forest.parents.items) joining.stand.items [] → IfOk result (λ c. (c.firsts ≡ web.firsts) × ((order : List ℕ) × AreClassed (things_of web) done web.aggregates c.of.items order × ArePlaced web.firsts.items order c.representatives.items)) }
 {
     let (of, order) = class_order(alloc, &web, joining)?;
     let representatives = representatives(alloc, &web, &order)?;
