@@ -18,9 +18,9 @@ use Rattle.type_graph.proofs.Lists.{get_push, get_there, get_set_same, get_set_o
 use Rattle.map_graph.specs.Mapped.{number_in, Maps}
 use Rattle.link_names.specs.declared.units.Fronted.{Fronted}
 use Rattle.type_iso.specs.declared.class_table.Classes.{Classes}
-use Rattle.type_iso.specs.Classes.{class_in}
+use Rattle.type_iso.specs.Classes.{class_count, class_in, representative_in}
 use Rattle.cil_merge.specs.Classes.{IsAggregate, IsMember, AreMembers, IsCompleted, StandsThere, AreClassesOf, AreTypesOf, AreTypes, HasTypes}
-use Rattle.cil_merge.specs.Numbering.{GainsTypes, IsBegun, AreBegun, IsOnWay, AreOnWay, Completes}
+use Rattle.cil_merge.specs.Numbering.{GainsTypes, AreRepresentatives, IsBegun, AreBegun, IsOnWay, AreOnWay, Completes}
 use Rattle.cil_merge.proofs.GainLaws.{maps_grown}
 
 get_below : {K : Type 0} (xs : List K) (i : ℕ) (x : K) → slice_get xs i ≡ Some x → i < length xs
@@ -47,6 +47,21 @@ one_aggregate : (units : List Fronted) (at : UnitNo × AggId) (x y : Aggregate) 
 one_aggregate units at x y p q =
     let unit : p.unit ≡ q.unit = one_item units at.0.0 p.unit q.unit p.unit_is q.unit_is in
     one_item q.unit.cil.graph.aggs at.1.0 x y (sym (ap (λ (f : Fronted). slice_get f.cil.graph.aggs at.1.0) unit) ∙ p.is) q.is
+
+-- what stands for the classes
+
+pub none_stand : (c : Classes) (stands : List (UnitNo × AggId)) → stands ≡ [] → AreRepresentatives c 0 stands
+none_stand c stands none = subst (AreRepresentatives c 0) (sym none) (record { so_many = refl; each = λ k at e. cc })
+
+pub stand_next : (c : Classes) (count : ℕ) (old new : List (UnitNo × AggId)) (at : UnitNo × AggId) → AreRepresentatives c count old → representative_in c count ≡ Some at → new ≡ old ++ at ∷ [] → AreRepresentatives c (count + 1) new
+stand_next c count old new at before is put = subst (AreRepresentatives c (count + 1)) (sym put) (record {
+  so_many = length-append old (at ∷ []) ∙ ap (λ i. i + 1) before.so_many;
+  each = λ k other e. by k other (get_push old at k other e);
+})
+  where
+    by : (k : ℕ) (other : UnitNo × AggId) → (slice_get old k ≡ Some other) ⊎ ((k ≡ length old) × (at ≡ other)) → representative_in c k ≡ Some other
+    by k other (inl there) = before.each k other there
+    by k other (inr here) = ap (representative_in c) (here.0 ∙ before.so_many) ∙ is ∙ ap Some here.1
 
 -- classes without members
 
@@ -235,32 +250,31 @@ on_way_next units ts stands k g h at d before less at_is step = record { so_many
 pub on_way_all : (units : List Fronted) (ts : List (List TypeId)) (stands : List (UnitNo × AggId)) (k : ℕ) (aggs : List Aggregate) → AreOnWay units ts stands k aggs → k ≤ length stands → length stands ≤ k → AreOnWay units ts stands (length stands) aggs
 on_way_all units ts stands k aggs way low high = let all : k ≡ length stands = omega (arith, low, high) in subst (λ i. AreOnWay units ts stands i aggs) all way
 
-pub has_types : (c : Classes) (units : List Fronted) (g h : Graph) (first ts : List (List TypeId)) (stands : List (UnitNo × AggId)) → AreTypes c units g first (length units) → ts ≡ first → Grows g h → AreOnWay units ts stands (length stands) h.aggs → HasTypes c units h
-has_types c units g h first ts stands types same grows way = record {
+pub has_types : (c : Classes) (units : List Fronted) (g h : Graph) (first ts : List (List TypeId)) (stands : List (UnitNo × AggId)) → AreRepresentatives c (class_count c) stands → AreTypes c units g first (length units) → ts ≡ first → Grows g h → AreOnWay units ts stands (length stands) h.aggs → HasTypes c units h
+has_types c units g h first ts stands all types same grows way = record {
   tables = ts;
-  stands = stands;
   types = subst (λ (t : List (List TypeId)). AreTypes c units h t (length units)) (sym same) (record { so_many = types.so_many; each = λ u f t e d. types_grown c u f.cil.graph g h t grows (types.each u f t e d) });
-  so_many = way.so_many;
+  so_many = way.so_many ∙ all.so_many;
   each = each;
 }
   where
-    each : (k : ℕ) (at : UnitNo × AggId) (y : Aggregate) → slice_get stands k ≡ Some at → slice_get h.aggs k ≡ Some y → StandsThere units ts at y
+    each : (k : ℕ) (at : UnitNo × AggId) (y : Aggregate) → representative_in c k ≡ Some at → slice_get h.aggs k ≡ Some y → StandsThere units ts at y
     each k at y e there =
+        let less : k < length stands = omega (arith, get_below _ k at e, all.so_many) in
         let w = way.each k y there in
-        let place : w.at ≡ at = one_item stands k w.at at w.at_is e in
+        let place : w.at ≡ at = one_item _ k w.at at (all.each k w.at w.at_is) e in
         record {
           x = w.x;
           is = subst (λ (p : UnitNo × AggId). IsAggregate units p w.x) place w.is;
           kind_is = w.kind_is;
           tag_is = w.tag_is;
-          members_are = subst (λ (p : UnitNo × AggId). IsCompleted ts p.0 w.x.members y.members) place (w.done (get_below stands k at e));
+          members_are = subst (λ (p : UnitNo × AggId). IsCompleted ts p.0 w.x.members y.members) place (w.done less);
         }
 
 -- the types of a program grow, and its classes stay
 pub types_gained : (c : Classes) (units : List Fronted) (g h : Graph) → HasTypes c units g → GainsTypes g h → HasTypes c units h
 types_gained c units g h has gains = record {
   tables = has.tables;
-  stands = has.stands;
   types = record { so_many = has.types.so_many; each = λ u f t e d. types_grown c u f.cil.graph g h t gains.grows (has.types.each u f t e d) };
   so_many = ap length gains.stay ∙ has.so_many;
   each = λ k at y e there. has.each k at y e (sym (ap (λ (q : List Aggregate). slice_get q k) gains.stay) ∙ there);

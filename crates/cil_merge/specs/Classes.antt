@@ -1,4 +1,4 @@
--- Definition: the types of the program that units become (C11 6.2.7): each type of a unit has its shape there, with the numbers of their classes for structs, unions and enums, and each class is one of these in a unit, with its kind, its tag and its members.
+-- Definition: the types of the program that units become (C11 6.2.7): each type of a unit has its shape there, with the numbers of their classes for structs, unions and enums, and each class is the one of a unit that stands for it, with its kind, its tag and its members.
 use Rattle.std.specs.Prelude.{◌≡◌, ℕ, false, List, Option, Some, None, length, slice_get}
 use Rattle.cil_base.specs.declared.numbers.AggId.{AggId}
 use Rattle.cil_base.specs.declared.numbers.TypeId.{TypeId}
@@ -8,7 +8,7 @@ use Rattle.type_graph.specs.declared.aggregates.Member.{Member}
 use Rattle.type_graph.specs.Arena.{Graph}
 use Rattle.map_graph.specs.Mapped.{number_in, Maps}
 use Rattle.type_iso.specs.declared.class_table.Classes.{Classes}
-use Rattle.type_iso.specs.Classes.{class_in}
+use Rattle.type_iso.specs.Classes.{class_count, class_in, representative_in}
 use Rattle.link_names.specs.declared.units.Fronted.{Fronted}
 
 -- a struct, union or enum of one of these units
@@ -57,10 +57,9 @@ pub record AreTypes (c : Classes) (units : List Fronted) (program : Graph) (tabl
   pub so_many : length tables ≡ count
   pub each : (u : ℕ) (f : Fronted) (types : List TypeId) → slice_get units u ≡ Some f → slice_get tables u ≡ Some types → AreTypesOf c u f.cil.graph program types
 
--- the types of a program, and what stands for each of its structs, unions and enums
+-- the types of a program: it has as many structs, unions and enums as there are classes, each with what stands for its class
 pub record HasTypes (c : Classes) (units : List Fronted) (program : Graph) : Type 0 where
   pub tables : List (List TypeId)
-  pub stands : List (UnitNo × AggId)
   pub types : AreTypes c units program tables (length units)
-  pub so_many : length program.aggs ≡ length stands
-  pub each : (k : ℕ) (at : UnitNo × AggId) (y : Aggregate) → slice_get stands k ≡ Some at → slice_get program.aggs k ≡ Some y → StandsThere units tables at y
+  pub so_many : length program.aggs ≡ class_count c
+  pub each : (k : ℕ) (at : UnitNo × AggId) (y : Aggregate) → representative_in c k ≡ Some at → slice_get program.aggs k ≡ Some y → StandsThere units tables at y

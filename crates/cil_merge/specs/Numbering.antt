@@ -10,6 +10,8 @@ use Rattle.type_graph.specs.declared.aggregates.Aggregate.{Aggregate}
 use Rattle.type_graph.specs.Arena.{Graph}
 use Rattle.type_graph.specs.Growth.{Grows}
 use Rattle.link_names.specs.declared.units.Fronted.{Fronted}
+use Rattle.type_iso.specs.declared.class_table.Classes.{Classes}
+use Rattle.type_iso.specs.Classes.{representative_in}
 use Rattle.cil_merge.specs.declared.globals.Globals.{Globals}
 use Rattle.cil_merge.specs.Listing.{Mark, mark, is_external}
 use Rattle.cil_merge.specs.Classes.{IsAggregate, IsCompleted}
@@ -37,6 +39,11 @@ pub record IsKnown (g : Globals) : Type 0 where
 pub record GainsTypes (old new : Graph) : Type 0 where
   pub grows : Grows old new
   pub stay : new.aggs ≡ old.aggs
+
+-- what stands for so many of the classes
+pub record AreRepresentatives (c : Classes) (count : ℕ) (stands : List (UnitNo × AggId)) : Type 0 where
+  pub so_many : length stands ≡ count
+  pub each : (k : ℕ) (at : UnitNo × AggId) → slice_get stands k ≡ Some at → representative_in c k ≡ Some at
 
 -- the struct, union or enum of a class before it has members
 pub record IsBegun (units : List Fronted) (stands : List (UnitNo × AggId)) (k : ℕ) (y : Aggregate) : Type 0 where

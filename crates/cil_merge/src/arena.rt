@@ -1,8 +1,9 @@
 ghost use Rattle.std.specs.Prelude.{◌≡◌, ◌<◌, [], None, Some, map, length, slice_get, OnOk, IfOk};
 ghost use Rattle.type_graph.specs.declared.aggregates.Aggregate.{Aggregate};
 ghost use Rattle.type_graph.specs.Growth.{Grows, with_members};
+ghost use Rattle.type_iso.specs.Classes.{class_count};
 ghost use Rattle.cil_merge.specs.Classes.{IsAggregate, IsMember, AreMembers, AreClassesOf, AreTypes, HasTypes};
-ghost use Rattle.cil_merge.specs.Numbering.{GainsTypes, AreBegun, AreOnWay, Completes};
+ghost use Rattle.cil_merge.specs.Numbering.{GainsTypes, AreRepresentatives, AreBegun, AreOnWay, Completes};
 
 use crate::numbers::{impossible, type_in, unit_number};
 use cil_base::{Abi, AggId, Memory, TypeId, UnitNo};
@@ -31,7 +32,10 @@ fn class_number(k: usize) -> Result<u32, Memory>
 }
 
 /// The structs, unions and enums that stand for the classes, in their order: each by its unit and its number there.
-fn representatives(alloc: Global, classes: &Classes) -> Result<Vec<(UnitNo, AggId)>, Memory> {
+#[tactic(auto, using(crate::proofs::ClassLaws::none_stand, crate::proofs::ClassLaws::stand_next))]
+fn representatives(alloc: Global, classes: &Classes) -> Result<Vec<(UnitNo, AggId)>, Memory>
+    ensures { IfOk result (λ all. AreRepresentatives classes.now (class_count classes.now) all.items) }
+{
     let mut all = Vec::new(alloc);
     for k in 0..classes.count() {
         let Some(found) = classes.representative(ClassNo(class_number(k)?)) else {

@@ -25,6 +25,10 @@ aggregate_number (g ∷ gs) (suc u) a = option_map (λ n. length g.aggs + n) (ag
 abbrev pub class_in : Classes → ℕ → ℕ → Option ℕ
 class_in c u a = option_and_then (λ (f : First). slice_get c.of.items (f.aggregate + a)) (slice_get c.firsts.items u)
 
+-- the number of classes
+abbrev pub class_count : Classes → ℕ
+class_count c = length c.representatives.items
+
 -- the aggregate that stands for a class, by its unit and its number there
 abbrev pub representative_in : Classes → ℕ → Option (UnitNo × AggId)
 representative_in c k = slice_get c.representatives.items k

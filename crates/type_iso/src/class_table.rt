@@ -1,5 +1,5 @@
-ghost use Rattle.std.specs.Prelude.{◌≡◌, length, option_map};
-ghost use Rattle.type_iso.specs.Classes.{class_in, representative_in};
+ghost use Rattle.std.specs.Prelude.{◌≡◌, option_map};
+ghost use Rattle.type_iso.specs.Classes.{class_count, class_in, representative_in};
 
 use cil_base::{AggId, UnitNo};
 use type_things::First;
@@ -19,7 +19,7 @@ pub struct Classes {
 impl Classes {
     /// The number of classes.
     pub fn count(&self) -> usize
-        ensures { result ≡ length self.now.representatives.items }
+        ensures { result ≡ class_count self.now }
     {
         self.representatives.len()
     }

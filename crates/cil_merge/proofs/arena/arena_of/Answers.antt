@@ -1,6 +1,8 @@
-use Rattle.std.proofs.Common.{List, map, ap, Global}
+use Rattle.std.proofs.Common.{List, map, ap, sym, subst, Global}
 use Rattle.std.specs.declared.vec.Vec.{Vec}
 use Rattle.cil_base.specs.declared.numbers.TypeId.{TypeId}
+use Rattle.type_iso.specs.Classes.{class_count}
+use Rattle.cil_merge.specs.Numbering.{AreRepresentatives}
 use Rattle.cil_merge.proofs.ClassLaws.{begun_kept, has_types}
 use Rattle.cil_merge.proofs.arena.arena_of.Goals as goal
 
@@ -11,4 +13,5 @@ complete_classes-requires c =
 pub returns : goal.returns
 returns c =
     has_types c.args.classes.now c.args.units.now c.map_units.new.graph c.complete_classes.new.graph (map (λ v. v.items) c.in_ok-types.types.items) (map (λ v. v.items) c.deref-3.result.now) c.deref-2.result.now
+    (subst (AreRepresentatives c.args.classes.now (class_count c.args.classes.now)) (sym c.deref-2.ensures.value) c.in_ok-stands.ensures)
     c.in_ok-types.ensures.types (ap (λ (vs : List (Vec TypeId Global)). map (λ v. v.items) vs) c.deref-3.ensures.value) c.in_ok-complete_classes.ensures.grows c.in_ok-complete_classes.ensures.classes
