@@ -1,3 +1,4 @@
 pub mod Firsts
 pub mod InOrder
+pub mod Links
 pub mod Places

@@ -1,3 +1,4 @@
+pub mod Linking
 pub mod Naming
 pub mod Refusals
 pub mod Units

@@ -1,4 +1,4 @@
-ghost use Rattle.std.specs.Prelude.{◌≡◌, ◌+◌, ◌<◌, ℕ, List, map, length, IfOk, OnOk, None, Some};
+ghost use Rattle.std.specs.Prelude.{◌≡◌, ◌+◌, ◌<◌, ℕ, List, map, length, IfOk, OnOk, None, Some, false};
 ghost use Rattle.std.specs.String.{string_bytes};
 ghost use Rattle.c_lexer.specs.Lexed.{IfRefused};
 ghost use Rattle.cil_tree.specs.Tree.{Program};
@@ -6,6 +6,8 @@ ghost use Rattle.cil_tree.specs.View.{program_of};
 ghost use Rattle.cil_tree.specs.Programs.{IsProgram, IsTextOf};
 ghost use Rattle.unit_merger.specs.Refusals.{IsUnitRefusal, IsMergeRefusal, KeepsFirst, PrintedIfLong, IfRefusal};
 ghost use Rattle.unit_merger.specs.Units.{AreGrammatical, AreMerged, IsRefusedAmong, IsUnitCause, over_limit};
+ghost use Rattle.unit_front.specs.Refusals.{IsFrontFault};
+ghost use Rattle.unit_merger.specs.Linking.{AreFronted, SaysFirst, SaysOfLinks};
 ghost use Rattle.unit_merger.specs.Naming.{IsNamed};
 
 use crate::pool::{begins, first_name};
@@ -58,6 +60,7 @@ pub fn units_text(
     ensures merged { IfOk result (λ _. AreMerged sources.now.units.items sources.now.over (map string_bytes files.now)) }
     ensures cause { IfRefused result (IsRefusedAmong sources.now.units.items sources.now.over (map string_bytes files.now)) }
     ensures printed { IfRefused result PrintedIfLong }
+    ensures links { SaysOfLinks common sources.now.units.items result }
     ensures first { KeepsFirst result names.old names.new }
 {
     let first = first_name(alloc, names)?;
@@ -70,7 +73,7 @@ pub fn units_text(
 
 /// The CIL program that translation units in memory become, of files of these names; it is refused as the text of `units_text` is.
 /// Own.
-#[tactic(auto, using(crate::proofs::InOrder::late))]
+#[tactic(auto, using(crate::proofs::InOrder::late, crate::proofs::Links::of_long))]
 pub fn units_program(
     alloc: Global,
     units: &[Bytes],
@@ -82,6 +85,7 @@ pub fn units_program(
     ensures merged { IfOk result (λ _. AreMerged units.now None (map string_bytes files.now)) }
     ensures cause { IfRefused result (IsRefusedAmong units.now None (map string_bytes files.now)) }
     ensures printed { IfRefused result PrintedIfLong }
+    ensures links { SaysOfLinks false units.now result }
 {
     let program = merged(alloc, units, None, files, false, names)?;
     let _ = units_printed(alloc, &program, units, files, names)?;
@@ -105,7 +109,7 @@ fn text_of_unit(
 }
 
 /// The text of the program that units of these files become.
-#[tactic(auto, using(crate::proofs::InOrder::late))]
+#[tactic(auto, using(crate::proofs::InOrder::late, crate::proofs::Links::of_printing))]
 fn text_of_units(
     alloc: Global,
     sources: &Sources,
@@ -118,6 +122,7 @@ fn text_of_units(
     ensures merged { IfOk result (λ _. AreMerged sources.now.units.items sources.now.over (map string_bytes files.now)) }
     ensures cause { IfRefused result (IsRefusedAmong sources.now.units.items sources.now.over (map string_bytes files.now)) }
     ensures printed { IfRefused result PrintedIfLong }
+    ensures links { SaysOfLinks common sources.now.units.items result }
 {
     let units = &sources.units;
     let program = merged(alloc, units, sources.over, files, common, names)?;
@@ -143,6 +148,7 @@ fn merged_unit(
 }
 
 /// The program that units of these files become; behind them one passes a limit where `over` has one.
+#[tactic(auto, using(crate::proofs::Links::of_first_stop))]
 fn merged(
     alloc: Global,
     units: &[Bytes],
@@ -155,6 +161,7 @@ fn merged(
     ensures merged { IfOk result (λ _. AreMerged units.now over (map string_bytes files.now)) }
     ensures cause { IfRefused result (IsRefusedAmong units.now over (map string_bytes files.now)) }
     ensures printed { IfRefused result PrintedIfLong }
+    ensures links { SaysOfLinks common units.now result }
 {
     match program_of_units(alloc, units, over, files, common, names) {
         Ok(program) => Ok(program),
@@ -187,7 +194,7 @@ fn program_of_unit(
 }
 
 /// The program that units of these files become, or their first fault.
-#[tactic(auto, using(crate::proofs::InOrder::late))]
+#[tactic(auto, using(crate::proofs::InOrder::late, crate::proofs::Links::linked, crate::proofs::Links::of_merge, crate::proofs::Links::of_front))]
 fn program_of_units(
     alloc: Global,
     units: &[Bytes],
@@ -198,6 +205,7 @@ fn program_of_units(
 ) -> Result<CilUnit, Stop>
     ensures merged { IfOk result (λ _. AreMerged units.now over (map string_bytes files.now)) }
     ensures cause { IfRefused result (IsRefusedAmong units.now over (map string_bytes files.now)) }
+    ensures links { SaysFirst common units.now result }
 {
     let mode = Mode {
         common,
@@ -212,7 +220,7 @@ fn program_of_units(
 }
 
 /// Each unit as a CIL program; it is refused at the first unit that has a fault.
-#[tactic(auto, using(crate::proofs::InOrder::none_yet))]
+#[tactic(auto, using(crate::proofs::InOrder::none_yet, crate::proofs::Links::none_fronted))]
 fn fronted(
     alloc: Global,
     units: &[Bytes],
@@ -223,6 +231,8 @@ fn fronted(
 ) -> Result<Vec<Fronted>, Stop>
     ensures merged { IfOk result (λ _. AreMerged units.now over (map string_bytes files.now)) }
     ensures cause { IfRefused result (IsRefusedAmong units.now over (map string_bytes files.now)) }
+    ensures fronted { IfOk result (λ fs. AreFronted (length units.now) fs.items) }
+    ensures early { IfRefused result (λ r. IsFrontFault r.fault) }
 {
     let mut done = Vec::new(alloc);
     for i in 0..units.len() {
@@ -250,6 +260,8 @@ fn add_front(
     requires before { AreGrammatical units.now (map string_bytes files.now) i }
     ensures grammatical { OnOk result (AreGrammatical units.now (map string_bytes files.now) (i + 1)) }
     ensures cause { IfRefused result (IsRefusedAmong units.now over (map string_bytes files.now)) }
+    ensures fronted { OnOk result (AreFronted i done.old.items → AreFronted (i + 1) done.new.items) }
+    ensures early { IfRefused result (λ r. IsFrontFault r.fault) }
 {
     let (unit, file) = named(i, files, names)?;
     let fronted = front(alloc, units[i].as_slice(), unit, file, names, mode.abi)?;

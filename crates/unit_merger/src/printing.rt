@@ -1,4 +1,6 @@
 ghost use Rattle.std.specs.Prelude.{◌≡◌, ◌≤◌, ◌<◌, length, MatchOption, IfOk, OnOk};
+ghost use Rattle.cil_base.specs.declared.faults.Fault.TheVariants.{Limit};
+ghost use Rattle.cil_base.specs.declared.faults.What.TheVariants.{PrintedBytes};
 ghost use Rattle.c_lexer.specs.Lexed.{IfRefused};
 ghost use Rattle.cil_tree.specs.Tree.{Program};
 ghost use Rattle.cil_tree.specs.Text.{Text};
@@ -99,6 +101,7 @@ pub(crate) fn units_printed(
     ensures program { OnOk result (IsProgram (program_of names.new program.now)) }
     ensures refused { IfRefused result (IsMergeRefusal (length files.now) (length names.new)) }
     ensures late { IfRefused result (λ r. IsLateFault r.fault) }
+    ensures long { IfRefused result (λ r. r.fault ≡ Limit PrintedBytes) }
     ensures printed { IfRefused result PrintedIfLong }
 {
     match printed(program, names)? {

@@ -89,6 +89,7 @@ pub(crate) fn of_units(refusal: Refusal, units: usize, names: &NamePool) -> Stop
     ensures printed { IfRefusal result PrintedIfLong }
     ensures refused { IfRefusal result (IsMergeRefusal units (length names.now)) }
     ensures same { IfRefusal result (λ r. r ≡ refusal) }
+    ensures short { IfRefusal result (λ r. r.fault ≢ Limit PrintedBytes) }
 {
     if is_merge_fault(&refusal.fault)
         && is_within(&refusal.at, units, names)
@@ -116,7 +117,8 @@ fn is_link_fault(fault: &Fault) -> bool
 
 /// What is answered where units cannot be linked.
 pub(crate) fn of_link(refusal: Refusal) -> Stop
-    ensures { IfRefusal result (λ r. IsLateFault r.fault) }
+    ensures late { IfRefusal result (λ r. IsLateFault r.fault) }
+    ensures same { IfRefusal result (λ r. r ≡ refusal) }
 {
     if is_link_fault(&refusal.fault) {
         Stop::Refused(refusal)
@@ -131,6 +133,7 @@ pub(crate) fn too_long(at: Place, names: &NamePool) -> Stop
     requires { IsTooLong at }
     ensures cause { (t : Lexed) → IfRefusal result (IsUnitCause t) }
     ensures late { IfRefusal result (λ r. IsLateFault r.fault) }
+    ensures long { IfRefusal result (λ r. r.fault ≡ Limit PrintedBytes) }
     ensures printed { IfRefusal result PrintedIfLong }
     ensures unit { IfRefusal result (IsUnitRefusal (length names.now)) }
     ensures refused { (units : ℕ) → 0 < units → IfRefusal result (IsMergeRefusal units (length names.now)) }

@@ -1,7 +1,8 @@
 use Rattle.std.proofs.Common.{map}
 use Rattle.std.specs.String.{string_bytes}
 use Rattle.unit_merger.specs.Units.{AreGrammatical}
+use Rattle.unit_merger.specs.Linking.{AreFronted}
 use Rattle.unit_merger.proofs.merger.fronted.Given as goal
 
 abbrev pub invariant-loop-i : goal.invariant-loop-i
-invariant-loop-i l = AreGrammatical l.units (map string_bytes l.files) l.i
+invariant-loop-i l = AreGrammatical l.units (map string_bytes l.files) l.i × AreFronted l.i l.done.items
