@@ -169,7 +169,7 @@ fn name_locals(
 }
 
 /// Gives what a function declares its names.
-#[tactic(auto, using(crate::proofs::BodyLaws::body_named, crate::proofs::NamingLaws::stays_twice, crate::proofs::LocalLaws::table_stays))]
+#[tactic(auto, using(crate::proofs::BodyLaws::body_named, fresh_names::proofs::NamingLaws::stays_twice, crate::proofs::LocalLaws::table_stays))]
 fn name_body(
     alloc: Global,
     file: &mut FileNames,
@@ -208,7 +208,7 @@ fn name_within(
 }
 
 /// Gives what the functions of a unit declare its names.
-#[tactic(auto, using(crate::proofs::EachLaws::none_yet, crate::proofs::BodyLaws::within_next, crate::proofs::EachLaws::each_of, crate::proofs::NamingLaws::stays_twice))]
+#[tactic(auto, using(crate::proofs::EachLaws::none_yet, crate::proofs::BodyLaws::within_next, crate::proofs::EachLaws::each_of, fresh_names::proofs::NamingLaws::stays_twice))]
 pub(crate) fn name_bodies(
     alloc: Global,
     file: &mut FileNames,

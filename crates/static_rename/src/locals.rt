@@ -140,7 +140,7 @@ impl FunctionNames {
     }
 
     /// The name that a parameter or object gets.
-    #[tactic(auto, using(crate::proofs::LocalLaws::local_kept, crate::proofs::NamingLaws::again_given))]
+    #[tactic(auto, using(crate::proofs::LocalLaws::local_kept, fresh_names::proofs::NamingLaws::again_given))]
     fn give(
         &mut self,
         file: &mut FileNames,

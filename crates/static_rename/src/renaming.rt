@@ -54,7 +54,7 @@ fn name_unit(
 }
 
 /// Gives what all units declare its names.
-#[tactic(auto, using(crate::proofs::EachLaws::none_yet, crate::proofs::UnitLaws::unit_next, crate::proofs::UnitLaws::units_of, crate::proofs::NamingLaws::stays_twice))]
+#[tactic(auto, using(crate::proofs::EachLaws::none_yet, crate::proofs::UnitLaws::unit_next, crate::proofs::UnitLaws::units_of, fresh_names::proofs::NamingLaws::stays_twice))]
 fn name_units(
     file: &mut FileNames,
     names: &mut NamePool,
