@@ -1,5 +1,5 @@
 -- Device: what is said of one file alone is said of the units that were asked for.
-use Rattle.std.proofs.Common.{◌≡◌, ◌≢◌, ℕ, ◌+◌, ◌<◌, ◌≤◌, nat_lt, if◌then◌else◌, List, [], ◌∷◌, map, length, drop, Option, Some, None, IfSome, slice_get, String, refl, sym, ap, subst, ◌∙◌, arith}
+use Rattle.std.proofs.Common.{◌≡◌, ◌≢◌, ℕ, Bool, ◌+◌, ◌<◌, ◌≤◌, nat_lt, if◌then◌else◌, List, [], ◌∷◌, map, length, drop, Option, Some, None, IfSome, slice_get, String, refl, sym, ap, subst, ◌∙◌, arith}
 use Rattle.std.proofs.lemmas.Bool.{le-ltb, lt-ltb}
 use Rattle.std.specs.Global.{Global}
 use Rattle.std.specs.Option.{option_map, option_and_then}
@@ -27,7 +27,7 @@ use Rattle.cil_lines.specs.declared.status.Status.TheVariants.{Done, Exited, Sti
 use Rattle.cil_commands.specs.Execute.{IsRunAnswer}
 use Rattle.cil_commands.specs.Grammatical.{AreTokens, IsGrammatical}
 use Rattle.cil_commands.specs.Merge.{file_under, too_large, IsNoGrammar, Large, OfToken, OfGrammar, IsRefused, NoGrammar, OfUnit, IfRefused}
-use Rattle.cil_commands.specs.Several.{SaysOfKept, SaysOfUnits}
+use Rattle.cil_commands.specs.Several.{SaysOfKept, SaysOfUnits, SaysOfLinks, LinksSay}
 
 -- one unit is kept where it is small enough
 
@@ -137,6 +137,16 @@ pub says_read : (asked : Option (List (List ℕ))) (kept_units : List (List ℕ)
     → IfSome asked (λ units. SaysOfUnits units files status)
 says_read None kept_units over files status read says = tt
 says_read (Some units) kept_units over files status read says = kept_by_read units kept_units over files status read.0 read.1 says
+
+-- the same of their links
+pub links_read : (asked : Option (List (List ℕ))) (kept_units : List (List ℕ)) (over : Option What) (common : Bool) (status : Status) → IfSome asked (λ units. (kept_units ≡ (kept 0 units).units) × (over ≡ (kept 0 units).over)) → SaysOfLinks common kept_units status
+    → IfSome asked (λ units. SaysOfLinks common (kept 0 units).units status)
+links_read None kept_units over common status read says = tt
+links_read (Some units) kept_units over common status read says = subst (λ us. SaysOfLinks common us status) read.0 says
+
+-- fewer than two files have no links
+pub few_links : (told : Option Told) (words files : List (List ℕ)) (status : Status) → merged_files words ≡ files → length files ≤ 1 → LinksSay told words status
+few_links told words files status are few several = let none : ⊥ = omega (arith, few, subst (λ (fs : List (List ℕ)). 1 < length fs) are several) in absurd none
 
 -- a command that merges nothing
 says_none : (status : Status) → IfRefused status (λ refusal. ⊥) → SaysOfUnits [] [] status

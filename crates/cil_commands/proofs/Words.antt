@@ -8,13 +8,14 @@ use Rattle.std.specs.Str.{bytes_eq}
 use Rattle.std.specs.String.{string_bytes}
 use Rattle.std.proofs.lemmas.Option.{slice_get-map, slice_get-get_or}
 use Rattle.outside.specs.Named.{Told}
-use Rattle.cil_words.specs.Command.{command_of, command_in, merge_of, are_files, merged_file, merged_files, files_of, files_by, alone, run_of, run_bounded_of, sample_of, sample_by, sample_in, sample_asked, seed_of, units_of, steps_of, are_words, names_file, file_position, merged_position, run_position, bound_of, file_of, run_file, steps_asked, words_given}
+use Rattle.cil_words.specs.Command.{command_of, command_in, merge_of, are_files, merged_file, merged_files, files_of, files_by, alone, run_of, run_bounded_of, sample_of, sample_by, sample_in, sample_asked, seed_of, units_of, steps_of, are_words, names_file, file_position, merged_position, run_position, bound_of, is_common, file_of, run_file, steps_asked, words_given}
 use Rattle.cil_commands.specs.Execute.{RunSays}
 use Rattle.cil_sources.specs.Files.{bytes_under, found_all, all_under}
 use Rattle.outside.specs.Named.{find_file}
 use Rattle.cil_commands.specs.Merge.{unit_asked, file_under, IsRefused, IfRefused}
 use Rattle.cil_lines.specs.Messages.{HasFiles}
 use Rattle.cil_commands.specs.Messages.{names_asked, Begins, AreNames}
+use Rattle.cil_commands.specs.Several.{common_asked}
 use Rattle.cil_words.specs.declared.command.Command.{Command}
 use Rattle.cil_words.specs.declared.command.Command.TheVariants.{Merge, Run, Sample}
 use Rattle.cil_lines.specs.declared.status.Status.{Status}
@@ -135,8 +136,14 @@ merged_alone words common first d is last = merged_several words common first is
 pub merged_by_run : (words : List (List ℕ)) (steps file : ℕ) → command_of words ≡ Some (Run steps file) → merged_files words ≡ []
 merged_by_run words steps file is = ap (λ command. unwrap_or (option_map (λ at. drop at words) (option_and_then merged_position command)) []) is
 
+pub merged_by_sample : (words : List (List ℕ)) (seed units : ℕ) → command_of words ≡ Some (Sample seed units) → merged_files words ≡ []
+merged_by_sample words seed units is = ap (λ command. unwrap_or (option_map (λ at. drop at words) (option_and_then merged_position command)) []) is
+
 pub merged_by_none : (words : List (List ℕ)) → command_of words ≡ None → merged_files words ≡ []
 merged_by_none words is = ap (λ command. unwrap_or (option_map (λ at. drop at words) (option_and_then merged_position command)) []) is
+
+pub common_is : (words : List (String Global)) (common : Bool) (first : ℕ) → command_of (map string_bytes words) ≡ Some (Merge common first) → common_asked (map string_bytes words) ≡ common
+common_is words common first is = ap (λ command. unwrap_or (option_map is_common command) false) is
 
 -- several files are no unit alone
 two_left : (names : List (List ℕ)) → length names ≢ 1 → alone names ≡ None

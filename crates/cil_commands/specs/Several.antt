@@ -1,8 +1,13 @@
 -- Definition: what `merge` says of the units that it is asked for, in their order (own).
-use Rattle.std.specs.Prelude.{ℕ, List, Option}
+use Rattle.std.specs.Prelude.{ℕ, ◌<◌, Bool, false, List, length, Option, unwrap_or, IfSome}
+use Rattle.std.specs.Option.{option_map}
 use Rattle.cil_base.specs.declared.faults.What.{What}
+use Rattle.outside.specs.Named.{Told}
 use Rattle.unit_merger.specs.Units.{AreMerged, IsRefusedAmong}
+use Rattle.unit_merger.specs.Linking.{AreLinked, LateSays}
+use Rattle.cil_sources.specs.Files.{all_under}
 use Rattle.cil_sources.specs.Units.{kept}
+use Rattle.cil_words.specs.Command.{command_of, is_common, merged_files}
 use Rattle.cil_lines.specs.declared.status.Status.{Status}
 use Rattle.cil_lines.specs.declared.status.Status.TheVariants.{Done, Refused, WriteFault}
 
@@ -16,3 +21,18 @@ SaysOfKept units over files _ = Unit {0}
 -- what it says of the bytes of the files
 abbrev pub SaysOfUnits : List (List ℕ) → List (List ℕ) → Status → Type 0
 SaysOfUnits units files status = SaysOfKept (kept 0 units).units (kept 0 units).over files status
+
+-- what a status says of the links of units: where a text is written they are linked, and a refusal that is found behind all is the one that their links ask for
+abbrev pub SaysOfLinks : Bool → List (List ℕ) → Status → Type 0
+SaysOfLinks common units Done = AreLinked common units
+SaysOfLinks common units WriteFault = AreLinked common units
+SaysOfLinks common units (Refused refusal) = LateSays common units refusal refusal.fault
+SaysOfLinks common units _ = Unit {0}
+
+-- whether tentative definitions of several units are one object in the merge that the words ask for
+abbrev pub common_asked : List (List ℕ) → Bool
+common_asked words = unwrap_or (option_map is_common (command_of words)) false
+
+-- what it says of the links of the files that the words ask for, where there are several
+abbrev pub LinksSay : Option Told → List (List ℕ) → Status → Type 0
+LinksSay told words status = 1 < length (merged_files words) → IfSome (all_under told (merged_files words)) (λ units. SaysOfLinks (common_asked words) (kept 0 units).units status)

@@ -12,10 +12,11 @@ ghost use Rattle.outside.specs.Moves.{Began, Wrote};
 ghost use Rattle.outside.specs.Named.{find_file, names_of};
 ghost use Rattle.unit_merger.specs.Refusals.{IsMergeRefusal, KeepsFirst};
 ghost use Rattle.cil_sources.specs.Files.{bytes_under, all_under, found_all};
+ghost use Rattle.cil_sources.specs.Units.{kept};
 ghost use Rattle.cil_commands.specs.Grammatical.{AreTokens};
 ghost use Rattle.cil_commands.specs.Merge.{file_under, IsMergeAnswer, IsMergedTo, IsRefused, IfRefused};
 ghost use Rattle.cil_commands.specs.Merged.{file_in, IsAlone};
-ghost use Rattle.cil_commands.specs.Several.{SaysOfKept, SaysOfUnits};
+ghost use Rattle.cil_commands.specs.Several.{SaysOfKept, SaysOfUnits, SaysOfLinks};
 ghost use Rattle.cil_commands.specs.Small.{small};
 ghost use Rattle.cil_lines.specs.Messages.{HasFiles};
 ghost use Rattle.cil_commands.specs.Messages.{Begins};
@@ -181,6 +182,7 @@ fn merge_sources<O: Sink>(
     ensures kind { IsMergeAnswer (length asked.now) result }
     ensures files { HasFiles (length names.new) result }
     ensures units { SaysOfKept sources.now.units.items sources.now.over (map string_bytes asked.now) result }
+    ensures links { SaysOfLinks common sources.now.units.items result }
     ensures pool { result ≢ Status.Memory → (first : List ℕ) (more : List (List ℕ)) → names.old ≡ first ∷ more → (rest : List (List ℕ)) × (names.new ≡ first ∷ rest) }
     ensures done { result ≡ Status.Done → (p : Program) × IsTextOf (Text p) p × Wrote (O.taken out.old) (O.taken out.new) (Text p) }
     ensures part { result ≡ Status.WriteFault → (p : Program) × IsTextOf (Text p) p × Began (O.taken out.old) (O.taken out.new) (Text p) }
@@ -198,7 +200,7 @@ fn merge_sources<O: Sink>(
 }
 
 // Merges the files of these names, of which the first becomes the first name of the pool, and writes the text.
-#[tactic(auto, using(crate::proofs::Several::says_read))]
+#[tactic(auto, using(crate::proofs::Several::says_read, crate::proofs::Several::links_read))]
 pub fn merge_all<F: Files, O: Sink>(
     alloc: Global,
     asked: &[String],
@@ -213,6 +215,7 @@ pub fn merge_all<F: Files, O: Sink>(
     ensures names { result ≢ Status.Memory → (first : List ℕ) (more : List (List ℕ)) → map string_bytes asked.now ≡ first ∷ more → Begins (first ∷ []) names.new }
     ensures files { HasFiles (length names.new) result }
     ensures units { IfSome (all_under (F.told files.old) (map string_bytes asked.now)) (λ units. SaysOfUnits units (map string_bytes asked.now) result) }
+    ensures links { IfSome (all_under (F.told files.old) (map string_bytes asked.now)) (λ units. SaysOfLinks common (kept 0 units).units result) }
     ensures done { result ≡ Status.Done → (p : Program) × IsTextOf (Text p) p × Wrote (O.taken out.old) (O.taken out.new) (Text p) }
     ensures part { result ≡ Status.WriteFault → (p : Program) × IsTextOf (Text p) p × Began (O.taken out.old) (O.taken out.new) (Text p) }
     ensures idle { result ≢ Status.Done → result ≢ Status.WriteFault → out.new ≡ out.old }

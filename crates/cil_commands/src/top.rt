@@ -20,7 +20,7 @@ ghost use Rattle.cil_words.specs.Command.{command_of, files_of, merged_files, ru
 ghost use Rattle.cil_commands.specs.Execute.{text_asked, IsRunAnswer, IsEnd, RanAs, RunSays, AnswersAs};
 ghost use Rattle.cil_sources.specs.Files.{bytes_under, all_under, found_all};
 ghost use Rattle.cil_commands.specs.Merge.{unit_asked, IsMergeAnswer, IsMergedTo, IsNoGrammar, IsRefused, IsRefusedLike, IfRefused};
-ghost use Rattle.cil_commands.specs.Several.{SaysOfUnits};
+ghost use Rattle.cil_commands.specs.Several.{SaysOfUnits, LinksSay};
 ghost use Rattle.cil_lines.specs.Messages.{line_of, IsQuiet, HasFiles};
 ghost use Rattle.cil_commands.specs.Messages.{AreNames};
 ghost use Rattle.cil_lines.specs.Sent.{Sent};
@@ -84,6 +84,7 @@ pub fn cil<F: Files, I: Source, O: Sink, E: Sink>(
     ensures refused { IfSome (unit_asked (F.told files.old) (map string_bytes words.now)) (λ unit. IfRefused result (λ refusal. (names : List (List ℕ)) × IsRefused unit refusal names)) }
     ensures refuses { IfSome (unit_asked (F.told files.old) (map string_bytes words.now)) (λ unit. (refusal : Refusal) (names : List (List ℕ)) → IsNoGrammar unit refusal names → ¬ (Rose (F.faults files.old) (F.faults files.new)) → IsRefusedLike result refusal ⊎ (result ≡ Status.Memory)) }
     ensures units { sample_asked (map string_bytes words.now) ≡ None → IfSome (all_under (F.told files.old) (merged_files (map string_bytes words.now))) (λ units. SaysOfUnits units (merged_files (map string_bytes words.now)) result) }
+    ensures links { LinksSay (F.told files.old) (map string_bytes words.now) result }
 
     // Where a write failed, out took a front of the text of such a program.
     ensures part { run_file (map string_bytes words.now) ≡ None → sample_asked (map string_bytes words.now) ≡ None → result ≡ Status.WriteFault → (p : Program) × IsTextOf (Text p) p × Began (O.taken out.old) (O.taken out.new) (Text p) × IfSome (unit_asked (F.told files.old) (map string_bytes words.now)) (λ unit. IsMergedTo unit p) }
@@ -168,6 +169,7 @@ fn run_command<F: Files, I: Source, O: Sink>(
     ensures write { result ≡ Status.WriteFault → Rose (O.faults out.old) (O.faults out.new) }
     ensures write_told { result ≢ Status.WriteFault → O.faults out.new ≡ O.faults out.old }
     ensures units { sample_asked (map string_bytes words.now) ≡ None → IfSome (all_under (F.told files.old) (merged_files (map string_bytes words.now))) (λ units. SaysOfUnits units (merged_files (map string_bytes words.now)) result) }
+    ensures links { LinksSay (F.told files.old) (map string_bytes words.now) result }
     ensures part { run_file (map string_bytes words.now) ≡ None → sample_asked (map string_bytes words.now) ≡ None → result ≡ Status.WriteFault → (p : Program) × IsTextOf (Text p) p × Began (O.taken out.old) (O.taken out.new) (Text p) × IfSome (unit_asked (F.told files.old) (map string_bytes words.now)) (λ unit. IsMergedTo unit p) }
     ensures nothing_written { run_file (map string_bytes words.now) ≡ None → result ≢ Status.Done → result ≢ Status.WriteFault → out.new ≡ out.old }
     ensures nothing_read { result ≡ Status.Usage → files.new ≡ files.old }
@@ -214,6 +216,7 @@ fn sample_words<O: Sink>(
     ensures no_run { run_file (map string_bytes _words.now) ≡ None }
     ensures no_text { (told : Option Told) → text_asked told (map string_bytes _words.now) ≡ None }
     ensures no_file { files_of (map string_bytes _words.now) ≡ [] }
+    ensures links { (told : Option Told) → LinksSay told (map string_bytes _words.now) result }
     ensures no_read { result ≢ Status.ReadFault }
     ensures write { result ≡ Status.WriteFault → Rose (O.faults out.old) (O.faults out.new) }
     ensures write_told { result ≢ Status.WriteFault → O.faults out.new ≡ O.faults out.old }
@@ -244,6 +247,7 @@ fn merge_words<F: Files, O: Sink>(
     ensures refuses { IfSome (unit_asked (F.told files.old) (map string_bytes words.now)) (λ unit. (refusal : Refusal) (names : List (List ℕ)) → IsNoGrammar unit refusal names → ¬ (Rose (F.faults files.old) (F.faults files.new)) → IsRefusedLike result refusal ⊎ (result ≡ Status.Memory)) }
     ensures refused { IfSome (unit_asked (F.told files.old) (map string_bytes words.now)) (λ unit. IfRefused result (λ refusal. (others : List (List ℕ)) × IsRefused unit refusal others)) }
     ensures units { IfSome (all_under (F.told files.old) (merged_files (map string_bytes words.now))) (λ units. SaysOfUnits units (merged_files (map string_bytes words.now)) result) }
+    ensures links { LinksSay (F.told files.old) (map string_bytes words.now) result }
     ensures part { result ≡ Status.WriteFault → (p : Program) × IsTextOf (Text p) p × Began (O.taken out.old) (O.taken out.new) (Text p) × IfSome (unit_asked (F.told files.old) (map string_bytes words.now)) (λ unit. IsMergedTo unit p) }
     ensures read { result ≡ Status.ReadFault → Rose (F.faults files.old) (F.faults files.new) }
     ensures read_told { result ≢ Status.ReadFault → F.faults files.new ≡ F.faults files.old }
@@ -285,6 +289,7 @@ fn merge_alone<F: Files, O: Sink>(
     ensures refuses { IfSome (unit_asked (F.told files.old) (map string_bytes words.now)) (λ unit. (refusal : Refusal) (names : List (List ℕ)) → IsNoGrammar unit refusal names → ¬ (Rose (F.faults files.old) (F.faults files.new)) → IsRefusedLike result refusal ⊎ (result ≡ Status.Memory)) }
     ensures refused { IfSome (unit_asked (F.told files.old) (map string_bytes words.now)) (λ unit. IfRefused result (λ refusal. (others : List (List ℕ)) × IsRefused unit refusal others)) }
     ensures units { IfSome (all_under (F.told files.old) (merged_files (map string_bytes words.now))) (λ units. SaysOfUnits units (merged_files (map string_bytes words.now)) result) }
+    ensures links { LinksSay (F.told files.old) (map string_bytes words.now) result }
     ensures part { result ≡ Status.WriteFault → (p : Program) × IsTextOf (Text p) p × Began (O.taken out.old) (O.taken out.new) (Text p) × IfSome (unit_asked (F.told files.old) (map string_bytes words.now)) (λ unit. IsMergedTo unit p) }
     ensures read { result ≡ Status.ReadFault → Rose (F.faults files.old) (F.faults files.new) }
     ensures read_told { result ≢ Status.ReadFault → F.faults files.new ≡ F.faults files.old }
@@ -322,6 +327,7 @@ fn merge_several<F: Files, O: Sink>(
     ensures refuses { IfSome (unit_asked (F.told files.old) (map string_bytes words.now)) (λ unit. (refusal : Refusal) (names : List (List ℕ)) → IsNoGrammar unit refusal names → ¬ (Rose (F.faults files.old) (F.faults files.new)) → IsRefusedLike result refusal ⊎ (result ≡ Status.Memory)) }
     ensures refused { IfSome (unit_asked (F.told files.old) (map string_bytes words.now)) (λ unit. IfRefused result (λ refusal. (others : List (List ℕ)) × IsRefused unit refusal others)) }
     ensures units { IfSome (all_under (F.told files.old) (merged_files (map string_bytes words.now))) (λ units. SaysOfUnits units (merged_files (map string_bytes words.now)) result) }
+    ensures links { LinksSay (F.told files.old) (map string_bytes words.now) result }
     ensures part { result ≡ Status.WriteFault → (p : Program) × IsTextOf (Text p) p × Began (O.taken out.old) (O.taken out.new) (Text p) × IfSome (unit_asked (F.told files.old) (map string_bytes words.now)) (λ unit. IsMergedTo unit p) }
     ensures read { result ≡ Status.ReadFault → Rose (F.faults files.old) (F.faults files.new) }
     ensures read_told { result ≢ Status.ReadFault → F.faults files.new ≡ F.faults files.old }
@@ -356,6 +362,7 @@ fn run_words<F: Files, I: Source, O: Sink>(
     ensures files { HasFiles (length names.new) result }
     ensures named { IsSome (run_file (map string_bytes words.now)) }
     ensures units { IfSome (all_under (F.told files.old) (merged_files (map string_bytes words.now))) (λ units. SaysOfUnits units (merged_files (map string_bytes words.now)) result) }
+    ensures links { LinksSay (F.told files.old) (map string_bytes words.now) result }
     ensures ran { IfSome (run_file (map string_bytes words.now)) (λ name. RunSays ((input.new ≡ input.old) × (out.new ≡ out.old)) (Rose (F.faults files.old) (F.faults files.new)) ((F.faults files.new ≡ F.faults files.old) × Rose (I.faults input.old) (I.faults input.new)) (bytes_under (F.told files.old) name) (words_given (map string_bytes words.now)) (steps_asked (map string_bytes words.now)) result (I.left input.old) (I.left input.new) (O.taken out.old) (O.taken out.new)) }
     ensures read { result ≡ Status.ReadFault → Rose (F.faults files.old) (F.faults files.new) ⊎ (IsSome (run_file (map string_bytes words.now)) × Rose (I.faults input.old) (I.faults input.new)) }
     ensures read_told { result ≢ Status.ReadFault → F.faults files.new ≡ F.faults files.old }

@@ -1,10 +1,10 @@
-use Rattle.std.proofs.Common.{◌≡◌, ◌∷◌, [], ◌∙◌, ap, sym, subst, map, get_or, length, List, ℕ, ◌⊎◌}
+use Rattle.std.proofs.Common.{◌≡◌, ◌∷◌, [], ◌∙◌, ap, sym, subst, map, get_or, length, List, ℕ, ◌⊎◌, arith}
 use Rattle.std.specs.String.{string_bytes}
 use Rattle.cil_words.specs.Command.{files_of, merged_files}
 use Rattle.cil_lines.specs.declared.status.Status.TheVariants.{ReadFault, Memory}
 use Rattle.cil_commands.specs.Merge.{unit_asked, file_under, IsMergeAnswer}
 use Rattle.cil_commands.proofs.Answered.{accepted_by, refuses_by, refused_by, unit_of_merged}
-use Rattle.cil_commands.proofs.Several.{says_alone}
+use Rattle.cil_commands.proofs.Several.{says_alone, few_links}
 use Rattle.cil_commands.proofs.Words.{unit_asked_is, merge_file_is, merge_file_alone, merged_alone, one_missing, one_stray, if_some_by, names_begin}
 use Rattle.cil_commands.proofs.top.merge_alone.Goals as goal
 
@@ -66,3 +66,8 @@ returns-clause-units g c =
     (λ s. unit_of_merged (file_under (g.F.Files.told c.args.files.now) c.as_str.result.now) (c.merge.ensures.done s).0 (c.merge.ensures.done s).3)
     (λ s. unit_of_merged (file_under (g.F.Files.told c.args.files.now) c.as_str.result.now) (c.merge.ensures.part s).0 (c.merge.ensures.part s).3)
     c.merge.ensures.refused
+
+pub returns-clause-links : goal.returns-clause-links
+returns-clause-links g c =
+    few_links (g.F.Files.told c.args.files.now) (map string_bytes c.args.words.now) (string_bytes (get_or c.args.words.now c.args.first c.index-words-first.result) ∷ []) c.merge.result
+    (merged_alone c.args.words.now c.args._common c.args.first c.index-words-first.result c.requires.command c.requires.last) (omega arith)

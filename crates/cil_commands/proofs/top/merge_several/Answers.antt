@@ -1,12 +1,13 @@
 use Rattle.std.proofs.Common.{◌≡◌, ◌<◌, ◌∷◌, [], ◌⊎◌, ◌∙◌, ap, sym, subst, map, length, arith, rules, IfSome, None, List, ℕ, drop}
 use Rattle.std.specs.String.{string_bytes}
 use Rattle.std.proofs.lemmas.List.{take_rest, length-drop}
-use Rattle.cil_words.specs.Command.{files_of}
+use Rattle.cil_words.specs.Command.{files_of, merged_files}
 use Rattle.cil_sources.specs.Files.{found_all, all_under}
+use Rattle.cil_sources.specs.Units.{kept}
 use Rattle.cil_lines.specs.declared.status.Status.TheVariants.{ReadFault, Memory}
 use Rattle.cil_commands.specs.Merge.{unit_asked}
-use Rattle.cil_commands.specs.Several.{SaysOfUnits}
-use Rattle.cil_commands.proofs.Words.{merge_within, merge_files_are, merged_several, several_asked, several_begin, if_some_by}
+use Rattle.cil_commands.specs.Several.{SaysOfUnits, SaysOfLinks}
+use Rattle.cil_commands.proofs.Words.{merge_within, merge_files_are, merged_several, common_is, several_asked, several_begin, if_some_by}
 use Rattle.cil_commands.proofs.top.merge_several.Goals as goal
 
 pub slice_bounds-merge_all-count : goal.slice_bounds-merge_all-count
@@ -61,3 +62,10 @@ pub returns-clause-units : goal.returns-clause-units
 returns-clause-units g c =
     subst (λ ns. IfSome (all_under (g.F.Files.told c.args.files.now) ns) (λ units. SaysOfUnits units ns c.merge_all.result))
     (ap (map string_bytes) (take_rest c.args.words.now c.args.first) ∙ sym (merged_several c.args.words.now c.args.common c.args.first c.requires.command)) c.merge_all.ensures.units
+
+pub returns-clause-links : goal.returns-clause-links
+returns-clause-links g c = λ several.
+    (subst (λ common. IfSome (all_under (g.F.Files.told c.args.files.now) (merged_files (map string_bytes c.args.words.now))) (λ units. SaysOfLinks common (kept 0 units).units c.merge_all.result))
+    (sym (common_is c.args.words.now c.args.common c.args.first c.requires.command))
+    (subst (λ ns. IfSome (all_under (g.F.Files.told c.args.files.now) ns) (λ units. SaysOfLinks c.args.common (kept 0 units).units c.merge_all.result))
+    (ap (map string_bytes) (take_rest c.args.words.now c.args.first) ∙ sym (merged_several c.args.words.now c.args.common c.args.first c.requires.command)) c.merge_all.ensures.links))

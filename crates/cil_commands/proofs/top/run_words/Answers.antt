@@ -5,7 +5,7 @@ use Rattle.cil_words.specs.Command.{files_of}
 use Rattle.cil_lines.specs.declared.status.Status.TheVariants.{ReadFault, Memory}
 use Rattle.cil_commands.proofs.Ran.{run_kind, run_files, read_failed}
 use Rattle.cil_commands.proofs.Words.{run_within, run_file_is, run_files_are, run_is_asked, asked_run, one_missing, one_stray, run_names}
-use Rattle.cil_commands.proofs.Several.{says_other, run_not_refused}
+use Rattle.cil_commands.proofs.Several.{says_other, run_not_refused, few_links}
 use Rattle.cil_commands.proofs.Words.{merged_by_run}
 use Rattle.cil_commands.proofs.top.run_words.Goals as goal
 
@@ -58,3 +58,7 @@ bounds-words-file g c = run_within c.args.words.now c.args.steps c.args.file c.r
 pub returns-clause-units : goal.returns-clause-units
 returns-clause-units g c =
     says_other (g.F.Files.told c.args.files.now) (map string_bytes c.args.words.now) c.execute.result (merged_by_run (map string_bytes c.args.words.now) c.args.steps c.args.file c.requires.command) (run_not_refused c.execute.result (returns-clause-kind g c))
+
+pub returns-clause-links : goal.returns-clause-links
+returns-clause-links g c =
+    few_links (g.F.Files.told c.args.files.now) (map string_bytes c.args.words.now) [] c.execute.result (merged_by_run (map string_bytes c.args.words.now) c.args.steps c.args.file c.requires.command) (omega arith)

@@ -1,6 +1,8 @@
-use Rattle.std.proofs.Common.{map}
+use Rattle.std.proofs.Common.{[], map, arith}
 use Rattle.std.specs.String.{string_bytes}
 use Rattle.cil_commands.proofs.Samples.{sample_answer, sample_usage, sample_names, sample_says, is_asked_for, no_unit, no_run, no_text, no_file, no_read}
+use Rattle.cil_commands.proofs.Several.{few_links}
+use Rattle.cil_commands.proofs.Words.{merged_by_sample}
 use Rattle.cil_commands.proofs.top.sample_words.Goals as goal
 
 pub returns-clause-kind : goal.returns-clause-kind
@@ -32,3 +34,7 @@ returns-clause-no_file g c = no_file (map string_bytes c.args._words.now) c.args
 
 pub returns-clause-no_read : goal.returns-clause-no_read
 returns-clause-no_read g c = no_read c.args.units c.sample.result _ _ c.sample.ensures.says
+
+pub returns-clause-links : goal.returns-clause-links
+returns-clause-links g c = λ told.
+    few_links told (map string_bytes c.args._words.now) [] c.sample.result (merged_by_sample (map string_bytes c.args._words.now) c.args.seed c.args.units c.requires.command) (omega arith)
