@@ -59,8 +59,8 @@ for units in 100 500 1000; do
     printf '%6s %9s %7s %11s %9s %9s %9s\n' $units "$seconds" "$ratio" "$room" "${gcc% *}" "${tcc% *}" "${frama% *}"
     [ $units -eq 1000 ] && above "$ratio" 2.1 && complain "1,000 units take more than 2.1 times the seconds of 500"
     above "$room" 80000000 && complain "$units units take more than 80,000,000 bytes"
-    [ "$tcc" = - ] || above "$seconds" "$(awk -v a="${tcc% *}" 'BEGIN { print 5 * a }')" && complain "$units units take more than 5 times the seconds of tcc"
-    [ "$frama" = - ] || above "$(awk -v a="$seconds" 'BEGIN { print 15 * a }')" "${frama% *}" && complain "$units units take more than a fifteenth of the seconds of Frama-C"
+    [ "$tcc" != - ] && above "$seconds" "$(awk -v a="${tcc% *}" 'BEGIN { print 5 * a }')" && complain "$units units take more than 5 times the seconds of tcc"
+    [ "$frama" != - ] && above "$(awk -v a="$seconds" 'BEGIN { print 15 * a }')" "${frama% *}" && complain "$units units take more than a fifteenth of the seconds of Frama-C"
     before=$seconds
 done
 exit $status
