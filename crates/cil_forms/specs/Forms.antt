@@ -1,10 +1,7 @@
 -- Device: what stands next in a line, by the code's steps.
-use Rattle.std.specs.Prelude.{ℕ, Bool, true, false, if◌then◌else◌, List, [], ◌∷◌, Option, Some, None, negsuc}
-use Rattle.cil_base.specs.declared.kinds.IntKind.{IntKind}
+use Rattle.std.specs.Prelude.{Bool, true, false, List, [], ◌∷◌, Option, Some, None}
 use Rattle.cil_text.specs.Words.{Word, RightParen, RightBracket, LeftBrace, RightBrace, Comma, Semicolon, Colon, Assign, VoidWord, IfWord, SwitchWord, WhileWord, CaseWord, DefaultWord, GotoWord, BreakWord, ReturnWord}
-use Rattle.cil_text.specs.ReadTypes.{skip_one}
 use Rattle.cil_text.specs.ReadExps.{Form, Negated, Complemented, Denied, Addressed, Pointed, Converted, Combined}
-use Rattle.cil_text.specs.ReadStmts.{Numbered, is_minus, negated}
 use Rattle.cil_forms.specs.declared.ahead.Form.{Form as SeenForm}
 use Rattle.cil_forms.specs.declared.ahead.Form.TheVariants as form
 
@@ -54,10 +51,6 @@ behind_item _ = None
 abbrev pub is_comma : List Word → Bool
 is_comma (Comma ∷ []) = true
 is_comma _ = false
-
--- behind `- n`
-abbrev pub below_zero : IntKind → ℕ → List Word → Numbered × List Word
-below_zero kind n ws = if is_minus ws then ((kind, negsuc n), skip_one (skip_one ws)) else ((kind, negated n), ws)
 
 -- the end of a line that opens a block behind an expression
 abbrev pub ends_opening : List Word → Bool

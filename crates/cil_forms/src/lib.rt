@@ -1,14 +1,13 @@
 //! What stands next in a line of a CIL text, and what the line is, by its words alone.
 //!
-//! Its public contract says of each call that it answers what the reading does: whether a form stands in front, what
-//! stands behind it, and which value a number with its sign has; and what a line declares, defines, opens or closes.
+//! Its public contract says of each call that it answers what the reading does: whether a form stands in front, and
+//! what stands behind it; and what a line declares, defines, opens or closes.
 //!
 //! The forms are those of C11 6.5 to 6.9, as a CIL text writes them.
 #![tactic(auto)]
 
 mod ahead;
 mod line_kinds;
-mod numbers;
 
 pub use ahead::{
     Form, assigned, behind_argument, behind_item, bracketed, closing, ends_case, ends_opening,
@@ -19,4 +18,3 @@ pub use line_kinds::{
     behind_address, declares, ends_open, is_block, is_called, is_close, is_jump, is_label, is_zero,
     label_text, lone_tag, next_name, opened_tag, storage,
 };
-pub use numbers::{Numbered, read_number};

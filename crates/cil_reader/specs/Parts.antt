@@ -17,10 +17,9 @@ use Rattle.cil_tree.specs.View.{exp_of, host_of, lval_of}
 use Rattle.cil_nodes.specs.Built.{part_of}
 use Rattle.cil_text.specs.Words.{Word, LeftBracket, Dot, Name}
 use Rattle.cil_text.specs.ReadTypes.{Reading, read_decl}
-use Rattle.cil_text.specs.ReadExps.{Env, pointee, moved_pointee, type_at_host, type_at_place, find_named, fields, type_of_named, in_brackets, exp_from, read_exp, read_offsets, Form}
+use Rattle.cil_text.specs.ReadExps.{Env, pointee, moved_pointee, type_at_host, type_at_place, find_named, fields, type_of_named, in_brackets, exp_from, read_exp, read_offsets}
 use Rattle.cil_reader.specs.declared.operands.Walk.{Walk}
 use Rattle.cil_scan.specs.Said.{all_said}
-use Rattle.cil_forms.specs.declared.ahead.Form.TheVariants as form
 use Rattle.cil_reader.specs.Settings.{type_in, TypeBelow}
 
 -- an expression with what it points to

@@ -20,7 +20,8 @@ use crate::names::Names;
 use crate::reader::Reader;
 use cil_base::{AggId, NamePool, TypeId};
 use cil_declarators::Stop;
-use cil_forms::{is_close, is_comma, is_end, lone_tag, opened_tag, read_number};
+use cil_forms::{is_close, is_comma, is_end, lone_tag, opened_tag};
+use cil_numbers::read_number;
 use cil_scan::Word;
 use type_graph::{AggKind, Member, QualType, Quals};
 

@@ -21,10 +21,10 @@ use crate::reader::Reader;
 use cil_base::LabelId;
 use cil_declarators::{Numbering, Stop};
 use cil_forms::{
-    Numbered, ends_case, ends_opening, is_block, is_end, is_end_of_line, is_jump, is_label,
-    label_text, read_number,
+    ends_case, ends_opening, is_block, is_end, is_end_of_line, is_jump, is_label, label_text,
 };
 use cil_nodes::{boxed_statement, case, goto, label, return_value};
+use cil_numbers::{Numbered, read_number};
 use cil_scan::Word;
 use cil_tree::{Exp, Stmt};
 

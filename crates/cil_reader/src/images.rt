@@ -14,7 +14,8 @@ use crate::reader::{Reader, Scalar};
 use crate::typed::read_typed;
 use cil_base::{BinOp, Constant, EntityId, IntKind, TypeId};
 use cil_declarators::Stop;
-use cil_forms::{assigned, behind_item, closing, is_brace, read_number, skip_one};
+use cil_forms::{assigned, behind_item, closing, is_brace, skip_one};
+use cil_numbers::read_number;
 use cil_scan::Word;
 use cil_tree::{Host, ImageItem, Step};
 

@@ -5,7 +5,7 @@ use Rattle.cil_base.specs.declared.operators.BinOp.TheVariants.{Sub}
 use Rattle.cil_text.specs.Words.{Word, Operator, Number}
 use Rattle.cil_text.specs.ReadTypes.{Reading, skip_one}
 use Rattle.cil_text.specs.ReadStmts.{Numbered, is_minus, negated, read_number}
-use Rattle.cil_forms.specs.Forms.{below_zero}
+use Rattle.cil_numbers.specs.Numbers.{below_zero}
 
 pub minus_is : (n : ℕ) → neg_ℤ (pos n) ≡ negated n
 minus_is zero = refl

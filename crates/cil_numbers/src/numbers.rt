@@ -1,10 +1,10 @@
 ghost use Rattle.std.specs.Prelude.{◌≡◌};
 ghost use Rattle.std.specs.Option.{option_map};
+ghost use Rattle.cil_text.specs.ReadTypes.{skip_one};
 ghost use Rattle.cil_text.specs.ReadStmts.{is_minus, read_number};
 ghost use Rattle.cil_scan.specs.Said.{all_said};
-ghost use Rattle.cil_forms.specs.Forms.{below_zero};
+ghost use Rattle.cil_numbers.specs.Numbers.{below_zero};
 
-use crate::ahead::skip_one;
 use cil_base::{BinOp, IntKind};
 use cil_scan::Word;
 
@@ -25,6 +25,17 @@ fn is_minus(words: &[Word]) -> bool
     }
 }
 
+/// What stands behind the first two words.
+fn behind_two<'w, 'a>(words: &'w [Word<'a>]) -> &'w [Word<'a>]
+    ensures { all_said result.now ≡ skip_one (skip_one (all_said words.now)) }
+{
+    match words {
+        [_, _, rest @ ..] => rest,
+        [_] => &[],
+        [] => words,
+    }
+}
+
 /// Behind `- n`: nothing, or the `- 1` of a kind's least value.
 #[tactic(auto, using(crate::proofs::NumberLaws::minus_is, crate::proofs::NumberLaws::least_is))]
 fn negative<'w, 'a>(kind: IntKind, n: u64, words: &'w [Word<'a>]) -> (Numbered, &'w [Word<'a>])
@@ -32,7 +43,7 @@ fn negative<'w, 'a>(kind: IntKind, n: u64, words: &'w [Word<'a>]) -> (Numbered, 
 {
     if is_minus(words) {
         let value = -1 - n as i128;
-        return (Numbered { kind, value }, skip_one(skip_one(words)));
+        return (Numbered { kind, value }, behind_two(words));
     }
     let value = -(n as i128);
     (Numbered { kind, value }, words)
