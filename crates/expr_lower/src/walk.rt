@@ -7,10 +7,10 @@ use cil_tree::{Callee, Exp, Lval, Stmt};
 use lower_parts::{
     Computing, FunctionOut, Kept, address_of, argument, before_effects, by_name, by_pointer,
     call_for_effect, call_for_value, called_by_name, choose, clear, compute, computes, constant_of,
-    converted, decayed, decide, element, element_at, element_of, impossible, is_part, is_void,
-    keep, left_place, left_value, member, member_of_value, named, old_value, part, part_type, read,
-    saved, short_circuit, short_circuit_effects, step, step_op, stepped, store, value_at, value_of,
-    variable,
+    converted_from, converted_operand, decayed, decide, element, element_at, element_of,
+    impossible, is_part, is_void, keep, left_place, left_value, member, member_of_value, named,
+    old_value, part, part_type, read, saved, short_circuit, short_circuit_effects, step, step_op,
+    stepped, store, value_at, value_of, variable,
 };
 use typed_tree::{InitStep, Path, StepForm, TypedExp, TypedInit, TypedNode};
 
@@ -46,31 +46,17 @@ pub fn value(f: &mut FunctionOut, e: &TypedExp, out: &mut Vec<Stmt>) -> Result<E
     ensures grows { OnOk result (Extends out.old.items out.new.items) }
 {
     match e.node() {
-        TypedNode::Integer(n) => {
-            let t = f.type_of(e)?;
-            constant_of(f, t, *n)
-        }
+        TypedNode::Integer(n) => integer(f, e, *n),
         TypedNode::Load(p) => {
             let place = place(f, p, out)?;
             Ok(read(place))
         }
-        TypedNode::Decay(p) => {
-            let place = place(f, p, out)?;
-            decayed(f, p, place)
-        }
-        TypedNode::Address(p) => {
-            let place = place(f, p, out)?;
-            Ok(address_of(f.alloc, place))
-        }
-        TypedNode::Member(of, _, i) => {
-            let x = value(f, of, out)?;
-            member_of_value(x, *i)
-        }
+        TypedNode::Decay(p) => decay(f, p, out),
+        TypedNode::Address(p) => address(f, p, out),
+        TypedNode::Member(of, _, i) => member_value(f, of, *i, out),
         TypedNode::Convert(a) => {
             let t = f.type_of(e)?;
-            let from = f.type_of(a)?;
-            let x = value(f, a, out)?;
-            converted(f.alloc, x, from, t)
+            conversion(f, a, t, out)
         }
         TypedNode::Unary(op, a) => {
             let x = operand(f, a, out)?;
@@ -96,14 +82,152 @@ pub fn value(f: &mut FunctionOut, e: &TypedExp, out: &mut Vec<Stmt>) -> Result<E
     }
 }
 
-/// The value of an operand, in its box.
+// A function makes room for all its arms each time it is entered. So that `value`, `place` and `operand`, which recur, need little, the arms that
+// hold a tree of their own stand in functions that are not put in line.
+
+/// The value of an integer constant.
+#[inline(never)]
+fn integer(f: &FunctionOut, e: &TypedExp, n: i128) -> Result<Exp, Memory> {
+    let t = f.type_of(e)?;
+    constant_of(f, t, n)
+}
+
+/// The pointer to which an array or a function decays.
+#[inline(never)]
+#[cycle(lower)]
+#[tactic(auto, using(lower_parts::proofs::CodeLaws::extends_twice, lower_parts::proofs::CodeLaws::extends_none))]
+fn decay(f: &mut FunctionOut, p: &TypedExp, out: &mut Vec<Stmt>) -> Result<Exp, Memory>
+    ensures grows { OnOk result (Extends out.old.items out.new.items) }
+{
+    let place = place(f, p, out)?;
+    decayed(f, p, place)
+}
+
+/// The address of a place or a function.
+#[inline(never)]
+#[cycle(lower)]
+#[tactic(auto, using(lower_parts::proofs::CodeLaws::extends_twice, lower_parts::proofs::CodeLaws::extends_none))]
+fn address(f: &mut FunctionOut, p: &TypedExp, out: &mut Vec<Stmt>) -> Result<Exp, Memory>
+    ensures grows { OnOk result (Extends out.old.items out.new.items) }
+{
+    let place = place(f, p, out)?;
+    Ok(address_of(f.alloc, place))
+}
+
+/// The value of a member of a value.
+#[inline(never)]
+#[cycle(lower)]
+#[tactic(auto, using(lower_parts::proofs::CodeLaws::extends_twice, lower_parts::proofs::CodeLaws::extends_none))]
+fn member_value(
+    f: &mut FunctionOut,
+    of: &TypedExp,
+    i: u32,
+    out: &mut Vec<Stmt>,
+) -> Result<Exp, Memory>
+    ensures grows { OnOk result (Extends out.old.items out.new.items) }
+{
+    let x = value(f, of, out)?;
+    member_of_value(x, i)
+}
+
+/// The value of an expression that is converted to a type.
+#[inline(never)]
+#[cycle(lower)]
+#[tactic(auto, using(lower_parts::proofs::CodeLaws::extends_twice, lower_parts::proofs::CodeLaws::extends_none))]
+fn conversion(
+    f: &mut FunctionOut,
+    e: &TypedExp,
+    to: TypeId,
+    out: &mut Vec<Stmt>,
+) -> Result<Exp, Memory>
+    ensures grows { OnOk result (Extends out.old.items out.new.items) }
+{
+    let from = f.type_of(e)?;
+    let x = operand(f, e, out)?;
+    Ok(converted_from(x, from, to))
+}
+
+/// The value of an integer constant, in its box.
+#[inline(never)]
+fn integer_operand(f: &FunctionOut, e: &TypedExp, n: i128) -> Result<Box<Exp>, Memory> {
+    let x = integer(f, e, n)?;
+    boxed(f.alloc, x)
+}
+
+/// The value of an operand, in its box. What stands most often in one is made there at once.
 #[cycle(lower)]
 #[tactic(auto, using(lower_parts::proofs::CodeLaws::extends_twice, lower_parts::proofs::CodeLaws::extends_none))]
 fn operand(f: &mut FunctionOut, e: &TypedExp, out: &mut Vec<Stmt>) -> Result<Box<Exp>, Memory>
     ensures grows { OnOk result (Extends out.old.items out.new.items) }
 {
+    match e.node() {
+        TypedNode::Integer(n) => integer_operand(f, e, *n),
+        TypedNode::Load(p) => operand_at(f, p, out),
+        TypedNode::Unary(op, a) => {
+            let x = operand(f, a, out)?;
+            boxed(f.alloc, unary(*op, x))
+        }
+        TypedNode::Binary(op, a, b) => {
+            let x = left(f, a, b, out)?;
+            let y = operand(f, b, out)?;
+            boxed(f.alloc, binary(*op, x, y))
+        }
+        TypedNode::Convert(a) => {
+            let t = f.type_of(e)?;
+            operand_in(f, a, t, out)
+        }
+        _ => any_operand(f, e, out),
+    }
+}
+
+/// The value of an operand that is converted to a type, in its box.
+#[inline(never)]
+#[cycle(lower)]
+#[tactic(auto, using(lower_parts::proofs::CodeLaws::extends_twice, lower_parts::proofs::CodeLaws::extends_none))]
+fn operand_in(
+    f: &mut FunctionOut,
+    e: &TypedExp,
+    to: TypeId,
+    out: &mut Vec<Stmt>,
+) -> Result<Box<Exp>, Memory>
+    ensures grows { OnOk result (Extends out.old.items out.new.items) }
+{
+    let from = f.type_of(e)?;
+    let x = operand(f, e, out)?;
+    converted_operand(f.alloc, x, from, to)
+}
+
+/// The value of any operand, in its box.
+#[inline(never)]
+#[cycle(lower)]
+#[tactic(auto, using(lower_parts::proofs::CodeLaws::extends_twice, lower_parts::proofs::CodeLaws::extends_none))]
+fn any_operand(f: &mut FunctionOut, e: &TypedExp, out: &mut Vec<Stmt>) -> Result<Box<Exp>, Memory>
+    ensures grows { OnOk result (Extends out.old.items out.new.items) }
+{
     let x = value(f, e, out)?;
     boxed(f.alloc, x)
+}
+
+/// The value of a place, in its box.
+#[cycle(lower)]
+#[tactic(auto, using(lower_parts::proofs::CodeLaws::extends_twice, lower_parts::proofs::CodeLaws::extends_none))]
+fn operand_at(f: &mut FunctionOut, p: &TypedExp, out: &mut Vec<Stmt>) -> Result<Box<Exp>, Memory>
+    ensures grows { OnOk result (Extends out.old.items out.new.items) }
+{
+    match p.node() {
+        TypedNode::Local(n) => {
+            let t = f.type_of(p)?;
+            f.local_operand(*n, t)
+        }
+        TypedNode::Entity(n) => {
+            let t = f.type_of(p)?;
+            f.global_operand(*n, t)
+        }
+        _ => {
+            let place = place(f, p, out)?;
+            boxed(f.alloc, read(place))
+        }
+    }
 }
 
 /// The value of a left operand, saved where the other operand has an effect.
@@ -117,7 +241,7 @@ fn left(
 ) -> Result<Box<Exp>, Memory>
     ensures grows { OnOk result (Extends out.old.items out.new.items) }
 {
-    let x = value(f, e, out)?;
+    let x = operand(f, e, out)?;
     left_value(f, e, x, later, out)
 }
 
@@ -296,8 +420,57 @@ fn values(
     Ok(done)
 }
 
-/// The place of an lvalue or a function, behind what is put at the end of the code. A member of a value stands in an object of its own,
-/// which the value is put into.
+/// The place of a compound literal, which is initialised.
+#[inline(never)]
+#[cycle(lower)]
+#[tactic(auto, using(lower_parts::proofs::CodeLaws::extends_twice, lower_parts::proofs::CodeLaws::extends_none))]
+fn literal_place(
+    f: &mut FunctionOut,
+    n: u32,
+    init: &TypedInit,
+    out: &mut Vec<Stmt>,
+) -> Result<Lval, Memory>
+    ensures grows { OnOk result (Extends out.old.items out.new.items) }
+{
+    let n = f.literal(n)?;
+    initialise(f, init, n, out)?;
+    Ok(variable(f.alloc, n))
+}
+
+/// What a pointer points to.
+#[inline(never)]
+#[cycle(lower)]
+#[tactic(auto, using(lower_parts::proofs::CodeLaws::extends_twice, lower_parts::proofs::CodeLaws::extends_none))]
+fn pointed(f: &mut FunctionOut, e: &TypedExp, out: &mut Vec<Stmt>) -> Result<Lval, Memory>
+    ensures grows { OnOk result (Extends out.old.items out.new.items) }
+{
+    let pointer = operand(f, e, out)?;
+    Ok(whole(f.alloc, at(pointer)))
+}
+
+/// The place of a member. That of a value stands in an object of its own, which the value is put into.
+#[inline(never)]
+#[cycle(lower)]
+#[tactic(auto, using(lower_parts::proofs::CodeLaws::extends_twice, lower_parts::proofs::CodeLaws::extends_none))]
+fn member_place(
+    f: &mut FunctionOut,
+    of: &TypedExp,
+    i: u32,
+    out: &mut Vec<Stmt>,
+) -> Result<Lval, Memory>
+    ensures grows { OnOk result (Extends out.old.items out.new.items) }
+{
+    if is_part(of) {
+        let p = place(f, of, out)?;
+        return member(p, i);
+    }
+    let x = value(f, of, out)?;
+    let t = f.type_of(of)?;
+    let n = saved(f, x, t, out)?;
+    member(variable(f.alloc, n), i)
+}
+
+/// The place of an lvalue or a function, behind what is put at the end of the code.
 #[cycle(lower)]
 #[tactic(auto, using(lower_parts::proofs::CodeLaws::extends_twice, lower_parts::proofs::CodeLaws::extends_none))]
 fn place(f: &mut FunctionOut, e: &TypedExp, out: &mut Vec<Stmt>) -> Result<Lval, Memory>
@@ -312,15 +485,8 @@ fn place(f: &mut FunctionOut, e: &TypedExp, out: &mut Vec<Stmt>) -> Result<Lval,
             let t = f.type_of(e)?;
             f.global_place(*n, t)
         }
-        TypedNode::Literal(n, init) => {
-            let n = f.literal(*n)?;
-            initialise(f, init, n, out)?;
-            Ok(variable(f.alloc, n))
-        }
-        TypedNode::Indirect(a) => {
-            let pointer = operand(f, a, out)?;
-            Ok(whole(f.alloc, at(pointer)))
-        }
+        TypedNode::Literal(n, init) => literal_place(f, *n, init, out),
+        TypedNode::Indirect(a) => pointed(f, a, out),
         TypedNode::Subscript(a, b) => match a.node() {
             TypedNode::Decay(array) => {
                 let p = place(f, array, out)?;
@@ -334,16 +500,7 @@ fn place(f: &mut FunctionOut, e: &TypedExp, out: &mut Vec<Stmt>) -> Result<Lval,
                 element_at(f.alloc, x, y)
             }
         },
-        TypedNode::Member(of, _, i) => {
-            if is_part(of) {
-                let p = place(f, of, out)?;
-                return member(p, *i);
-            }
-            let x = value(f, of, out)?;
-            let t = f.type_of(of)?;
-            let n = saved(f, x, t, out)?;
-            member(variable(f.alloc, n), *i)
-        }
+        TypedNode::Member(of, _, i) => member_place(f, of, *i, out),
         TypedNode::Integer(_)
         | TypedNode::Load(_)
         | TypedNode::Decay(_)
@@ -489,6 +646,7 @@ pub fn initialise(
 ) -> Result<(), Memory>
     ensures grows { OnOk result (Extends out.old.items out.new.items) }
 {
+    out.reserve(init.steps.len())?;
     for step in &init.steps {
         match step {
             InitStep::Zero(path) => clear(f.alloc, n, path.as_slice(), out)?,

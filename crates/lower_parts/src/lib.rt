@@ -22,7 +22,8 @@ pub use places::{
     member, member_of_value, named, part, part_type, read, saved, store, value_of, variable,
 };
 pub use results::{
-    Computing, choose, compute, computes, constant_of, converted, decide, old_value, short_circuit,
-    short_circuit_effects, step, step_op, stepped, value_at,
+    Computing, choose, compute, computes, constant_of, converted, converted_from,
+    converted_operand, decide, old_value, short_circuit, short_circuit_effects, step, step_op,
+    stepped, value_at,
 };
 pub use shapes::{element_of, impossible, is_void, param_of, result_of};

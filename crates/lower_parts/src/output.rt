@@ -1,7 +1,7 @@
 use crate::shapes::{impossible, pointer_to};
 use cil_base::{Bases, EntityId, LocalId, Memory, NameId, TypeId};
-use cil_nodes::{address, at, boxed, cast, whole};
-use cil_tree::{Host, Local, Lval};
+use cil_nodes::{address, at, boxed, cast, value, whole};
+use cil_tree::{Exp, Host, Local, Lval};
 use std::alloc::Global;
 use std::mem;
 use type_graph::TypeGraph;
@@ -131,6 +131,7 @@ impl FunctionOut {
     }
 
     /// The place of an object or function, printed with one type, at another: `* ( ( pointer to the other ) & it )`.
+    #[inline(never)]
     fn retyped(&mut self, host: Host, to: TypeId) -> Result<Lval, Memory> {
         let it = boxed(self.alloc, address(whole(self.alloc, host)))?;
         let pointer = pointer_to(&mut self.unit.graph, to)?;
@@ -155,5 +156,17 @@ impl FunctionOut {
         } else {
             self.retyped(host, t)
         }
+    }
+
+    /// The value of a parameter or a declared object, at the type that it has in an expression, in its box.
+    pub fn local_operand(&mut self, n: LocalId, t: TypeId) -> Result<Box<Exp>, Memory> {
+        let place = self.local_place(n, t)?;
+        boxed(self.alloc, value(place))
+    }
+
+    /// The value of an object with static storage duration, at the type that it has in an expression, in its box.
+    pub fn global_operand(&mut self, n: EntityId, t: TypeId) -> Result<Box<Exp>, Memory> {
+        let place = self.global_place(n, t)?;
+        boxed(self.alloc, value(place))
     }
 }

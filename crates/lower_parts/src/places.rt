@@ -183,18 +183,18 @@ pub fn left_place(
 pub fn left_value(
     f: &mut FunctionOut,
     e: &TypedExp,
-    x: Exp,
+    x: Box<Exp>,
     behind: &TypedExp,
     out: &mut Vec<Stmt>,
 ) -> Result<Box<Exp>, Memory>
-    ensures left { IfOk result (λ y. IsLeft behind.now.effect x out.old.items out.new.items y.value) }
+    ensures left { IfOk result (λ y. IsLeft behind.now.effect x.value out.old.items out.new.items y.value) }
     ensures grows { OnOk result (Extends out.old.items out.new.items) }
 {
     if !behind.has_effect() {
-        return boxed(f.alloc, x);
+        return Ok(x);
     }
     let t = f.type_of(e)?;
-    let n = saved(f, x, t, out)?;
+    let n = saved(f, Box::into_inner(x), t, out)?;
     boxed(f.alloc, value_of(f.alloc, n))
 }
 
@@ -270,12 +270,22 @@ fn step_into(alloc: Global, place: &mut Lval, step: Step) -> Result<(), Memory>
     }
 }
 
+/// The place of a local, with room for so many steps.
+fn variable_with_room(alloc: Global, n: LocalId, steps: usize) -> Result<Lval, Memory>
+    ensures { IfOk result (IsVariable n) }
+{
+    Ok(Lval {
+        host: Host::Var(n),
+        offsets: Vec::with_capacity(alloc, steps)?,
+    })
+}
+
 /// The part of a local to which a path leads.
 #[tactic(auto, using(crate::proofs::CodeLaws::begins, crate::proofs::CodeLaws::steps, crate::proofs::CodeLaws::arrives))]
 pub fn part(alloc: Global, n: LocalId, path: &[Step]) -> Result<Lval, Memory>
     ensures { IfOk result (IsPart n path.now) }
 {
-    let mut place = variable(alloc, n);
+    let mut place = variable_with_room(alloc, n, path.len())?;
     for step in path {
         step_into(alloc, &mut place, *step)?;
     }

@@ -31,6 +31,35 @@ pub fn converted(alloc: Global, x: Exp, from: TypeId, to: TypeId) -> Result<Exp,
     }
 }
 
+/// The value of an operand in another type, cast where the types differ.
+#[tactic(auto, using(crate::proofs::CodeLaws::converts_not, crate::proofs::CodeLaws::converts))]
+pub fn converted_from(x: Box<Exp>, from: TypeId, to: TypeId) -> Exp
+    ensures { IsConverted from to x.value result }
+{
+    if from == to {
+        Box::into_inner(x)
+    } else {
+        cast(to, x)
+    }
+}
+
+/// An operand in another type, in its box, cast where the types differ.
+#[tactic(auto, using(crate::proofs::CodeLaws::converts_not, crate::proofs::CodeLaws::converts))]
+pub fn converted_operand(
+    alloc: Global,
+    x: Box<Exp>,
+    from: TypeId,
+    to: TypeId,
+) -> Result<Box<Exp>, Memory>
+    ensures { IfOk result (λ y. IsConverted from to x.value y.value) }
+{
+    if from == to {
+        Ok(x)
+    } else {
+        boxed(alloc, cast(to, x))
+    }
+}
+
 /// The value that a kept place has (C11 6.3.2.1p2).
 pub fn value_at(alloc: Global, kept: Kept) -> Result<Exp, Memory> {
     Ok(read(named(alloc, kept)?))
