@@ -12,7 +12,7 @@ struct Row {
     told: &'static str,
 }
 
-const ROWS: [Row; 15] = [
+const ROWS: [Row; 16] = [
     Row {
         files: &[("a.c", b"")],
         words: &["merge", "a.c"],
@@ -53,6 +53,12 @@ const ROWS: [Row; 15] = [
         files: &[("a.c", b"int n;"), ("b.c", b"int n;")],
         words: &["merge", "a.c", "b.c"],
         told: "cil: b.c:1: duplicate definition, other at a.c:1\n",
+    },
+    // a tentative array of unknown bound has one element (C11 6.9.2p5)
+    Row {
+        files: &[("a.c", b"int x[];"), ("b.c", b"\nint x[3];")],
+        words: &["merge", "--common", "a.c", "b.c"],
+        told: "cil: b.c:2: incompatible declaration, other at a.c:1\n",
     },
     Row {
         files: &[("a.c", b"int a;\nchar *s = \"ab")],

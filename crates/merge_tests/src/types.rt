@@ -4,7 +4,7 @@ use std::alloc::Global;
 use std::process::Abort;
 use std::test::Fail;
 
-const ROWS: [Row; 15] = [
+const ROWS: [Row; 17] = [
     Row {
         name: "structs that reach each other are one in three units",
         units: &[
@@ -427,6 +427,95 @@ struct s {
 static struct s v ;
 static enum e w ;
 static enum f x ;
+",
+        ),
+    },
+    Row {
+        name: "tags are given in the printed order",
+        units: &[
+            "\
+struct s ;
+struct s {
+  int a ;
+} ;
+static struct s v ;
+",
+            "\
+struct s___0 ;
+struct s___0 {
+  long a ;
+} ;
+static struct s___0 w ;
+",
+            "\
+enum s {
+  A = 0 ,
+} ;
+static enum s x ;
+",
+        ],
+        tentative: Tentative::Apart,
+        expected: Expected::Text(
+            "\
+enum s {
+  A = 0 ,
+} ;
+struct s___0 ;
+struct s___0___0 ;
+struct s___0 {
+  int a ;
+} ;
+struct s___0___0 {
+  long a ;
+} ;
+static struct s___0 v ;
+static struct s___0___0 w ;
+static enum s x ;
+",
+        ),
+    },
+    Row {
+        name: "an enumerator is named with its unit, a tag is no such name",
+        units: &[
+            "\
+enum e {
+  A = 0 ,
+} ;
+struct A ;
+static enum e v ;
+static struct A * p ;
+",
+            "\
+static int A ;
+",
+            "\
+enum e {
+  A = 1 ,
+} ;
+static enum e w ;
+",
+            "\
+enum e___0 {
+  A___5 = 1 ,
+} ;
+static enum e___0 x ;
+",
+        ],
+        tentative: Tentative::Apart,
+        expected: Expected::Text(
+            "\
+enum e {
+  A = 0 ,
+} ;
+enum e___0 {
+  A___1 = 1 ,
+} ;
+struct A ;
+static enum e v ;
+static struct A * p ;
+static int A___0 ;
+static enum e___0 w ;
+static enum e___0 x ;
 ",
         ),
     },
