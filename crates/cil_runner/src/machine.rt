@@ -61,9 +61,9 @@ impl Machine {
 
     /// A machine that stands before the first step of the run of programs, which are linked, with these argument words,
     /// the first of which names them (C11 5.1.1.2p1 phase 8, 5.1.2.2.1p2). Each is well-formed but for its names, missing
-    /// tags and the order of its aggregates, and each of its globals has a name; all have one data model (own). Tentative
-    /// definitions of several programs are not common (C11 J.5.11): in a mode in which they are it runs programs that have
-    /// none. `names` are the texts of the names of all of them.
+    /// tags and the order of its aggregates, and each of its globals has a name; all have one data model (own). Nothing is
+    /// promised of a mode in which tentative definitions are common (C11 J.5.11) where a name has two definitions.
+    /// `names` are the texts of the names of all of them.
     ///
     /// Memory comes for want of memory, and where a number would not fit.
     pub fn link(
