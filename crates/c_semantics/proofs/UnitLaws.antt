@@ -23,8 +23,7 @@ use Rattle.c_typing.specs.Scopes.{Entity, Env, Found, Good, Bad}
 use Rattle.c_typing.specs.Faults.{walked, start_env}
 use Rattle.c_semantics.specs.Places.{Activation}
 use Rattle.c_semantics.specs.Statements.{Entered, part_step, c_meaning}
-use Rattle.c_semantics.specs.Common.{Defined, is_strong, greatest_size, grown, counted, shared_if, shared, all_of, in_mode}
-use Rattle.c_semantics.specs.Units.{Source, sources, protect_parameters, activation, body_meaning, function_meaning, zeros, image, object, source_of, is_main, Translated, definition_meaning, defined_from, definitions_of, definitions, linkables}
+use Rattle.c_semantics.specs.Units.{Source, sources, protect_parameters, activation, body_meaning, function_meaning, zeros, image, object, source_of, is_main, Translated, definition_meaning, linkables_from, linkables_of, linkables}
 use Rattle.c_semantics.specs.Literals.{literals_in_unit}
 use Rattle.c_semantics.proofs.Matched.{Matched, memory_matched, bind_matched}
 use Rattle.c_semantics.proofs.StatementsMatch.{block_m}
@@ -63,67 +62,20 @@ definition_tame u i e entities Zero = object_tame u.compound e (zeros u.env.type
 definition_tame u i e entities (Initialised is) = object_tame u.compound e (zeros u.env.types e.type.shape >>= image u.env.types entities e.type.shape is)
 definition_tame u i e entities (Body f) = sourced_tame u.env.types entities (is_main u.env.texts e) f e.type.shape (source_of i u.functions)
 
--- lists of what units define
+-- units
 
-abbrev TameDefined : List Defined → Type 0
-TameDefined [] = Unit {0}
-TameDefined (d ∷ ds) = ((entities : List ℕ) → IsTame (d.linkable.means entities)) × TameDefined ds
+entities_tame : (u : Translated) (i : ℕ) (es : List Entity) → TameUnit (linkables_from u i es)
+entities_tame u i [] = tt
+entities_tame u i (e ∷ es) = (λ entities. definition_tame u i e entities e.definition, entities_tame u (suc i) es)
 
-abbrev TameLists : List (List Defined) → Type 0
-TameLists [] = Unit {0}
-TameLists (ds ∷ more) = TameDefined ds × TameLists more
-
-defined_tame : (u : Translated) (i : ℕ) (es : List Entity) → TameDefined (defined_from u i es)
-defined_tame u i [] = tt
-defined_tame u i (e ∷ es) = (λ entities. definition_tame u i e entities e.definition, defined_tame u (suc i) es)
-
-walked_tame : (texts : List (List ℕ)) (abi : Abi) (unit : UnitTree) (r : Found ((Unit {0}) × Env)) → TameDefined (definitions_of texts abi unit r)
+walked_tame : (texts : List (List ℕ)) (abi : Abi) (unit : UnitTree) (r : Found ((Unit {0}) × Env)) → TameUnit (linkables_of texts abi unit r)
 walked_tame texts abi unit (Bad fault at) = tt
-walked_tame texts abi unit (Good x) = defined_tame (record { env = x.1; functions = sources unit (start_env texts abi); compound = literals_in_unit unit }) 0 x.1.entities
+walked_tame texts abi unit (Good x) = entities_tame (record { env = x.1; functions = sources unit (start_env texts abi); compound = literals_in_unit unit }) 0 x.1.entities
 
-lists_tame : (texts : List (List ℕ)) (abi : Abi) (units : List UnitTree) → TameLists (map (definitions texts abi) units)
-lists_tame texts abi [] = tt
-lists_tame texts abi (u ∷ us) = (walked_tame texts abi u (walked texts abi u), lists_tame texts abi us)
-
--- tentative definitions that are common
-
-grown_tame : (size : ℕ) (m : Option Meaning) → IsTame m → IsTame (grown size m)
-grown_tame size None h = tt
-grown_tame size (Some (Object read_only bytes)) h = tt
-grown_tame size (Some (Code f)) h = h
-grown_tame size (Some (Host name)) h = tt
-
-counted_tame : (b : Bool) (size : ℕ) (x : Linkable) → ((entities : List ℕ) → IsTame (x.means entities)) → (entities : List ℕ) → IsTame ((counted b size x).means entities)
-counted_tame true size x h entities = tt
-counted_tame false size x h entities = grown_tame size (x.means entities) (h entities)
-
-shared_tame : (b : Bool) (all : List Defined) (d : Defined) → ((entities : List ℕ) → IsTame (d.linkable.means entities)) → (entities : List ℕ) → IsTame ((shared_if b all d).means entities)
-shared_tame true all d h entities = h entities
-shared_tame false all d h entities = counted_tame (is_some d.weak && any_of (is_strong d.linkable.name) all) (greatest_size d.linkable.name all) d.linkable h entities
-
-unit_in_common : (all ds : List Defined) → TameDefined ds → TameUnit (map (shared all) ds)
-unit_in_common all [] h = tt
-unit_in_common all (d ∷ ds) h = (shared_tame d.linkable.internal all d h.0, unit_in_common all ds h.1)
-
-units_in_common : (all : List Defined) (units : List (List Defined)) → TameLists units → TameUnits (map (map (shared all)) units)
-units_in_common all [] h = tt
-units_in_common all (ds ∷ more) h = (unit_in_common all ds h.0, units_in_common all more h.1)
-
-unit_alone : (ds : List Defined) → TameDefined ds → TameUnit (map (λ (d : Defined). d.linkable) ds)
-unit_alone [] h = tt
-unit_alone (d ∷ ds) h = (h.0, unit_alone ds h.1)
-
-units_alone : (units : List (List Defined)) → TameLists units → TameUnits (map (map (λ (d : Defined). d.linkable)) units)
-units_alone [] h = tt
-units_alone (ds ∷ more) h = (unit_alone ds h.0, units_alone more h.1)
-
-mode_tame : (common : Bool) (units : List (List Defined)) → TameLists units → TameUnits (in_mode common units)
-mode_tame true units h = units_in_common (all_of units) units h
-mode_tame false units h = units_alone units h
-
-pub units_tame : (texts : List (List ℕ)) (mode : Mode) (units : List UnitTree) → TameUnits (linkables texts mode units)
-units_tame texts mode units = mode_tame mode.common (map (definitions texts mode.abi) units) (lists_tame texts mode.abi units)
+pub units_tame : (texts : List (List ℕ)) (abi : Abi) (units : List UnitTree) → TameUnits (linkables texts abi units)
+units_tame texts abi [] = tt
+units_tame texts abi (u ∷ us) = (walked_tame texts abi u (walked texts abi u), units_tame texts abi us)
 
 -- calls in linked units are what they are at every bound
-pub calls_steady : (texts : List (List ℕ)) (mode : Mode) (units : List UnitTree) (n more : ℕ) (base : List ℕ) → Tied n more base (calls (linked (linkables texts mode units))) (calls (linked (linkables texts mode units)))
-calls_steady texts mode units = calls_tied (linked (linkables texts mode units)) (linked_tame (linkables texts mode units) (units_tame texts mode units))
+pub calls_steady : (texts : List (List ℕ)) (mode : Mode) (units : List UnitTree) (n more : ℕ) (base : List ℕ) → Tied n more base (calls (linked mode.common (linkables texts mode.abi units))) (calls (linked mode.common (linkables texts mode.abi units)))
+calls_steady texts mode units = calls_tied (linked mode.common (linkables texts mode.abi units)) (linked_tame mode.common (linkables texts mode.abi units) (units_tame texts mode.abi units))

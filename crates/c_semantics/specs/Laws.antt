@@ -12,7 +12,7 @@ use Rattle.c_semantics.specs.Units.{linkables}
 
 -- what calls do in units that are linked in a mode
 abbrev pub calls_in : List (List ℕ) → Mode → List UnitTree → Enter
-calls_in texts mode units = calls (linked (linkables texts mode units))
+calls_in texts mode units = calls (linked mode.common (linkables texts mode.abi units))
 
 -- a part of a function does what it does where the parts that come behind a spent unit in it do so
 abbrev pub PartsAreTheirStep : List (List ℕ) → Mode → List UnitTree → Type 0

@@ -5,7 +5,6 @@ pub mod Operations
 pub mod Expressions
 pub mod Statements
 pub mod Literals
-pub mod Common
 pub mod Units
 pub mod Laws
 pub mod Text

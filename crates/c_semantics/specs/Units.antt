@@ -31,7 +31,6 @@ use Rattle.c_semantics.specs.Values.{kind_of, scalar_of, kinds_of, part_from, is
 use Rattle.c_semantics.specs.Places.{Activation, Here, local_of}
 use Rattle.c_semantics.specs.Walks.{opens_function}
 use Rattle.c_semantics.specs.Literals.{literals_in_unit}
-use Rattle.c_semantics.specs.Common.{Defined, in_mode}
 use Rattle.c_semantics.specs.Statements.{Entered, block, c_meaning}
 
 -- functions (6.9.1)
@@ -161,40 +160,33 @@ definition_meaning u n e entities (Initialised is) = object u.compound e (zeros 
 definition_meaning u n e entities (Body f) = source_of n u.functions >>= λ x. function_meaning u.env.types entities (is_main u.env.texts e) f x e.type.shape
 
 abbrev pub linkable : Translated → ℕ → Entity → Linkable
-linkable u n e = record { internal = is_internal e.linkage; name = name_text u.env.texts e.name; function = is_function e.type.shape; means = λ entities. definition_meaning u n e entities e.definition }
+linkable u n e = record { internal = is_internal e.linkage; name = name_text u.env.texts e.name; function = is_function e.type.shape; tentative = is_only_tentative e; means = λ entities. definition_meaning u n e entities e.definition }
 
--- a definition by tentative definitions alone is weak
-abbrev pub weak_size : Translated → Entity → Option ℕ
-weak_size u e = elim (is_only_tentative e) [ true ↦ size_in u.env.types e.type.shape | false ↦ None ]
-
-abbrev pub defined_by : Translated → ℕ → Entity → Defined
-defined_by u n e = record { linkable = linkable u n e; weak = weak_size u e; strong = is_some e.defined }
-
-abbrev pub defined_from : Translated → ℕ → List Entity → List Defined
-defined_from u n [] = []
-defined_from u n (e ∷ es) = defined_by u n e ∷ defined_from u (suc n) es
+abbrev pub linkables_from : Translated → ℕ → List Entity → List Linkable
+linkables_from u n [] = []
+linkables_from u n (e ∷ es) = linkable u n e ∷ linkables_from u (suc n) es
 
 -- a unit that has a fault has no meaning
-abbrev pub definitions_of : List (List ℕ) → Abi → UnitTree → Found ((Unit {0}) × Env) → List Defined
-definitions_of texts abi unit (Bad fault at) = []
-definitions_of texts abi unit (Good x) = defined_from (record { env = x.1; functions = sources unit (start_env texts abi); compound = literals_in_unit unit }) 0 x.1.entities
+abbrev pub linkables_of : List (List ℕ) → Abi → UnitTree → Found ((Unit {0}) × Env) → List Linkable
+linkables_of texts abi unit (Bad fault at) = []
+linkables_of texts abi unit (Good x) = linkables_from (record { env = x.1; functions = sources unit (start_env texts abi); compound = literals_in_unit unit }) 0 x.1.entities
 
 -- what a unit says of its objects and functions; its names are numbers of the texts
-abbrev pub definitions : List (List ℕ) → Abi → UnitTree → List Defined
-definitions texts abi unit = definitions_of texts abi unit (walked texts abi unit)
+abbrev pub linkables_in : List (List ℕ) → Abi → UnitTree → List Linkable
+linkables_in texts abi unit = linkables_of texts abi unit (walked texts abi unit)
 
--- what units say in a mode, for linking
-abbrev pub linkables : List (List ℕ) → Mode → List UnitTree → List (List Linkable)
-linkables texts mode units = in_mode mode.common (map (definitions texts mode.abi) units)
+-- what units say in a data model, for linking
+abbrev pub linkables : List (List ℕ) → Abi → List UnitTree → List (List Linkable)
+linkables texts abi units = map (linkables_in texts abi) units
 
 -- the outcome of units that are linked and run in a mode, with those words and that input, within so many units of the budget
 abbrev pub RunC : List (List ℕ) → List UnitTree → Mode → List (List ℕ) → List ℕ → ℕ → Outcome
-RunC texts units mode words input n = run (linkables texts mode units) mode words input n
+RunC texts units mode words input n = run (linkables texts mode.abi units) mode words input n
 
 -- the units of the budget that such a run has spent
 abbrev pub UnitsSpent : List (List ℕ) → List UnitTree → Mode → List (List ℕ) → List ℕ → ℕ → ℕ
-UnitsSpent texts units mode words input n = units_spent (linkables texts mode units) mode words input n
+UnitsSpent texts units mode words input n = units_spent (linkables texts mode.abi units) mode words input n
 
 -- whether a call of getchar in such a run has found no input left
 abbrev pub FindsEnd : List (List ℕ) → List UnitTree → Mode → List (List ℕ) → List ℕ → ℕ → Bool
-FindsEnd texts units mode words input n = finds_end (linkables texts mode units) mode words input n
+FindsEnd texts units mode words input n = finds_end (linkables texts mode.abi units) mode words input n

@@ -14,7 +14,7 @@ pub fn parts_are_their_step()
 
 /// What a call does in linked units is a fixed point: it does what it does where the calls in its body do so (own).
 pub fn calls_are_their_step()
-    ensures { (texts : List (List ℕ)) (mode : Mode) (units : List UnitTree) → CallsAreTheirStep (linked (linkables texts mode units)) }
+    ensures { (texts : List (List ℕ)) (mode : Mode) (units : List UnitTree) → CallsAreTheirStep (linked mode.common (linkables texts mode.abi units)) }
 {}
 
 /// A smaller bound only cuts a run of units: with units of the budget more, a run that has ended is the same, and one

@@ -245,4 +245,4 @@ body_is_taken a enter end label body fixed lab = record {
 }
 
 pub bodies_are_taken : BodiesAreTaken
-bodies_are_taken programs a end label body lab = body_is_taken a (calls_in programs) end label body (λ x en s. statement_is a (calls_in programs) (calls_steady programs) x en s) lab
+bodies_are_taken programs a end label body lab = body_is_taken a (calls_in programs) end label body (λ x en s. statement_is a (calls_in programs) (calls_steady false programs) x en s) lab

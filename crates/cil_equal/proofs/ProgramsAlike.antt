@@ -17,7 +17,7 @@ use Rattle.execution.specs.Runs.{run, units_spent, finds_end}
 use Rattle.cil_tree.specs.Tree.{Block, Step, ToField, ToIndex, Item, Local, Body, Definition, Declared, Zeros, Image, Function, GlobalDecl, Program}
 use Rattle.cil_tree.specs.Globals.{Part, aggregate_of, member_part, element_part, path_part}
 use Rattle.cil_tree.specs.Programs.{SameProgram}
-use Rattle.cil_semantics.specs.Runs.{constant_value, item_written, with_item, with_items, zeros, object, start_of, kinds_of, with_object, objects_from, body_meaning, function_meaning, is_main, definition_meaning, global_meaning, has_function_type, linkable, linkables}
+use Rattle.cil_semantics.specs.Runs.{constant_value, item_written, with_item, with_items, zeros, object, start_of, kinds_of, with_object, objects_from, body_meaning, function_meaning, is_main, definition_meaning, global_meaning, has_function_type, is_tentative, linkable, linkables}
 use Rattle.cil_text.proofs.Alike.{alike, type_alike}
 use Rattle.cil_text.proofs.TypedAlike.{Equal, layout_alike}
 use Rattle.cil_equal.specs.Runs.{RunAlike}
@@ -100,7 +100,7 @@ global_alike : (p q : Program) → Equal p q → (x : GlobalDecl) (es : List ℕ
 global_alike p q same x es = λ i. x.type >>= λ s. definition_alike p q same es (is_main x) s x.definition i
 
 linkable_alike : (p q : Program) → Equal p q → (x : GlobalDecl) → linkable p x ≡ linkable q x
-linkable_alike p q same x = λ i. record { internal = x.internal; name = x.name; function = has_function_type x.type; means = λ es. global_alike p q same x es i }
+linkable_alike p q same x = λ i. record { internal = x.internal; name = x.name; function = has_function_type x.type; tentative = is_tentative x.definition; means = λ es. global_alike p q same x es i }
 
 linkables_alike : (p q : Program) → Equal p q → linkables p ≡ linkables q
 linkables_alike p q same = λ i. map (λ x. linkable_alike p q same x i) (same.globals i)

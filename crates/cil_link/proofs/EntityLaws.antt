@@ -156,7 +156,7 @@ module _ (units : List InRun) (names : List (List ℕ)) (entities : List ℕ) (m
           definers =
               subst (λ (T : List Symbol). AreSo units (m.rows ++ row_of entities m.rank x ∷ []) T g.definers.items) table
               (subst (λ (ds : List Definer). AreSo units (m.rows ++ row_of entities m.rank x ∷ []) m.table ds) improved_is
-              (all_met units m.rows (row_of entities m.rank x) m.table f.definers.items Nothing new (finds.speaks s ∙ among) among finds.once finds.definers so));
+              (all_met units m.rows (row_of entities m.rank x) m.table f.definers.items Nothing new among finds.once finds.definers so));
           few = subst (λ n. n < 2 ^ 32) (sym (ap length improved ∙ length-set f.definers.items e (first_definer (get_or f.definers.items e Nothing) new))) finds.few;
           once = subst AreOnce table finds.once;
           ranks = subst (λ (T : List Symbol). NoneFrom (rank_after x.internal m.rank) T) table (subst (λ r. NoneFrom r m.table) (sym (external_known x.internal x.name m.rank m.table known)) finds.ranks);

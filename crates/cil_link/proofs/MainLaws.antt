@@ -156,14 +156,14 @@ module _ (programs : List Program) where
   pub entity_low : (definers : List Definer) (e : ℕ) → IsTable programs definers → main_among (in_run programs) ≡ Some e → e < length definers
   entity_low definers e is h =
       let there : list_any (same_symbol main_symbol) table ≡ true = in_table (memset_symbol ∷ []) (all_symbols 0 (map linkables programs)) main_symbol (are_there table 0 programs ∙ ap is_some h) in
-      let many : length table ≡ length definers = sym (length-map table (meaning_in (rows_in (map linkables programs)))) ∙ ap length is.means ∙ length-map definers (meant (in_run programs)) in
+      let many : length table ≡ length definers = sym (length-map table (meaning_in false (rows_in (map linkables programs)))) ∙ ap length is.means ∙ length-map definers (meant (in_run programs)) in
       subst (λ n. e < n) many (subst (λ n. n < length table) (entity_is e h) (place_low table main_symbol there))
 
   -- none where no unit does
   none_means : main_among (in_run programs) ≡ None → slice_get (linked_in programs) (main_entity (map linkables programs)) ≡ None
   none_means h =
-      slice_get-map (meaning_in (rows_in (map linkables programs))) table (main_entity (map linkables programs))
-      ∙ ap (option_map (meaning_in (rows_in (map linkables programs)))) (place_past table main_symbol (not_in_table (memset_symbol ∷ []) (all_symbols 0 (map linkables programs)) main_symbol refl (are_there table 0 programs ∙ ap is_some h)))
+      slice_get-map (meaning_in false (rows_in (map linkables programs))) table (main_entity (map linkables programs))
+      ∙ ap (option_map (meaning_in false (rows_in (map linkables programs)))) (place_past table main_symbol (not_in_table (memset_symbol ∷ []) (all_symbols 0 (map linkables programs)) main_symbol refl (are_there table 0 programs ∙ ap is_some h)))
 
   pub begins_nothing : main_among (in_run programs) ≡ None → BeginsWith programs None
   begins_nothing h words = ap (λ (o : Option (Option Meaning)). o >>= code_in >>= called_with words) (none_means h)

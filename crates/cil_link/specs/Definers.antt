@@ -27,12 +27,10 @@ definer_by unit e (Function body) o = Global unit e
 abbrev pub definer_of : UnitNo → EntityId → GlobalDecl → Definer
 definer_of unit e x = definer_by unit e x.definition (host_of x)
 
--- the first definition counts, and else the first declaration
+-- the first definition counts, and else a declaration as a function, whatever else declares it before
 abbrev pub first_definer : Definer → Definer → Definer
 first_definer (Global unit e) new = Global unit e
-first_definer Nothing (Global unit e) = Global unit e
-first_definer Nothing Nothing = Nothing
-first_definer Nothing (OfHost name) = Nothing
+first_definer Nothing new = new
 first_definer (OfHost name) (Global unit e) = Global unit e
 first_definer (OfHost name) Nothing = OfHost name
 first_definer (OfHost name) (OfHost other) = OfHost name

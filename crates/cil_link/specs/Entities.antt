@@ -1,5 +1,5 @@
 -- Definition: the entities of the run of linked programs: the number of each global, and what each entity is (C11 6.2.2p2; own: numbers).
-use Rattle.std.specs.Prelude.{◌≡◌, ℕ, ◌<◌, ◌^◌, List, [], ◌∷◌, length, map, All, Option, Some, None, slice_get}
+use Rattle.std.specs.Prelude.{◌≡◌, ℕ, ◌<◌, ◌^◌, false, List, [], ◌∷◌, length, map, All, Option, Some, None, slice_get}
 use Rattle.byte_mem.specs.Steps.{◌>>=◌}
 use Rattle.cil_base.specs.declared.numbers.EntityId.{EntityId}
 use Rattle.cil_base.specs.declared.numbers.UnitNo.{UnitNo}
@@ -23,9 +23,9 @@ in_run_from table rank (p ∷ programs) = record { program = p; entities = entit
 abbrev pub in_run : List Program → List InRun
 in_run programs = in_run_from (table_of (map linkables programs)) 0 programs
 
--- what each entity of their run means
+-- what each entity of their run means where tentative definitions are not common
 abbrev pub linked_in : List Program → Linked
-linked_in programs = linked (map linkables programs)
+linked_in programs = linked false (map linkables programs)
 
 -- what a unit's global with that number means
 abbrev pub global_meant : InRun → ℕ → Option Meaning

@@ -32,7 +32,7 @@ abbrev pub symbol_at : ℕ → Linkable → Symbol
 symbol_at rank x = symbol_of x.internal x.name rank
 
 abbrev pub row_of : List ℕ → ℕ → Linkable → Row
-row_of entities rank x = record { symbol = symbol_at rank x; function = x.function; meaning = x.means entities }
+row_of entities rank x = record { symbol = symbol_at rank x; function = x.function; tentative = x.tentative; meaning = x.means entities }
 
 -- a global more
 abbrev pub meet : List ℕ → Met → Linkable → Met

@@ -109,13 +109,14 @@ fn definer_of(u: &CilUnit, names: &NamePool, at: Site, x: &GlobalDecl) -> Define
 }
 
 /// What an entity is by what was known of it and by a further global: the first definition counts, and before the host's
-/// function (own).
+/// function, which any declaration as a function gives (own).
 fn first_definer(old: Definer, new: Definer) -> Definer
     ensures { result ≡ first_definer old new }
 {
     match old {
         Definer::Global(..) => old,
-        Definer::Nothing | Definer::Host(_) => match new {
+        Definer::Nothing => new,
+        Definer::Host(_) => match new {
             Definer::Global(..) => new,
             Definer::Nothing | Definer::Host(_) => old,
         },

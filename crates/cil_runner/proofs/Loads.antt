@@ -22,7 +22,7 @@ use Rattle.cil_tree.specs.WellFormedTypes.{TypesAreSmall}
 use Rattle.cil_semantics.specs.Laws.{calls_in}
 use Rattle.cil_semantics.specs.Units.{IsUnit}
 use Rattle.cil_semantics.proofs.ProgramUnits.{program_is_unit}
-use Rattle.cil_semantics.specs.Modes.{HaveModel, HaveOneModel}
+use Rattle.cil_semantics.specs.Modes.{HaveModel, LinksApart, HaveOneModel}
 use Rattle.cil_semantics.proofs.Modes.{one_has}
 use Rattle.cil_frames.specs.declared.frames.Function.{Function}
 use Rattle.cil_frames.specs.declared.frames.Entity.{Entity}
@@ -85,12 +85,13 @@ counted_at_start s programs words held h e =
     subst (λ held. IsCounted (host_part (memory s) held)) (sym e) (record { live = refl; fresh = λ i above. no_heap (memory s) _ i (h.memory [] 0) refl })
 
 -- a machine whose parts are loaded stands before the first step
-pub machine_loads : (m : Machine) (programs : List Program) (mode : Mode) (words : List (List ℕ)) (definers : List Definer) (s : Store) (held : StreamsState) → HaveModel mode.abi programs → IsLoadedTable programs definers m.table.items → Starts s programs words → m.run.mem ≡ s → held ≡ fresh → m.run.streams ≡ held
+pub machine_loads : (m : Machine) (programs : List Program) (mode : Mode) (words : List (List ℕ)) (definers : List Definer) (s : Store) (held : StreamsState) → HaveModel mode.abi programs → LinksApart mode programs → IsLoadedTable programs definers m.table.items → Starts s programs words → m.run.mem ≡ s → held ≡ fresh → m.run.streams ≡ held
     → BeginsWith programs m.main → m.words ≡ length words → Loads m programs mode words
-machine_loads m programs mode words definers s held model table start mem new streams main count =
+machine_loads m programs mode words definers s held model separate table start mem new streams main count =
     let here : Starts m.run.mem programs words = subst (λ s. Starts s programs words) (sym mem) start in
     record {
       model = model;
+      separate = separate;
       at = courses_in programs definers;
       table = table m.run.mem.abi here.model;
       store = here;

@@ -17,7 +17,7 @@ use Rattle.cil_runner.specs.Outcomes.{EndsAs, GoesOn, HasWritten, CutOff}
 
 -- the result of the run of linked programs
 abbrev pub result_of : List Program → Mode → List (List ℕ) → List ℕ → ℕ → Option (Result Datum)
-result_of programs mode words input steps = result_linked mode.abi (linked (map linkables programs)) (main_entity (map linkables programs)) words input steps
+result_of programs mode words input steps = result_linked mode.abi (linked mode.common (map linkables programs)) (main_entity (map linkables programs)) words input steps
 
 module _ (programs : List Program) (mode : Mode) (words : List (List ℕ)) (input : List ℕ) (steps : ℕ) where
   units_are : (o : Option (Result Datum)) → result_of programs mode words input steps ≡ o → UnitsSpent programs mode words input steps ≡ spent_until steps (option_map last o)

@@ -17,11 +17,12 @@ use Rattle.execution.specs.Data.{Datum}
 use Rattle.execution.specs.Calls as meaning
 use Rattle.execution.specs.Calls.{Code, Linked, calls}
 use Rattle.execution.specs.Linking.{main_entity}
-use Rattle.execution.specs.Runs.{pointer_to_name, start_state, int_kind, main_arguments, main_call, code_in, main_in, result_with}
+use Rattle.execution.specs.Runs.{pointer_to_name, start_state, int_kind, main_arguments, main_call, code_in, main_in, result_with, result_linked}
 use Rattle.cil_tree.specs.Tree.{Program}
 use Rattle.cil_semantics.specs.Runs.{linkables, FindsEnd}
 use Rattle.cil_semantics.specs.Laws.{calls_in}
-use Rattle.cil_semantics.specs.Modes.{HaveModel}
+use Rattle.cil_semantics.specs.Modes.{HaveModel, LinksApart}
+use Rattle.cil_semantics.proofs.Alone.{links_apart}
 use Rattle.cil_code.specs.declared.calls.Kind.TheVariants.{Single}
 use Rattle.cil_code.specs.Calling.{kind_from}
 use Rattle.cil_frames.specs.declared.frames.Entity.{Entity as Entry}
@@ -87,14 +88,20 @@ abbrev from_outside : Abi → List Program → ℕ → List passed.Argument → 
 from_outside abi programs entity arguments words input steps =
     calls_in programs (record { abi = abi; callee = pointer_to_name (Entity (record { 0 = entity })); result = int_kind; arguments = arguments }) (start_state abi (linked_in programs) words input steps)
 
+-- in a mode in which they have no definitions in common they are linked so
+linked_apart : (mode : Mode) (programs : List Program) (words : List (List ℕ)) (input : List ℕ) (steps : ℕ) → LinksApart mode programs
+    → result_of programs mode words input steps ≡ result_linked mode.abi (linked_in programs) (main_entity (map linkables programs)) words input steps
+linked_apart mode programs words input steps separate = ap (λ (link : Linked). result_linked mode.abi link (main_entity (map linkables programs)) words input steps) (links_apart mode programs separate)
+
 -- the run of the programs is that call
-result_is : (abi : Abi) (programs : List Program) (mode : Mode) (m : Main) (words : List (List ℕ)) (input : List ℕ) (steps : ℕ) (main : IsMain programs m) → mode.abi ≡ abi
+result_is : (abi : Abi) (programs : List Program) (mode : Mode) (m : Main) (words : List (List ℕ)) (input : List ℕ) (steps : ℕ) (main : IsMain programs m) → LinksApart mode programs → mode.abi ≡ abi
     → result_of programs mode words input steps ≡ Some (from_outside abi programs m.entity (arguments_for m.words (length words)) words input steps)
-result_is abi programs mode m words input steps main model =
+result_is abi programs mode m words input steps main separate model =
     let xs = arguments_for m.words (length words) in
     let found : main_in (linked_in programs) (main_entity (map linkables programs)) words ≡ Some (main.function, xs) =
     ap (λ e. main_in (linked_in programs) e words) main.entity ∙ main_found (linked_in programs) m.entity main.function m.words words main.means main.start in
-    ap (option_map (result_with mode.abi (linked_in programs) (main_entity (map linkables programs)) words input steps)) found
+    linked_apart mode programs words input steps separate
+    ∙ ap (option_map (result_with mode.abi (linked_in programs) (main_entity (map linkables programs)) words input steps)) found
     ∙ ap (λ e. Some (calls_in programs (main_call mode.abi e xs) (start_state mode.abi (linked_in programs) words input steps))) main.entity
     ∙ ap (λ (abi : Abi). Some (calls_in programs (main_call abi m.entity xs) (start_state abi (linked_in programs) words input steps))) model
 
@@ -133,7 +140,7 @@ runs_main machine programs mode words table m first end steps left bytes bytes' 
     let start : (input : List ℕ) → Matches (start_state machine.run.mem.abi (linked_in programs) words input steps) (memory machine.run.mem) machine.run.streams [] input =
     λ input. start_matches machine.run.mem machine.run.streams programs words input steps loads.store loads.streams in
     let result : (input : List ℕ) → result_of programs mode words input steps ≡ Some (enter (start_state machine.run.mem.abi (linked_in programs) words input steps)) =
-    λ input. result_is machine.run.mem.abi programs mode m words input steps main (one_model mode.abi machine.run.mem.abi programs m main loads.model loads.store.model) ∙ ap Some (sym (call_is machine.run.mem.abi programs m words input steps machine.words first callee kind xs loads.count)) in
+    λ input. result_is machine.run.mem.abi programs mode m words input steps main loads.separate (one_model mode.abi machine.run.mem.abi programs m main loads.model loads.store.model) ∙ ap Some (sym (call_is machine.run.mem.abi programs m words input steps machine.words first callee kind xs loads.count)) in
     record {
       got = r.got;
       sent = r.sent;
@@ -184,6 +191,6 @@ lacks_main machine programs mode words steps used bytes taken loads none nothing
   stops = λ fault. refl;
   finds = λ not. absurd (cc);
   means = λ tail all.
-      let no_result = ap (option_map (result_with mode.abi (linked_in programs) (main_entity (map linkables programs)) words tail steps)) (subst (BeginsWith programs) none loads.main words) in
+      let no_result = linked_apart mode programs words tail steps loads.separate ∙ ap (option_map (result_with mode.abi (linked_in programs) (main_entity (map linkables programs)) words tail steps)) (subst (BeginsWith programs) none loads.main words) in
       subst (λ used. EndsAs programs mode words tail steps used (Undefined [])) (sym nothing) (undefined_without programs mode words tail steps no_result);
 }

@@ -6,7 +6,7 @@ use Rattle.outside.specs.Moves.{WasRead}
 use Rattle.cil_tree.specs.Tree.{Program}
 use Rattle.cil_semantics.specs.Runs.{FindsEnd}
 use Rattle.cil_semantics.specs.Laws.{calls_in}
-use Rattle.cil_semantics.specs.Modes.{HaveModel}
+use Rattle.cil_semantics.specs.Modes.{HaveModel, LinksApart}
 use Rattle.cil_frames.specs.Frames.{Courses, IsMachine}
 use Rattle.cil_streams.specs.Held.{fresh}
 use Rattle.cil_link.specs.Entities.{linked_in}
@@ -18,10 +18,11 @@ use Rattle.cil_link.specs.Mains.{BeginsWith}
 use Rattle.cil_runner.specs.Outcomes.{EndsAs, GoesOn, CutOff}
 use Rattle.cil_runner.specs.declared.machine.Machine.{Machine}
 
--- the machine stands before the first step of the linked programs, run in that mode, whose data model they have, and with those words: its table is what the entities of their run mean, its store is the memory in which
+-- the machine stands before the first step of the linked programs, run in that mode, whose data model they have and in which they have no definitions in common, and with those words: its table is what the entities of their run mean, its store is the memory in which
 -- the run starts, in their data model, no input was read and no output waits, and it begins with their main
 pub record Loads (m : Machine) (programs : List Program) (mode : Mode) (words : List (List ℕ)) : Type 0 where
   pub model : HaveModel mode.abi programs
+  pub separate : LinksApart mode programs
   pub at : Courses
   pub table : IsMachine m.run.mem.abi (linked_in programs) (calls_in programs) at m.table.items
   pub store : Starts m.run.mem programs words

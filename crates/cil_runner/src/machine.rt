@@ -6,7 +6,7 @@ ghost use Rattle.cil_tree.specs.Tree.{Program};
 ghost use Rattle.cil_tree.specs.View.{program_of};
 ghost use Rattle.cil_tree.specs.Programs.{IsProgram};
 ghost use Rattle.cil_semantics.specs.Units.{IsUnit};
-ghost use Rattle.cil_semantics.specs.Modes.{HaveModel, HaveOneModel};
+ghost use Rattle.cil_semantics.specs.Modes.{HaveModel, LinksApart, HaveOneModel};
 ghost use Rattle.cil_turns.specs.Ends.{CountsReads, CountsWrites};
 ghost use Rattle.cil_runner.specs.Machine.{Loads, RunsAs};
 ghost use Rattle.cil_runner.specs.Beginning.{IsFresh};
@@ -61,8 +61,9 @@ impl Machine {
 
     /// A machine that stands before the first step of the run of programs, which are linked, with these argument words,
     /// the first of which names them (C11 5.1.1.2p1 phase 8, 5.1.2.2.1p2). Each is well-formed but for its names, missing
-    /// tags and the order of its aggregates, and each of its globals has a name; all have one data model (own). `names` are
-    /// the texts of the names of all of them.
+    /// tags and the order of its aggregates, and each of its globals has a name; all have one data model (own). Nothing is
+    /// promised of a mode in which tentative definitions are common (C11 J.5.11) where a name has two definitions.
+    /// `names` are the texts of the names of all of them.
     ///
     /// Memory comes for want of memory, and where a number would not fit.
     pub fn link(
@@ -73,7 +74,7 @@ impl Machine {
     ) -> Result<Machine, Memory>
         requires units { All (λ u. IsUnit (program_of names.now u)) units.now }
         requires model { HaveOneModel (map (program_of names.now) units.now) }
-        ensures loads { (mode : Mode) → HaveModel mode.abi (map (program_of names.now) units.now) → IfOk result (λ m. Loads m (map (program_of names.now) units.now) mode words.now) }
+        ensures loads { (mode : Mode) → HaveModel mode.abi (map (program_of names.now) units.now) → LinksApart mode (map (program_of names.now) units.now) → IfOk result (λ m. Loads m (map (program_of names.now) units.now) mode words.now) }
         ensures fresh { IfOk result IsFresh }
     {
         let layouts = all_layouts(alloc, units)?;
@@ -104,7 +105,7 @@ impl Machine {
     /// so does each turn of a loop and each jump back (own). It reads `input` where they ask for a byte and none
     /// is at hand, and `out` gets all output, unless a write fails.
     ///
-    /// In each mode of their data model the run is the same (own).
+    /// In each mode of their data model in which they have no definitions in common the run is the same (own).
     ///
     /// Undefined also where they have no main (own). After a fault and after Memory the sink got a front of the
     /// output, whatever the source has still to give. No more bytes are asked for at once than 4,096.

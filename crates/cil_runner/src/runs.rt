@@ -3,7 +3,7 @@ ghost use Rattle.cil_base.specs.declared.kinds.Mode.{Mode};
 ghost use Rattle.cil_tree.specs.View.{program_of};
 ghost use Rattle.cil_semantics.specs.Units.{IsUnit};
 ghost use Rattle.cil_semantics.specs.Runs.{RunCil};
-ghost use Rattle.cil_semantics.specs.Modes.{HaveModel, HaveOneModel};
+ghost use Rattle.cil_semantics.specs.Modes.{HaveModel, LinksApart, HaveOneModel};
 ghost use Rattle.cil_runner.specs.Beginning.{outcome_by};
 
 use crate::machine::Machine;
@@ -27,8 +27,8 @@ fn outcome(end: RunEnd, text: Bytes) -> Result<Outcome, Memory>
 
 /// The outcome of the run of programs, which are linked, in an environment and within so many units (C11 5.1.1.2p1
 /// phase 8, 5.1.2.2.1; own: units). Each is well-formed but for its names, missing tags and the order of its aggregates,
-/// and each of its globals has a name; all have one data model, and in each mode of that the outcome is the same (own).
-/// `names` are the texts of the names of all of them.
+/// and each of its globals has a name; all have one data model. In each mode of that in which they have no definitions in
+/// common (C11 J.5.11) the outcome is the same (own). `names` are the texts of the names of all of them.
 ///
 /// Memory comes for want of memory, and where a number would not fit.
 pub fn run_cil(
@@ -40,7 +40,7 @@ pub fn run_cil(
 ) -> Result<Outcome, Memory>
     requires units { All (λ u. IsUnit (program_of names.now u)) units.now }
     requires model { HaveOneModel (map (program_of names.now) units.now) }
-    ensures { (mode : Mode) → HaveModel mode.abi (map (program_of names.now) units.now) → IfOk result (λ o. o ≡ RunCil (map (program_of names.now) units.now) mode env.now.args.items env.now.input n) }
+    ensures { (mode : Mode) → HaveModel mode.abi (map (program_of names.now) units.now) → LinksApart mode (map (program_of names.now) units.now) → IfOk result (λ o. o ≡ RunCil (map (program_of names.now) units.now) mode env.now.args.items env.now.input n) }
 {
     let mut machine = Machine::link(alloc, units, names, env.args.as_slice())?;
     let bytes = env.input.as_slice().to_vec(alloc)?;

@@ -9,4 +9,5 @@ pub mod ProgramLaws
 pub mod Quiet
 pub mod ProgramUnits
 pub mod Modes
+pub mod Alone
 mod UnitRows

@@ -9,10 +9,10 @@ use Rattle.cil_base.specs.declared.operators.BinOp.TheVariants as op
 use Rattle.cil_base.specs.declared.runs.Outcome.{Outcome}
 use Rattle.cil_base.specs.declared.runs.Outcome.TheVariants.{Exit, Running, Undefined}
 use Rattle.type_graph.specs.Shapes.{Shape, IntType, ArrayType, FuncType, NoTypes, MoreTypes}
-use Rattle.cil_tree.specs.Tree.{Exp, Const, Value, Bin, AddrOf, StartOf, Global, Here, Index, Place, Through, Set, Call, Stmt, Do, If, Image, Zeros, GlobalDecl, Program}
+use Rattle.cil_tree.specs.Tree.{Exp, Const, Value, Bin, AddrOf, StartOf, Global, Here, Index, Place, Through, Set, Call, Stmt, Do, If, Image, Zeros, Definition, GlobalDecl, Program}
 use Rattle.cil_tree.specs.Typing.{unqualified, pointer_to}
 use Rattle.cil_semantics.specs.Runs.{RunCil, UnitsSpent, FindsEnd}
-use Rattle.cil_semantics.proofs.Samples.{int, program, fits, local, function, int_from, main_of, declared, putchar, number, at, var, pointed_by, global, to, sum, set, call, call_to, return, stmts_of, outcomes}
+use Rattle.cil_semantics.proofs.Samples.{int, program, fits, local, function, int_from, main_of, declared, putchar, number, at, var, pointed_by, global, to, sum, set, call, call_to, return, stmts_of, element, outcomes}
 
 -- the modes, as tentative definitions are common or not
 abbrev lp64 : Bool → Mode
@@ -84,7 +84,7 @@ end_rows : linked_at (again ∷ []) (1 ∷ 2 ∷ []) ++ (outcomes (nothing_given
     ≡ Running [] ∷ Exit 5 [] ∷ Exit 3 [] ∷ Undefined [] ∷ []
 end_rows = refl
 
--- a unit's function of a host's name is that function for all units, or with internal linkage for its own alone
+-- a unit's function of a host's name is that function for all units, or with internal linkage for its own alone; where none defines it, a declaration as a function makes it the host's, whatever else declares it before
 -- int putchar(int c) { return c + 1; }
 abbrev own_putchar : GlobalDecl
 own_putchar = function (int_from (MoreTypes int NoTypes)) (codes "c" ∷ []) (codes "putchar") (local (codes "c") int ∷ []) [] (stmts_of (return (sum (var 0) (number 1)) ∷ []))
@@ -93,8 +93,12 @@ own_putchar = function (int_from (MoreTypes int NoTypes)) (codes "c" ∷ []) (co
 abbrev putting : Program
 putting = program (putchar ∷ main_of (local (codes "t") int ∷ []) [] (stmts_of (call_to 0 0 (number 97 ∷ []) ∷ return (var 0) ∷ [])) ∷ [])
 
-host_rows : linked_at (putting ∷ []) (1 ∷ []) ++ (linked_at (putting ∷ program (own_putchar ∷ []) ∷ []) (1 ∷ 2 ∷ []) ++ linked_at (program (hidden own_putchar ∷ []) ∷ putting ∷ []) (1 ∷ []))
-    ≡ Exit 97 (codes "a") ∷ Running [] ∷ Exit 98 [] ∷ Exit 97 (codes "a") ∷ []
+-- extern int putchar;
+abbrev object_putchar : Program
+object_putchar = program (declared (codes "putchar") int ∷ [])
+
+host_rows : linked_at (putting ∷ []) (1 ∷ []) ++ (linked_at (putting ∷ program (own_putchar ∷ []) ∷ []) (1 ∷ 2 ∷ []) ++ (linked_at (program (hidden own_putchar ∷ []) ∷ putting ∷ []) (1 ∷ []) ++ (linked_at (object_putchar ∷ putting ∷ []) (1 ∷ []) ++ linked_at (putting ∷ object_putchar ∷ []) (1 ∷ []))))
+    ≡ Exit 97 (codes "a") ∷ Running [] ∷ Exit 98 [] ∷ Exit 97 (codes "a") ∷ Exit 97 (codes "a") ∷ Exit 97 (codes "a") ∷ []
 host_rows = refl
 
 -- kinds that differ are undefined before a unit is asked for: int f(unsigned x) { return 2; } and int f(); int main(void) { return f(1); }, and f(1u)
@@ -163,9 +167,43 @@ end_of_input_rows = refl
 spent_rows : map (UnitsSpent (first_unit ∷ second_unit ∷ third_unit ∷ []) (lp64 false) (codes "p" ∷ []) []) (0 ∷ 2 ∷ 3 ∷ 10000000 ∷ []) ++ map (UnitsSpent [] (lp64 false) (codes "p" ∷ []) []) (7 ∷ []) ≡ 0 ∷ 2 ∷ 3 ∷ 3 ∷ 0 ∷ []
 spent_rows = refl
 
--- both values of `common` mean the same
-common_does_not_count : (programs : List Program) (words : List (List ℕ)) (input : List ℕ) (n : ℕ) → RunCil programs (lp64 true) words input n ≡ RunCil programs (lp64 false) words input n
-common_does_not_count programs words input n = refl
+-- tentative definitions that are common are one object, which has the greatest of all sizes, and the value of another definition wherever that stands; where they are not common the first definition counts
+-- int x[2];, and int x[3]; int main(void) { return x[i]; }; the same with int x[2] = { 5, 6 };
+abbrev array : ℕ → Definition → GlobalDecl
+array n d = record { name = codes "x"; type = Some (ArrayType unqualified int (Some n)); internal = false; definition = d }
 
-all_are_programs : map fits (first_unit ∷ second_unit ∷ third_unit ∷ no_word ∷ unprototyped ∷ again ∷ nothing_given (call 0 []) (return (number 3)) ∷ putting ∷ program (own_putchar ∷ []) ∷ program (hidden own_putchar ∷ []) ∷ loose (number 1) ∷ unsigned_parameter ∷ pointing (to (pointer_to int_void) (number 0)) ∷ dangling is_null ∷ array_unit ∷ dangling second_element ∷ reading ∷ []) ≡ replicate 17 true
+abbrev five_six : Program
+five_six = program (array 2 (Image (element 0 (pos 5) ∷ element 1 (pos 6) ∷ [])) ∷ [])
+
+abbrev giving : ℕ → Program
+giving i = program (array 3 Zeros ∷ main_of [] [] (stmts_of (return (Value (Place (Global 0) (Index (number i) Here))) ∷ [])) ∷ [])
+
+abbrev run_as : Bool → List Program → Outcome
+run_as common programs = RunCil programs (lp64 common) (codes "p" ∷ []) [] 2
+
+array_rows : run_as true (array_unit ∷ giving 2 ∷ []) ∷ run_as false (array_unit ∷ giving 2 ∷ []) ∷ run_as true (five_six ∷ giving 1 ∷ []) ∷ run_as true (five_six ∷ giving 2 ∷ []) ∷ run_as true (giving 0 ∷ five_six ∷ []) ∷ run_as true (giving 2 ∷ five_six ∷ []) ∷ []
+    ≡ Exit 0 [] ∷ Undefined [] ∷ Exit 6 [] ∷ Exit 0 [] ∷ Exit 5 [] ∷ Exit 0 [] ∷ []
+array_rows = refl
+
+-- int n = 7;, and int n; int main(void) { return n; }; the same in the other order, and alone
+abbrev seven : Program
+seven = program (object false (codes "n") (pos 7) ∷ [])
+
+abbrev giving_n : Program
+giving_n = program (record { name = codes "n"; type = Some int; internal = false; definition = Zeros } ∷ main_of [] [] (stmts_of (return (global 0) ∷ [])) ∷ [])
+
+value_rows : run_as true (seven ∷ giving_n ∷ []) ∷ run_as true (giving_n ∷ seven ∷ []) ∷ run_as true (giving_n ∷ []) ∷ run_as false (giving_n ∷ []) ∷ [] ≡ Exit 7 [] ∷ Exit 7 [] ∷ Exit 0 [] ∷ Exit 0 [] ∷ []
+value_rows = refl
+
+-- a function's body counts before a tentative definition of its name: int f;, and int f(void) { return 6; } int main(void) { return f(); }
+abbrev object_f : Program
+object_f = program (record { name = codes "f"; type = Some int; internal = false; definition = Zeros } ∷ [])
+
+abbrev calling_f : Program
+calling_f = program (int_function (codes "f") (return (number 6) ∷ []) ∷ main_of (local (codes "t") int ∷ []) [] (stmts_of (call_to 0 0 [] ∷ return (var 0) ∷ [])) ∷ [])
+
+body_rows : run_as true (object_f ∷ calling_f ∷ []) ∷ run_as false (object_f ∷ calling_f ∷ []) ∷ [] ≡ Exit 6 [] ∷ Undefined [] ∷ []
+body_rows = refl
+
+all_are_programs : map fits (first_unit ∷ second_unit ∷ third_unit ∷ no_word ∷ unprototyped ∷ again ∷ nothing_given (call 0 []) (return (number 3)) ∷ putting ∷ program (own_putchar ∷ []) ∷ program (hidden own_putchar ∷ []) ∷ loose (number 1) ∷ unsigned_parameter ∷ pointing (to (pointer_to int_void) (number 0)) ∷ dangling is_null ∷ array_unit ∷ dangling second_element ∷ reading ∷ five_six ∷ giving 2 ∷ seven ∷ giving_n ∷ object_f ∷ calling_f ∷ []) ≡ replicate 23 true
 all_are_programs = refl

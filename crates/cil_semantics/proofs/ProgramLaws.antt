@@ -50,5 +50,5 @@ programs_tame [] = tt
 programs_tame (p ∷ ps) = (globals_tame p p.globals, programs_tame ps)
 
 -- calls in linked programs are what they are at every bound
-pub calls_steady : (programs : List Program) (n more : ℕ) (base : List ℕ) → Tied n more base (calls (linked (map linkables programs))) (calls (linked (map linkables programs)))
-calls_steady programs = calls_tied (linked (map linkables programs)) (linked_tame (map linkables programs) (programs_tame programs))
+pub calls_steady : (common : Bool) (programs : List Program) (n more : ℕ) (base : List ℕ) → Tied n more base (calls (linked common (map linkables programs))) (calls (linked common (map linkables programs)))
+calls_steady common programs = calls_tied (linked common (map linkables programs)) (linked_tame common (map linkables programs) (programs_tame programs))

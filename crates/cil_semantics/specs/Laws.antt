@@ -1,5 +1,5 @@
 -- Definition: what statements and calls of linked CIL programs are: no bound on depth is seen in them (own), and jumps within a statement are followed within.
-use Rattle.std.specs.Prelude.{◌≡◌, List, map}
+use Rattle.std.specs.Prelude.{◌≡◌, Bool, false, List, map}
 use Rattle.execution.specs.States.{State}
 use Rattle.execution.specs.Jumps.{Entry, IsQuiet}
 use Rattle.execution.specs.Calls.{Enter, calls}
@@ -9,13 +9,17 @@ use Rattle.cil_semantics.specs.Values.{Activation}
 use Rattle.cil_semantics.specs.Statements.{has, stmt, statement}
 use Rattle.cil_semantics.specs.Runs.{linkables}
 
--- what calls do in programs that are linked
-abbrev pub calls_in : List Program → Enter
-calls_in programs = calls (linked (map linkables programs))
+-- what calls do in programs that are linked, as tentative definitions of several of them are common or not
+abbrev pub linked_calls : Bool → List Program → Enter
+linked_calls common programs = calls (linked common (map linkables programs))
 
--- a statement does what it does where the statements that come behind a spent unit in it do so
-abbrev pub StatementsAreTheirStep : List Program → Type 0
-StatementsAreTheirStep programs = (a : Activation) (x : Stmt) (en : Entry) (s : State) → statement a (calls_in programs) x en s ≡ stmt a (calls_in programs) (statement a (calls_in programs)) x en s
+-- the same where they are not common
+abbrev pub calls_in : List Program → Enter
+calls_in programs = linked_calls false programs
+
+-- where calls do that, a statement does what it does where the statements that come behind a spent unit in it do so
+abbrev pub StatementsAreTheirStep : Enter → Type 0
+StatementsAreTheirStep enter = (a : Activation) (x : Stmt) (en : Entry) (s : State) → statement a enter x en s ≡ stmt a enter (statement a enter) x en s
 
 -- what a statement gives is no jump to a label in it: such jumps are followed within (C11 6.8.6.1p2)
 abbrev pub FollowsItsJumps : Enter → Type 0

@@ -117,8 +117,15 @@ abbrev pub has_function_type : Option Shape → Bool
 has_function_type None = false
 has_function_type (Some s) = is_function s
 
+-- C11 6.9.2p2: a definition by tentative definitions alone has no initialiser, and is so in CIL's text; one with an initialiser has its image
+abbrev pub is_tentative : Definition → Bool
+is_tentative Declared = false
+is_tentative Zeros = true
+is_tentative (Image items) = false
+is_tentative (Function body) = false
+
 abbrev pub linkable : Program → GlobalDecl → Linkable
-linkable p x = record { internal = x.internal; name = x.name; function = has_function_type x.type; means = global_meaning p x }
+linkable p x = record { internal = x.internal; name = x.name; function = has_function_type x.type; tentative = is_tentative x.definition; means = global_meaning p x }
 
 abbrev pub linkables : Program → List Linkable
 linkables p = map (linkable p) p.globals

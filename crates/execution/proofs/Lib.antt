@@ -10,3 +10,4 @@ pub mod Ordered
 pub mod LinkLaws
 pub mod RunLaws
 pub mod Quiet
+pub mod Modes

@@ -162,4 +162,4 @@ spent_in abi link h entity words input (Some (f, arguments)) n e =
     (λ i more. calls_tied link h i more [] (main_call abi entity arguments) (start_state abi link words input i) (start_state abi link words input (i + more)) (omega arith, refl, ([], refl))) n e
 
 pub spends_least : (units : List (List Linkable)) → TameUnits units → (mode : Mode) (words : List (List ℕ)) (input : List ℕ) → SpendsLeast (run units mode words input) (units_spent units mode words input)
-spends_least units h mode words input n e = spent_in mode.abi (linked units) (linked_tame units h) (main_entity units) words input (main_in (linked units) (main_entity units) words) n e
+spends_least units h mode words input n e = spent_in mode.abi (linked mode.common units) (linked_tame mode.common units h) (main_entity units) words input (main_in (linked mode.common units) (main_entity units) words) n e

@@ -117,13 +117,13 @@ outcome_in (Some r) = outcome_of r
 abbrev pub run_linked : Abi → Linked → ℕ → List (List ℕ) → List ℕ → ℕ → Outcome
 run_linked abi link entity words input n = outcome_in (result_linked abi link entity words input n)
 
--- units of any languages, linked and run in a mode: argv and the call of main have the mode's data model, and whether tentative definitions are common does not count yet (own)
+-- units of any languages, linked and run in a mode: argv and the call of main have the mode's data model, and it says whether tentative definitions of several units are common (own)
 abbrev pub run : List (List Linkable) → Mode → List (List ℕ) → List ℕ → ℕ → Outcome
-run units mode words input n = run_linked mode.abi (linked units) (main_entity units) words input n
+run units mode words input n = run_linked mode.abi (linked mode.common units) (main_entity units) words input n
 
 -- the state in which that run ends; none without a main
 abbrev pub end_of : List (List Linkable) → Mode → List (List ℕ) → List ℕ → ℕ → Option State
-end_of units mode words input n = option_map last (result_linked mode.abi (linked units) (main_entity units) words input n)
+end_of units mode words input n = option_map last (result_linked mode.abi (linked mode.common units) (main_entity units) words input n)
 
 -- the units that the run has spent
 abbrev pub spent_until : ℕ → Option State → ℕ

@@ -1,7 +1,7 @@
-ghost use Rattle.std.specs.Prelude.{ℕ, List};
+ghost use Rattle.std.specs.Prelude.{◌≡◌, ℕ, Bool, false, List};
 ghost use Rattle.cil_base.specs.declared.kinds.Mode.{Mode};
 ghost use Rattle.execution.specs.Calls.{Linked};
-ghost use Rattle.execution.specs.Linking.{Linkable};
+ghost use Rattle.execution.specs.Linking.{Linkable, linked, AreDefinedOnce};
 ghost use Rattle.execution.specs.Runs.{run, units_spent};
 ghost use Rattle.execution.specs.Bounds.{AllTame, TameUnits};
 ghost use Rattle.execution.specs.Laws.{CallsAreTheirStep, IsCutByBounds, SpendsLeast};
@@ -22,4 +22,10 @@ pub fn bounds_only_cut()
 /// is still running (own).
 pub fn ended_runs_spend_their_least_bound()
     ensures { (units : List (List Linkable)) → TameUnits units → (mode : Mode) (words : List (List ℕ)) (input : List ℕ) → SpendsLeast (run units mode words input) (units_spent units mode words input) }
+{}
+
+/// Where no name has more than one definition (C11 6.9p5), it does not count whether tentative definitions of several
+/// units are common (J.5.11): the same is linked.
+pub fn one_definition_links_alike()
+    ensures { (common : Bool) (units : List (List Linkable)) → AreDefinedOnce units → linked common units ≡ linked false units }
 {}

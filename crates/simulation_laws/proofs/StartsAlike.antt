@@ -1,6 +1,6 @@
 -- Device: units that link alike start alike.
-use Rattle.std.proofs.Common.{◌≡◌, ℕ, zero, suc, Bool, true, false, List, [], ◌∷◌, ◌++◌, map, Option, Some, None, slice_get, codes, refl, sym, ap, ap₂, ◌∙◌, subst}
-use Rattle.std.specs.Prelude.{if◌then◌else◌}
+use Rattle.std.proofs.Common.{◌≡◌, ℕ, zero, suc, ◌-◌, Bool, true, false, not, ◌&&◌, ◌||◌, List, [], ◌∷◌, ◌++◌, length, map, Option, Some, None, slice_get, codes, refl, sym, ap, ap₂, ◌∙◌, subst}
+use Rattle.std.specs.Prelude.{max, replicate}
 use Rattle.cil_base.specs.declared.kinds.Abi.{Abi}
 use Rattle.byte_mem.specs.declared.pointers.ObjName.TheVariants.{Entity, Local, Literal, Heap, Argument}
 use Rattle.byte_mem.specs.declared.values.Byte.{Byte}
@@ -11,9 +11,10 @@ use Rattle.byte_mem.specs.Steps.{◌>>=◌, only_if}
 use Rattle.byte_mem.specs.Object.{Held}
 use Rattle.byte_mem.specs.Layers.{slot}
 use Rattle.byte_mem.specs.Below.{BelowBytes, BelowValue, Lift, BelowHeld, BelowMemory}
+use Rattle.byte_mem.proofs.BelowLemmas.{length_below}
 use Rattle.host_calls.specs.declared.names.HostName.{HostName}
 use Rattle.execution.specs.Calls.{Function, Meaning, Object, Code, Host, Linked, entity_at, meant}
-use Rattle.execution.specs.Linking.{Linkable, Symbol, External, Internal, same_symbol, symbol_of, rank_after, symbols_of, rank_behind, all_symbols, table_of, numbered_all, memset_symbol, place_in, entities_of, Row, rows_of, rows_from, rows_in, first_of, defined, declared_function, host_names, named_among, host_meaning, meaning_in, linked}
+use Rattle.execution.specs.Linking.{Linkable, Symbol, External, Internal, same_symbol, symbol_of, rank_after, symbols_of, rank_behind, all_symbols, table_of, numbered_all, memset_symbol, place_in, entities_of, Row, rows_of, rows_from, rows_in, first_of, said, defined, firmly_said, firmly_defined, object_size, greatest_size, grown, shared, defined_in, declared_function, host_names, named_among, host_meaning, meaning_in, linked}
 use Rattle.execution.specs.Runs.{entity_held, words_held, memory_of}
 use Rattle.execution.specs.Likeness.{Past, Computes, LikeMeaning}
 use Rattle.simulation_laws.specs.Changes.{itself}
@@ -26,6 +27,13 @@ bytes_itself [] = tt
 bytes_itself (Known b ∷ bytes) = (refl, bytes_itself bytes)
 bytes_itself (Blank ∷ bytes) = (tt, bytes_itself bytes)
 bytes_itself (Fragment p k ∷ bytes) = (refl, bytes_itself bytes)
+
+-- zero bytes behind both
+behind : (zs bs cs : List Byte) → BelowBytes itself bs cs → BelowBytes itself (bs ++ zs) (cs ++ zs)
+behind zs [] [] h = bytes_itself zs
+behind zs [] (c ∷ cs) h = absurd h
+behind zs (b ∷ bs) [] h = absurd h
+behind zs (b ∷ bs) (c ∷ cs) h = (h.0, behind zs bs cs h.1)
 
 held_itself : (o : Option Held) → Lift (BelowHeld itself) o o
 held_itself None = tt
@@ -63,6 +71,7 @@ module _ (P : Function → Function → Type 0) where
   record AlikeRow (r q : Row) : Type 0 where
     symbol : q.symbol ≡ r.symbol
     function : q.function ≡ r.function
+    tentative : q.tentative ≡ r.tentative
     meaning : AlikeOption P r.meaning q.meaning
 
   AlikeRows : List Row → List Row → Type 0
@@ -84,7 +93,7 @@ module _ (P : Function → Function → Type 0) where
   rows_alike entities rank [] (y ∷ ys) h = absurd h
   rows_alike entities rank (x ∷ xs) [] h = absurd h
   rows_alike entities rank (x ∷ xs) (y ∷ ys) h = (
-    record { symbol = ap₂ (λ (b : Bool) (name : List ℕ). symbol_of b name rank) h.0.internal h.0.name; function = h.0.function; meaning = h.0.means entities },
+    record { symbol = ap₂ (λ (b : Bool) (name : List ℕ). symbol_of b name rank) h.0.internal h.0.name; function = h.0.function; tentative = h.0.tentative; meaning = h.0.means entities },
     subst (λ (b : Bool). AlikeRows (rows_of entities (rank_after x.internal rank) xs) (rows_of entities (rank_after b rank) ys)) (sym h.0.internal) (rows_alike entities (rank_after x.internal rank) xs ys h.1),
   )
 
@@ -110,14 +119,72 @@ module _ (P : Function → Function → Type 0) where
   only_alike true m n h = h
   only_alike false m n h = tt
 
+  said_alike : (r q : Row) (x : Symbol) → AlikeRow r q → AlikeOption P (said x r) (said x q)
+  said_alike r q x h = subst (λ (s : Symbol). AlikeOption P (said x r) (only_if (same_symbol x s) q.meaning >>= λ m. m)) (sym h.symbol) (only_alike (same_symbol x r.symbol) r.meaning q.meaning h.meaning)
+
+  firmly_alike : (r q : Row) (x : Symbol) → AlikeRow r q → AlikeOption P (firmly_said x r) (firmly_said x q)
+  firmly_alike r q x h =
+      subst (λ (c : Bool). AlikeOption P (firmly_said x r) (only_if c q.meaning >>= λ m. m)) (sym (ap₂ (λ (s : Symbol) (b : Bool). same_symbol x s && not b) h.symbol h.tentative))
+      (only_alike (same_symbol x r.symbol && not r.tentative) r.meaning q.meaning h.meaning)
+
   defined_alike : (rs qs : List Row) (x : Symbol) → AlikeRows rs qs → AlikeOption P (defined rs x) (defined qs x)
   unfolding AlikeRows
   defined_alike [] [] x h = tt
   defined_alike [] (q ∷ qs) x h = absurd h
   defined_alike (r ∷ rs) [] x h = absurd h
-  defined_alike (r ∷ rs) (q ∷ qs) x h =
-      subst (λ (s : Symbol). AlikeOption P (first_of (only_if (same_symbol x r.symbol) r.meaning >>= λ m. m) (defined rs x)) (first_of (only_if (same_symbol x s) q.meaning >>= λ m. m) (defined qs x))) (sym h.0.symbol)
-      (first_alike (only_if (same_symbol x r.symbol) r.meaning >>= λ m. m) (only_if (same_symbol x r.symbol) q.meaning >>= λ m. m) (defined rs x) (defined qs x) (only_alike (same_symbol x r.symbol) r.meaning q.meaning h.0.meaning) (defined_alike rs qs x h.1))
+  defined_alike (r ∷ rs) (q ∷ qs) x h = first_alike (said x r) (said x q) (defined rs x) (defined qs x) (said_alike r q x h.0) (defined_alike rs qs x h.1)
+
+  all_firmly_alike : (rs qs : List Row) (x : Symbol) → AlikeRows rs qs → AlikeOption P (firmly_defined rs x) (firmly_defined qs x)
+  unfolding AlikeRows
+  all_firmly_alike [] [] x h = tt
+  all_firmly_alike [] (q ∷ qs) x h = absurd h
+  all_firmly_alike (r ∷ rs) [] x h = absurd h
+  all_firmly_alike (r ∷ rs) (q ∷ qs) x h = first_alike (firmly_said x r) (firmly_said x q) (firmly_defined rs x) (firmly_defined qs x) (firmly_alike r q x h.0) (all_firmly_alike rs qs x h.1)
+
+  -- an object has the size of the other
+
+  size_same : (m n : Option Meaning) → AlikeOption P m n → object_size n ≡ object_size m
+  size_same None None h = refl
+  size_same None (Some n) h = absurd h
+  size_same (Some m) None h = absurd h
+  size_same (Some (Object r bs)) (Some (Object q cs)) h = length_below itself bs cs h.1
+  size_same (Some (Object r bs)) (Some (Code g)) h = absurd h
+  size_same (Some (Object r bs)) (Some (Host b)) h = absurd h
+  size_same (Some (Code f)) (Some (Object q cs)) h = absurd h
+  size_same (Some (Code f)) (Some (Code g)) h = refl
+  size_same (Some (Code f)) (Some (Host b)) h = absurd h
+  size_same (Some (Host a)) (Some (Object q cs)) h = absurd h
+  size_same (Some (Host a)) (Some (Code g)) h = absurd h
+  size_same (Some (Host a)) (Some (Host b)) h = refl
+
+  greatest_same : (rs qs : List Row) (x : Symbol) → AlikeRows rs qs → greatest_size qs x ≡ greatest_size rs x
+  unfolding AlikeRows
+  greatest_same [] [] x h = refl
+  greatest_same [] (q ∷ qs) x h = absurd h
+  greatest_same (r ∷ rs) [] x h = absurd h
+  greatest_same (r ∷ rs) (q ∷ qs) x h = ap₂ max (size_same (said x r) (said x q) (said_alike r q x h.0)) (greatest_same rs qs x h.1)
+
+  grown_alike : (size : ℕ) (m n : Option Meaning) → AlikeOption P m n → AlikeOption P (grown size m) (grown size n)
+  grown_alike size None None h = tt
+  grown_alike size None (Some n) h = absurd h
+  grown_alike size (Some m) None h = absurd h
+  grown_alike size (Some (Object r bs)) (Some (Object q cs)) h =
+      (h.0, subst (λ (n : ℕ). BelowBytes itself (bs ++ replicate (size - length bs) (Known 0)) (cs ++ replicate (size - n) (Known 0))) (sym (length_below itself bs cs h.1)) (behind (replicate (size - length bs) (Known 0)) bs cs h.1))
+  grown_alike size (Some (Object r bs)) (Some (Code g)) h = absurd h
+  grown_alike size (Some (Object r bs)) (Some (Host b)) h = absurd h
+  grown_alike size (Some (Code f)) (Some (Object q cs)) h = absurd h
+  grown_alike size (Some (Code f)) (Some (Code g)) h = h
+  grown_alike size (Some (Code f)) (Some (Host b)) h = absurd h
+  grown_alike size (Some (Host a)) (Some (Object q cs)) h = absurd h
+  grown_alike size (Some (Host a)) (Some (Code g)) h = absurd h
+  grown_alike size (Some (Host a)) (Some (Host b)) h = h
+
+  chosen_alike : (common : Bool) (rs qs : List Row) (x : Symbol) → AlikeRows rs qs → AlikeOption P (defined_in common rs x) (defined_in common qs x)
+  chosen_alike false rs qs x h = defined_alike rs qs x h
+  chosen_alike true rs qs x h =
+      subst (λ (n : ℕ). AlikeOption P (shared rs x) (grown n (first_of (firmly_defined qs x) (defined qs x)))) (sym (greatest_same rs qs x h))
+      (grown_alike (greatest_size rs x) (first_of (firmly_defined rs x) (defined rs x)) (first_of (firmly_defined qs x) (defined qs x))
+      (first_alike (firmly_defined rs x) (firmly_defined qs x) (defined rs x) (defined qs x) (all_firmly_alike rs qs x h) (defined_alike rs qs x h)))
 
   function_same : (rs qs : List Row) (x : Symbol) → AlikeRows rs qs → declared_function qs x ≡ declared_function rs x
   unfolding AlikeRows
@@ -125,7 +192,7 @@ module _ (P : Function → Function → Type 0) where
   function_same [] (q ∷ qs) x h = absurd h
   function_same (r ∷ rs) [] x h = absurd h
   function_same (r ∷ rs) (q ∷ qs) x h =
-      ap₂ (λ (s : Symbol) (f : Bool). if same_symbol x s then f else declared_function qs x) h.0.symbol h.0.function ∙ ap (λ b. if same_symbol x r.symbol then r.function else b) (function_same rs qs x h.1)
+      ap₂ (λ (s : Symbol) (f : Bool). (same_symbol x s && f) || declared_function qs x) h.0.symbol h.0.function ∙ ap (λ b. (same_symbol x r.symbol && r.function) || b) (function_same rs qs x h.1)
 
   host_alike : (b : Bool) (x : Symbol) → AlikeOption P (only_if b x >>= host_meaning) (only_if b x >>= host_meaning)
   host_alike false x = tt
@@ -136,24 +203,25 @@ module _ (P : Function → Function → Type 0) where
       named None = tt
       named (Some h) = refl
 
-  meaning_alike : (rs qs : List Row) (x : Symbol) → AlikeRows rs qs → AlikeOption P (meaning_in rs x) (meaning_in qs x)
-  meaning_alike rs qs x h =
-      first_alike (defined rs x) (defined qs x) (only_if (declared_function rs x) x >>= host_meaning) (only_if (declared_function qs x) x >>= host_meaning) (defined_alike rs qs x h)
+  meaning_alike : (common : Bool) (rs qs : List Row) (x : Symbol) → AlikeRows rs qs → AlikeOption P (meaning_in common rs x) (meaning_in common qs x)
+  meaning_alike common rs qs x h =
+      first_alike (defined_in common rs x) (defined_in common qs x) (only_if (declared_function rs x) x >>= host_meaning) (only_if (declared_function qs x) x >>= host_meaning) (chosen_alike common rs qs x h)
       (subst (λ (b : Bool). AlikeOption P (only_if (declared_function rs x) x >>= host_meaning) (only_if b x >>= host_meaning)) (sym (function_same rs qs x h)) (host_alike (declared_function rs x) x))
 
-  table_alike : (rs qs : List Row) (table : List Symbol) → AlikeRows rs qs → AlikeLinked P (map (meaning_in rs) table) (map (meaning_in qs) table)
-  table_alike rs qs [] h = tt
-  table_alike rs qs (x ∷ table) h = (meaning_alike rs qs x h, table_alike rs qs table h)
+  table_alike : (common : Bool) (rs qs : List Row) (table : List Symbol) → AlikeRows rs qs → AlikeLinked P (map (meaning_in common rs) table) (map (meaning_in common qs) table)
+  table_alike common rs qs [] h = tt
+  table_alike common rs qs (x ∷ table) h = (meaning_alike common rs qs x h, table_alike common rs qs table h)
 
   all_rows : (us vs : List (List Linkable)) → AlikeUnits P us vs → AlikeRows (rows_in us) (rows_in vs)
   unfolding AlikeRows
   all_rows us vs h = (
-    record { symbol = refl; function = refl; meaning = tt },
+    record { symbol = refl; function = refl; tentative = refl; meaning = tt },
     subst (λ (t : List Symbol). AlikeRows (rows_from (table_of us) 0 us) (rows_from t 0 vs)) (sym (table_same us vs h)) (from_alike (table_of us) 0 us vs h),
   )
 
-  linked_alike : (us vs : List (List Linkable)) → AlikeUnits P us vs → AlikeLinked P (linked us) (linked vs)
-  linked_alike us vs h = subst (λ (t : List Symbol). AlikeLinked P (linked us) (map (meaning_in (rows_in vs)) t)) (sym (table_same us vs h)) (table_alike (rows_in us) (rows_in vs) (table_of us) (all_rows us vs h))
+  linked_alike : (common : Bool) (us vs : List (List Linkable)) → AlikeUnits P us vs → AlikeLinked P (linked common us) (linked common vs)
+  linked_alike common us vs h =
+      subst (λ (t : List Symbol). AlikeLinked P (linked common us) (map (meaning_in common (rows_in vs)) t)) (sym (table_same us vs h)) (table_alike common (rows_in us) (rows_in vs) (table_of us) (all_rows us vs h))
 
   -- what a pointer to a function or object means
 
@@ -214,10 +282,10 @@ module _ (P : Function → Function → Type 0) where
   memory_alike ms ns abi words h (Literal i) = tt
   memory_alike ms ns abi words h (Heap i) = tt
 
-  pub starts_alike : (us vs : List (List Linkable)) → AlikeUnits P us vs → StartAlike P us vs
-  starts_alike us vs h = record {
-    linked = linked_alike us vs h;
+  pub starts_alike : (common : Bool) (us vs : List (List Linkable)) → AlikeUnits P us vs → StartAlike P common us vs
+  starts_alike common us vs h = record {
+    linked = linked_alike common us vs h;
     main = ap (λ t. place_in t (External (codes "main"))) (table_same us vs h);
-    named = λ v w r. meant_alike (linked us) (linked vs) v w (linked_alike us vs h) r;
-    memory = λ abi words input n. memory_alike (linked us) (linked vs) abi words (linked_alike us vs h);
+    named = λ v w r. meant_alike (linked common us) (linked common vs) v w (linked_alike common us vs h) r;
+    memory = λ abi words input n. memory_alike (linked common us) (linked common vs) abi words (linked_alike common us vs h);
   }

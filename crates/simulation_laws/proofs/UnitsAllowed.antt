@@ -54,22 +54,22 @@ abbrev MainsBelow : Abi → List ℕ → Linked → Linked → Type 0
 MainsBelow abi input link other =
     (c d : Call) (s t : State) → LikeCall (BelowDatum itself) c d → c.abi ≡ abi → c.result ≡ int_kind → BelowRun itself s t → s.input ≡ input → Like (ordered itself) (BelowDatum itself) (calls link c s) (calls other d t)
 
-module _ (P : Function → Function → Type 0) (begins : (f g : Function) → P f g → g.start ≡ f.start) (mode : Mode) (words : List (List ℕ)) (input : List ℕ) (n : ℕ) (us vs : List (List Linkable)) (s : StartAlike P us vs)
-    (called : MainsBelow mode.abi input (linked us) (linked vs)) where
-  starts : BelowRun itself (start_state mode.abi (linked us) words input n) (start_state mode.abi (linked vs) words input n)
+module _ (P : Function → Function → Type 0) (begins : (f g : Function) → P f g → g.start ≡ f.start) (mode : Mode) (words : List (List ℕ)) (input : List ℕ) (n : ℕ) (us vs : List (List Linkable)) (s : StartAlike P mode.common us vs)
+    (called : MainsBelow mode.abi input (linked mode.common us) (linked mode.common vs)) where
+  starts : BelowRun itself (start_state mode.abi (linked mode.common us) words input n) (start_state mode.abi (linked mode.common vs) words input n)
   starts = record { memory = s.memory mode.abi words input n; input = refl; at_end = refl; out = refl; left = refl; next = refl; live = refl; heap = refl }
 
   with_main : (entity : ℕ) (f g : Function) (o : Option (List Argument)) → main_arguments f.start words ≡ o
-      → Allows (outcome_in (option_map (result_with mode.abi (linked us) entity words input n) (o >>= λ xs. Some (f, xs)))) (outcome_in (option_map (result_with mode.abi (linked vs) entity words input n) (o >>= λ xs. Some (g, xs))))
+      → Allows (outcome_in (option_map (result_with mode.abi (linked mode.common us) entity words input n) (o >>= λ xs. Some (f, xs)))) (outcome_in (option_map (result_with mode.abi (linked mode.common vs) entity words input n) (o >>= λ xs. Some (g, xs))))
   with_main entity f g None e = inl refl
   with_main entity f g (Some xs) e =
-      ordered_allows itself (calls (linked us) (main_call mode.abi entity xs) (start_state mode.abi (linked us) words input n)) (calls (linked vs) (main_call mode.abi entity xs) (start_state mode.abi (linked vs) words input n))
-      (called (main_call mode.abi entity xs) (main_call mode.abi entity xs) (start_state mode.abi (linked us) words input n) (start_state mode.abi (linked vs) words input n)
+      ordered_allows itself (calls (linked mode.common us) (main_call mode.abi entity xs) (start_state mode.abi (linked mode.common us) words input n)) (calls (linked mode.common vs) (main_call mode.abi entity xs) (start_state mode.abi (linked mode.common vs) words input n))
+      (called (main_call mode.abi entity xs) (main_call mode.abi entity xs) (start_state mode.abi (linked mode.common us) words input n) (start_state mode.abi (linked mode.common vs) words input n)
       (record { abi = refl; callee = refl; result = refl; arguments = arguments_itself f.start words xs e }) refl refl starts refl)
 
   at_main : (entity : ℕ) (m q : Option Meaning) → AlikeOption P m q
-      → Allows (outcome_in (option_map (result_with mode.abi (linked us) entity words input n) (code_in m >>= λ f. main_arguments f.start words >>= λ xs. Some (f, xs))))
-      (outcome_in (option_map (result_with mode.abi (linked vs) entity words input n) (code_in q >>= λ f. main_arguments f.start words >>= λ xs. Some (f, xs))))
+      → Allows (outcome_in (option_map (result_with mode.abi (linked mode.common us) entity words input n) (code_in m >>= λ f. main_arguments f.start words >>= λ xs. Some (f, xs))))
+      (outcome_in (option_map (result_with mode.abi (linked mode.common vs) entity words input n) (code_in q >>= λ f. main_arguments f.start words >>= λ xs. Some (f, xs))))
   at_main entity None None h = inl refl
   at_main entity None (Some q) h = absurd h
   at_main entity (Some m) None h = absurd h
@@ -82,13 +82,13 @@ module _ (P : Function → Function → Type 0) (begins : (f g : Function) → P
   at_main entity (Some (Host a)) (Some (Code g)) h = absurd h
   at_main entity (Some (Host a)) (Some (Host b)) h = inl refl
   at_main entity (Some (Code f)) (Some (Code g)) h =
-      subst (λ (x : Start). Allows (outcome_in (option_map (result_with mode.abi (linked us) entity words input n) (main_arguments f.start words >>= λ xs. Some (f, xs))))
-      (outcome_in (option_map (result_with mode.abi (linked vs) entity words input n) (main_arguments x words >>= λ xs. Some (g, xs))))) (sym (begins f g h))
+      subst (λ (x : Start). Allows (outcome_in (option_map (result_with mode.abi (linked mode.common us) entity words input n) (main_arguments f.start words >>= λ xs. Some (f, xs))))
+      (outcome_in (option_map (result_with mode.abi (linked mode.common vs) entity words input n) (main_arguments x words >>= λ xs. Some (g, xs))))) (sym (begins f g h))
       (with_main entity f g (main_arguments f.start words) refl)
 
   looked_up : (entity e : ℕ) (ms ns : Linked) → AlikeLinked P ms ns
-      → Allows (outcome_in (option_map (result_with mode.abi (linked us) entity words input n) (slice_get ms e >>= code_in >>= λ f. main_arguments f.start words >>= λ xs. Some (f, xs))))
-      (outcome_in (option_map (result_with mode.abi (linked vs) entity words input n) (slice_get ns e >>= code_in >>= λ f. main_arguments f.start words >>= λ xs. Some (f, xs))))
+      → Allows (outcome_in (option_map (result_with mode.abi (linked mode.common us) entity words input n) (slice_get ms e >>= code_in >>= λ f. main_arguments f.start words >>= λ xs. Some (f, xs))))
+      (outcome_in (option_map (result_with mode.abi (linked mode.common vs) entity words input n) (slice_get ns e >>= code_in >>= λ f. main_arguments f.start words >>= λ xs. Some (f, xs))))
   looked_up entity e [] [] h = inl refl
   looked_up entity e [] (q ∷ ns) h = absurd h
   looked_up entity e (m ∷ ms) [] h = absurd h
@@ -96,7 +96,7 @@ module _ (P : Function → Function → Type 0) (begins : (f g : Function) → P
   looked_up entity (suc e) (m ∷ ms) (q ∷ ns) h = looked_up entity e ms ns h.1
 
   allowed : Allows (run us mode words input n) (run vs mode words input n)
-  allowed = subst (λ (e : ℕ). Allows (run us mode words input n) (run_linked mode.abi (linked vs) e words input n)) (sym s.main) (looked_up (main_entity us) (main_entity us) (linked us) (linked vs) s.linked)
+  allowed = subst (λ (e : ℕ). Allows (run us mode words input n) (run_linked mode.abi (linked mode.common vs) e words input n)) (sym s.main) (looked_up (main_entity us) (main_entity us) (linked mode.common us) (linked mode.common vs) s.linked)
 
 -- functions that keep the order, and begin a program alike
 pub record KeepsRuns (f g : Function) : Type 0 where
@@ -107,12 +107,12 @@ pub record KeepsRuns (f g : Function) : Type 0 where
 pub units_allowed : (us vs : List (List Linkable)) → AlikeUnits KeepsRuns us vs → TameUnits vs → (mode : Mode) (words : List (List ℕ)) (input : List ℕ) (n : ℕ) → Allows (run us mode words input n) (run vs mode words input n)
 units_allowed us vs h tame mode words input n = allowed KeepsRuns (λ f g k. k.start) mode words input n us vs start (λ c d x y l a k r i. called tt c d x y l r)
   where
-    start : StartAlike KeepsRuns us vs
-    start = starts_alike KeepsRuns us vs h
+    start : StartAlike KeepsRuns mode.common us vs
+    start = starts_alike KeepsRuns mode.common us vs h
 
-    called : OrderedCalls itself (calls (linked us)) (calls (linked vs))
-    called = calls_ordered itself (λ a b e. e) (λ i. refl) (λ act i. refl) (linked us) (linked vs) (linked_tame vs tame)
-        (λ v w b. computes_more KeepsRuns (OrderedFunctions itself) (λ f g k. k.keeps) (meant (linked us) v) (meant (linked vs) w) (start.named v w b))
+    called : OrderedCalls itself (calls (linked mode.common us)) (calls (linked mode.common vs))
+    called = calls_ordered itself (λ a b e. e) (λ i. refl) (λ act i. refl) (linked mode.common us) (linked mode.common vs) (linked_tame mode.common vs tame)
+        (λ v w b. computes_more KeepsRuns (OrderedFunctions itself) (λ f g k. k.keeps) (meant (linked mode.common us) v) (meant (linked mode.common vs) w) (start.named v w b))
 
 -- functions that keep the order where values fit their kinds, and begin a program alike
 pub record FitsRuns (abi : Abi) (f g : Function) : Type 0 where
@@ -122,12 +122,12 @@ pub record FitsRuns (abi : Abi) (f g : Function) : Type 0 where
 -- so it is where the bodies ask that calls give what fits, and the input is bytes
 pub units_fitted : (us vs : List (List Linkable)) (mode : Mode) → AlikeUnits (FitsRuns mode.abi) us vs → TameUnits vs → (words : List (List ℕ)) (input : List ℕ) → AreBytes input → (n : ℕ) → Allows (run us mode words input n) (run vs mode words input n)
 units_fitted us vs mode h tame words input bytes n =
-    allowed (FitsRuns mode.abi) (λ f g k. k.start) mode words input n us vs start (λ c d x y l a k r i. below_alone mode.abi int_kind (calls (linked us) c x) (calls (linked vs) d y)
+    allowed (FitsRuns mode.abi) (λ f g k. k.start) mode words input n us vs start (λ c d x y l a k r i. below_alone mode.abi int_kind (calls (linked mode.common us) c x) (calls (linked mode.common vs) d y)
     (called int_kind c d x y (l, a, k) (record { run = r; input = subst AreBytes (sym i) bytes })))
   where
-    start : StartAlike (FitsRuns mode.abi) us vs
-    start = starts_alike (FitsRuns mode.abi) us vs h
+    start : StartAlike (FitsRuns mode.abi) mode.common us vs
+    start = starts_alike (FitsRuns mode.abi) mode.common us vs h
 
-    called : FittedCalls mode.abi (calls (linked us)) (calls (linked vs))
-    called = calls_fitted mode.abi (linked us) (linked vs) (linked_tame vs tame)
-        (λ v w b. computes_more (FitsRuns mode.abi) (FittedFunctions mode.abi) (λ f g k. k.fits) (meant (linked us) v) (meant (linked vs) w) (start.named v w b))
+    called : FittedCalls mode.abi (calls (linked mode.common us)) (calls (linked mode.common vs))
+    called = calls_fitted mode.abi (linked mode.common us) (linked mode.common vs) (linked_tame mode.common vs tame)
+        (λ v w b. computes_more (FitsRuns mode.abi) (FittedFunctions mode.abi) (λ f g k. k.fits) (meant (linked mode.common us) v) (meant (linked mode.common vs) w) (start.named v w b))

@@ -1,5 +1,5 @@
 -- Device: units that link alike start alike: functions that a relation holds of, objects whose bytes say no more, under the same names (C11 5.1.2p1, 6.2.2p2).
-use Rattle.std.specs.Prelude.{◌≡◌, ℕ, false, List, [], ◌∷◌, Option, Some, None}
+use Rattle.std.specs.Prelude.{◌≡◌, ℕ, Bool, false, List, [], ◌∷◌, Option, Some, None}
 use Rattle.cil_base.specs.declared.kinds.Abi.{Abi}
 use Rattle.byte_mem.specs.declared.values.Value.{Value}
 use Rattle.byte_mem.specs.Below.{BelowBytes, BelowValue, BelowMemory}
@@ -33,6 +33,7 @@ pub record AlikeLinkable (P : Function → Function → Type 0) (x y : Linkable)
   pub internal : y.internal ≡ x.internal
   pub name : y.name ≡ x.name
   pub function : y.function ≡ x.function
+  pub tentative : y.tentative ≡ x.tentative
   pub means : (entities : List ℕ) → AlikeOption P (x.means entities) (y.means entities)
 
 abbrev pub AlikeUnit : (Function → Function → Type 0) → List Linkable → List Linkable → Type 0
@@ -53,10 +54,11 @@ AlikeLinked P [] (n ∷ ns) = ⊥
 AlikeLinked P (m ∷ ms) [] = ⊥
 AlikeLinked P (m ∷ ms) (n ∷ ns) = AlikeOption P m n × AlikeLinked P ms ns
 
-pub record StartAlike (P : Function → Function → Type 0) (us vs : List (List Linkable)) : Type 0 where
-  pub linked : AlikeLinked P (linked_in us) (linked_in vs)
+-- as tentative definitions of several units are common or not
+pub record StartAlike (P : Function → Function → Type 0) (common : Bool) (us vs : List (List Linkable)) : Type 0 where
+  pub linked : AlikeLinked P (linked_in common us) (linked_in common vs)
   pub main : main_entity vs ≡ main_entity us
   -- what corresponds means the same
-  pub named : (v w : Value) → BelowValue itself v w → Computes Past (LikeMeaning P) (meant (linked_in us) v) (meant (linked_in vs) w)
+  pub named : (v w : Value) → BelowValue itself v w → Computes Past (LikeMeaning P) (meant (linked_in common us) v) (meant (linked_in common vs) w)
   -- the first memory says no more at the start
-  pub memory : (abi : Abi) (words : List (List ℕ)) (input : List ℕ) (n : ℕ) → BelowMemory itself (start_state abi (linked_in us) words input n).memory (start_state abi (linked_in vs) words input n).memory
+  pub memory : (abi : Abi) (words : List (List ℕ)) (input : List ℕ) (n : ℕ) → BelowMemory itself (start_state abi (linked_in common us) words input n).memory (start_state abi (linked_in common vs) words input n).memory

@@ -1,4 +1,4 @@
-ghost use Rattle.std.specs.Prelude.{List};
+ghost use Rattle.std.specs.Prelude.{Bool, List};
 ghost use Rattle.byte_mem.specs.Below.{Names};
 ghost use Rattle.execution.specs.Likeness.{Same};
 ghost use Rattle.execution.specs.Linking.{Linkable};
@@ -43,10 +43,10 @@ pub fn host_calls_stay()
 {}
 
 /// Units that link alike, with the same functions and object by object as the order of bytes says, have the same entities,
-/// mean what corresponds, and start in memories of which the first says no more (C11 5.1.2p1, 6.2.2p2). It is proved of any
-/// relation of functions.
+/// mean what corresponds, and start in memories of which the first says no more (C11 5.1.2p1, 6.2.2p2), whether tentative
+/// definitions of several units are common or not (J.5.11). It is proved of any relation of functions.
 pub fn units_start_alike()
-    ensures { (us vs : List (List Linkable)) → AlikeUnits Same us vs → StartAlike Same us vs }
+    ensures { (common : Bool) (us vs : List (List Linkable)) → AlikeUnits Same us vs → StartAlike Same common us vs }
 {}
 
 /// A complete type of a program that is no array has a kind, has the size of that kind, and is read as itself

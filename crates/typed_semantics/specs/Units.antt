@@ -18,11 +18,10 @@ use Rattle.execution.specs.Runs.{run}
 use Rattle.typed_tree.specs.declared.units.EntityKind.{EntityKind}
 use Rattle.typed_tree.specs.declared.units.EntityKind.TheVariants.{External, Internal, StaticLocal, Literal}
 use Rattle.typed_tree.specs.Units.{Unit as TypedTree, Entity as TreeEntity, Definition, Declared, Zero, Initialised, Body, Function}
-use Rattle.c_typing.specs.Types.{Aggregate, Member, Types, is_function, size_in}
+use Rattle.c_typing.specs.Types.{Aggregate, Member, Types, is_function}
 use Rattle.cil_semantics.specs.Runs.{start_of}
 use Rattle.c_semantics.specs.Values.{kind_of, kinds_of}
 use Rattle.c_semantics.specs.Places.{Activation}
-use Rattle.c_semantics.specs.Common.{Defined, in_mode}
 use Rattle.c_semantics.specs.Units.{activation, protect_parameters, zeros, image}
 use Rattle.typed_semantics.specs.Statements.{Items, block, t_meaning}
 
@@ -79,29 +78,14 @@ definition_meaning t e entities (Initialised is) = object e (zeros t e.shape >>=
 definition_meaning t e entities (Body f) = function_meaning t entities (is_main e) f e.shape
 
 abbrev pub linkable : Types → TypedEntity → Linkable
-linkable t e = record { internal = e.internal; name = e.name; function = is_function e.shape; means = λ entities. definition_meaning t e entities e.definition }
+linkable t e = record { internal = e.internal; name = e.name; function = is_function e.shape; tentative = e.tentative; means = λ entities. definition_meaning t e entities e.definition }
 
-abbrev pub is_defined : Definition → Bool
-is_defined Declared = false
-is_defined Zero = true
-is_defined (Initialised is) = true
-is_defined (Body f) = true
-
-abbrev pub weak_size : Types → TypedEntity → Option ℕ
-weak_size t e = elim e.tentative [ true ↦ size_in t e.shape | false ↦ None ]
-
-abbrev pub defined_by : Types → TypedEntity → Defined
-defined_by t e = record { linkable = linkable t e; weak = weak_size t e; strong = is_defined e.definition && not e.tentative }
-
-abbrev pub definitions : TypedUnit → List Defined
-definitions u = map (defined_by u.types) u.entities
-
-abbrev pub linkables : Mode → List TypedUnit → List (List Linkable)
-linkables mode units = in_mode mode.common (map definitions units)
+abbrev pub linkables : TypedUnit → List Linkable
+linkables u = map (linkable u.types) u.entities
 
 -- the outcome of typed units that are linked and run in a mode, with those words and that input, within so many units of the budget
 abbrev pub RunTyped : List TypedUnit → Mode → List (List ℕ) → List ℕ → ℕ → Outcome
-RunTyped units mode words input n = run (linkables mode units) mode words input n
+RunTyped units mode words input n = run (map linkables units) mode words input n
 
 -- typed trees of units, whose types are a graph and whose names are numbers of texts
 

@@ -6,4 +6,4 @@ use Rattle.c_semantics.proofs.UnitLaws.{units_tame}
 use Rattle.c_semantics.proofs.laws.bounds_only_cut.Goals as goal
 
 pub returns : goal.returns
-returns c = λ texts mode units words input. run_cuts mode.abi (linked (linkables texts mode units)) (linked_tame (linkables texts mode units) (units_tame texts mode units)) (main_entity (linkables texts mode units)) words input
+returns c = λ texts mode units words input. run_cuts mode.abi (linked mode.common (linkables texts mode.abi units)) (linked_tame mode.common (linkables texts mode.abi units) (units_tame texts mode.abi units)) (main_entity (linkables texts mode.abi units)) words input

@@ -6,4 +6,4 @@ use Rattle.c_semantics.proofs.UnitLaws.{units_tame}
 use Rattle.c_semantics.proofs.laws.calls_are_their_step.Goals as goal
 
 pub returns : goal.returns
-returns c = λ texts mode units. calls_are (linked (linkables texts mode units)) (linked_tame (linkables texts mode units) (units_tame texts mode units))
+returns c = λ texts mode units. calls_are (linked mode.common (linkables texts mode.abi units)) (linked_tame mode.common (linkables texts mode.abi units) (units_tame texts mode.abi units))

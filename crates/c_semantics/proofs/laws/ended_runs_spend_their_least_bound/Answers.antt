@@ -4,4 +4,4 @@ use Rattle.c_semantics.proofs.UnitLaws.{units_tame}
 use Rattle.c_semantics.proofs.laws.ended_runs_spend_their_least_bound.Goals as goal
 
 pub returns : goal.returns
-returns c = λ texts mode units words input. spends_least (linkables texts mode units) (units_tame texts mode units) mode words input
+returns c = λ texts mode units words input. spends_least (linkables texts mode.abi units) (units_tame texts mode.abi units) mode words input

@@ -7,4 +7,4 @@ use Rattle.cil_semantics.proofs.ProgramLaws.{programs_tame}
 use Rattle.cil_semantics.proofs.laws.bounds_only_cut.Goals as goal
 
 pub returns : goal.returns
-returns c = λ programs mode words input. run_cuts mode.abi (linked (map linkables programs)) (linked_tame (map linkables programs) (programs_tame programs)) (main_entity (map linkables programs)) words input
+returns c = λ programs mode words input. run_cuts mode.abi (linked mode.common (map linkables programs)) (linked_tame mode.common (map linkables programs) (programs_tame programs)) (main_entity (map linkables programs)) words input

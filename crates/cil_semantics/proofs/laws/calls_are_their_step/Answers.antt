@@ -7,4 +7,4 @@ use Rattle.cil_semantics.proofs.ProgramLaws.{programs_tame}
 use Rattle.cil_semantics.proofs.laws.calls_are_their_step.Goals as goal
 
 pub returns : goal.returns
-returns c = λ programs. calls_are (linked (map linkables programs)) (linked_tame (map linkables programs) (programs_tame programs))
+returns c = λ common programs. calls_are (linked common (map linkables programs)) (linked_tame common (map linkables programs) (programs_tame programs))

@@ -3,4 +3,4 @@ use Rattle.simulation_laws.proofs.StartsAlike.{starts_alike}
 use Rattle.simulation_laws.proofs.laws.units_start_alike.Goals as goal
 
 pub returns : goal.returns
-returns c = λ us vs h. starts_alike Same us vs h
+returns c = λ common us vs h. starts_alike Same common us vs h
