@@ -74,7 +74,7 @@ known_on : (a b : Joining) (ds : List Distinct) (s : Side) → IsKept a b → Is
 known_on a b ds s k h = record { place = h.place; one = h.one; there = h.there; says = (h.says.0, k.roots h.one.side.ty ∙ h.says.1 ∙ sym (k.roots s.ty)) }
 
 module _ (ts : List (Thing Head Label)) where
-  -- a type that stays cs it is
+  -- a type that stays as it is
   pub stays_is : (x : ℕ) (h : Head) → head_of ts x ≡ Some h → stays_at ts x ≡ stays ts x h
   stays_is x h e = ap (λ (o : Option Head). elim o [ None ↦ true | Some k ↦ stays ts x k ]) e
 
