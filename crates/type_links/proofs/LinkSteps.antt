@@ -1,12 +1,9 @@
 -- Device: the steps of the functions that join links, over plain values.
-use Rattle.std.proofs.Common.{◌≡◌, ◌≢◌, ◌⊎◌, inl, inr, ℕ, zero, suc, ◌+◌, ◌-◌, ◌<◌, ◌≤◌, Bool, true, false, not, ◌&&◌, ◌||◌, List, [], ◌∷◌, ◌++◌, Option, Some, None, Result, Ok, Err, IfOk, OnOk, IsTrue, MatchOption, MatchBool, map, length, take, drop, get_or, slice_get, if◌then◌else◌, subst, refl, sym, ap, ◌∙◌, append_assoc, append-nil, arith, true≢false}
+use Rattle.std.proofs.Common.{◌≡◌, inl, inr, ℕ, zero, suc, ◌+◌, ◌-◌, ◌<◌, ◌≤◌, Bool, true, false, not, ◌||◌, List, [], ◌∷◌, ◌++◌, Option, Some, None, Result, Ok, Err, IfOk, OnOk, IsTrue, MatchOption, MatchBool, map, length, take, drop, get_or, slice_get, if◌then◌else◌, subst, refl, sym, ap, ◌∙◌, append_assoc, append-nil, arith}
 use mathlib.Core.Path.{fun_ext}
 use Rattle.std.specs.Bool.{beq}
 use Rattle.std.specs.Cmp.{booleans_Decides}
 use Rattle.std.proofs.lemmas.List.{map-append}
-use Rattle.cil_base.specs.declared.kinds.IntKind.{IntKind}
-use Rattle.cil_base.specs.Kinds.{same_kind}
-use Rattle.cil_base.specs.Usual.{promoted}
 use Rattle.type_joins.specs.declared.joining.Joining.{Joining}
 use Rattle.type_links.specs.declared.linking.Side.{Side}
 use Rattle.type_links.specs.declared.linking.Distinct.{Distinct}

@@ -9,7 +9,7 @@ use Rattle.type_links.specs.declared.linking.Side.{Side}
 use Rattle.type_links.specs.declared.parties.Group.{Group}
 use Rattle.type_links.specs.declared.parties.Party.{Party}
 use Rattle.type_things.specs.Heads.{first_type, is_open, is_bounded, lacks_prototype, has_prototype, is_enum, parts_of, first_part}
-use Rattle.type_things.specs.Things.{Thing, head_of, inside_of, Joint, IsClash}
+use Rattle.type_things.specs.Things.{Thing, head_of, Joint, IsClash}
 
 -- what is compared of the declarations of a unit
 abbrev pub side_of : List (ℕ × ℕ) → Party → Side
