@@ -1,9 +1,9 @@
 -- Device: the root of a number, and how joining two roots changes it.
-use Rattle.std.proofs.Common.{◌≡◌, ◌≢◌, ◌⊎◌, inl, inr, ℕ, zero, suc, ◌<◌, ◌≤◌, Bool, true, false, cond, nat_eq, List, [], ◌∷◌, length, get_or, slice_set, subst, refl, sym, ap, ◌∙◌, arith, true≢false}
+use Rattle.std.proofs.Common.{◌≡◌, ◌≢◌, ◌⊎◌, inl, inr, ℕ, zero, suc, ◌<◌, ◌≤◌, Bool, true, false, cond, nat_eq, List, length, slice_set, subst, refl, sym, ap, ◌∙◌, arith}
 use Rattle.std.proofs.lemmas.Bool.{eqb-true, eq-eqb}
 use Rattle.type_things.proofs.NumberLaws.{same_or_not, beyond}
 use Rattle.type_joins.specs.Forests.{parent, up, root, IsForest, joined}
-use Rattle.std.proofs.lemmas.List.{get_or-set_same, get_or-set_other, length-set}
+use Rattle.std.proofs.lemmas.List.{get_or-set_same, get_or-set_other}
 
 settled : (ps : List ℕ) (k x : ℕ) → parent ps x ≡ x → up ps k x ≡ x
 settled ps zero x e = refl

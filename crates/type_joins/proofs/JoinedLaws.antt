@@ -1,5 +1,5 @@
 -- Device: pairs of things are joined one by one, and what follows for their parts is joined too.
-use Rattle.std.proofs.Common.{◌≡◌, ◌≢◌, ◌⊎◌, inl, inr, ℕ, ◌<◌, Bool, true, false, cond, nat_eq, List, [], ◌∷◌, ◌++◌, Option, Some, None, map, length, get_or, slice_set, subst, refl, sym, ap, ◌∙◌, arith, true≢false, MatchOption}
+use Rattle.std.proofs.Common.{◌≡◌, ◌≢◌, ◌⊎◌, inl, inr, ℕ, ◌<◌, Bool, true, false, cond, nat_eq, List, [], ◌∷◌, ◌++◌, Option, Some, None, length, get_or, slice_set, subst, refl, sym, ap, ◌∙◌, arith, MatchOption}
 use Rattle.std.proofs.lemmas.Bool.{eqb-true, eq-eqb}
 use Rattle.std.proofs.lemmas.List.{get_or-set_same, get_or-set_other}
 use Rattle.type_things.specs.Things.{Thing, HoldsPairs, read, labels, inside_of, Agree, IsClosed, AreAlike, Fits, Forced}

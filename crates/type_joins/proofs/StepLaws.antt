@@ -1,5 +1,5 @@
 -- Device: the steps of the functions that join things, over plain values.
-use Rattle.std.proofs.Common.{◌≡◌, ◌≢◌, ◌⊎◌, inl, inr, ℕ, zero, suc, ◌+◌, ◌-◌, ◌<◌, ◌≤◌, Bool, true, false, cond, nat_eq, List, [], ◌∷◌, ◌++◌, Option, Some, None, map, length, get_or, take, drop, slice_get, slice_set, MatchOption, MatchBool, Result, Ok, Err, IfOk, OnOk, Vec, subst, refl, sym, ap, ◌∙◌, append_assoc, arith, true≢false}
+use Rattle.std.proofs.Common.{◌≡◌, ℕ, zero, suc, ◌+◌, ◌<◌, ◌≤◌, Bool, true, false, nat_eq, List, [], ◌∷◌, ◌++◌, length, get_or, take, drop, slice_set, MatchBool, Result, Ok, Err, OnOk, subst, refl, sym, ap, ◌∙◌, append_assoc, arith, true≢false}
 use mathlib.Core.Path.{fun_ext}
 use Rattle.std.proofs.lemmas.Bool.{eqb-true, eq-eqb}
 use Rattle.type_things.specs.declared.web.Head.{Head}
@@ -7,9 +7,7 @@ use Rattle.type_things.specs.declared.web.Label.{Label}
 use Rattle.type_things.specs.Things.{Thing, labels, Forced, Agree, IsClash}
 use Rattle.type_joins.specs.Forests.{parent, root, IsForest, joined}
 use Rattle.type_joins.specs.Joined.{zipped, chosen, carried, IsJoining}
-use Rattle.std.specs.declared.alloc.Global.{Global}
-use Rattle.type_joins.proofs.ForestLaws.{root_top, root_parent, root_of_top, root_root, root_below, halved, linked, skipped}
-use Rattle.type_things.proofs.NumberLaws.{beyond}
+use Rattle.type_joins.proofs.ForestLaws.{root_top, root_parent, root_of_top, root_root, halved, linked, skipped}
 use Rattle.type_joins.proofs.JoinedLaws.{passes, to_roots, turned, same_roots, forced_roots, joins}
 
 -- a step up: the number's parent is above, and above it another one

@@ -1,5 +1,5 @@
 -- Device: numbers in trees that lead to lesser ones, and the root of each.
-use Rattle.std.specs.Prelude.{ℕ, zero, suc, ◌≤◌, cond, nat_eq, List, length, get_or, slice_set}
+use Rattle.std.specs.Prelude.{ℕ, zero, suc, ◌≤◌, cond, nat_eq, List, length, get_or}
 
 abbrev pub parent : List ℕ → ℕ → ℕ
 parent ps x = get_or ps x x

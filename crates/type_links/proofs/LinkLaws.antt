@@ -1,5 +1,5 @@
 -- Device: links of declarations that say the same are held together.
-use Rattle.std.proofs.Common.{◌≡◌, ◌≢◌, ◌⊎◌, inl, inr, ℕ, zero, suc, ◌+◌, ◌<◌, ◌≤◌, Bool, true, false, not, ◌&&◌, ◌||◌, List, [], ◌∷◌, ◌++◌, Option, Some, None, ◌==◌, map, length, take, slice_get, if◌then◌else◌, subst, refl, sym, ap, ◌∙◌, append_assoc, append-nil, arith, true≢false}
+use Rattle.std.proofs.Common.{◌≡◌, ◌⊎◌, inl, inr, ℕ, zero, suc, ◌<◌, Bool, true, false, not, ◌&&◌, ◌||◌, List, [], ◌∷◌, ◌++◌, Option, Some, None, ◌==◌, map, length, take, slice_get, if◌then◌else◌, subst, refl, sym, ap, ◌∙◌, arith, true≢false}
 use Rattle.type_things.specs.declared.web.Head.{Head}
 use Rattle.type_things.specs.declared.web.Head.TheVariants.{Void, Int, Ptr, Array, Func, Agg, Tagged}
 use Rattle.type_things.specs.declared.web.Label.{Label}

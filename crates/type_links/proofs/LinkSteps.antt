@@ -1,12 +1,9 @@
 -- Device: the steps of the functions that join links, over plain values.
-use Rattle.std.proofs.Common.{◌≡◌, ◌≢◌, ◌⊎◌, inl, inr, ℕ, zero, suc, ◌+◌, ◌-◌, ◌<◌, ◌≤◌, Bool, true, false, not, ◌&&◌, ◌||◌, List, [], ◌∷◌, ◌++◌, Option, Some, None, Result, Ok, Err, IfOk, OnOk, IsTrue, MatchOption, MatchBool, map, length, take, drop, get_or, slice_get, if◌then◌else◌, subst, refl, sym, ap, ◌∙◌, append_assoc, append-nil, arith, true≢false}
+use Rattle.std.proofs.Common.{◌≡◌, inl, inr, ℕ, zero, suc, ◌+◌, ◌-◌, ◌<◌, ◌≤◌, Bool, true, false, not, ◌||◌, List, [], ◌∷◌, ◌++◌, Option, Some, None, Result, Ok, Err, IfOk, OnOk, IsTrue, MatchOption, MatchBool, map, length, take, drop, get_or, slice_get, if◌then◌else◌, subst, refl, sym, ap, ◌∙◌, append_assoc, append-nil, arith}
 use mathlib.Core.Path.{fun_ext}
 use Rattle.std.specs.Bool.{beq}
 use Rattle.std.specs.Cmp.{booleans_Decides}
 use Rattle.std.proofs.lemmas.List.{map-append}
-use Rattle.cil_base.specs.declared.kinds.IntKind.{IntKind}
-use Rattle.cil_base.specs.Kinds.{same_kind}
-use Rattle.cil_base.specs.Usual.{promoted}
 use Rattle.type_joins.specs.declared.joining.Joining.{Joining}
 use Rattle.type_links.specs.declared.linking.Side.{Side}
 use Rattle.type_links.specs.declared.linking.Distinct.{Distinct}
@@ -74,7 +71,7 @@ known_on : (a b : Joining) (ds : List Distinct) (s : Side) → IsKept a b → Is
 known_on a b ds s k h = record { place = h.place; one = h.one; there = h.there; says = (h.says.0, k.roots h.one.side.ty ∙ h.says.1 ∙ sym (k.roots s.ty)) }
 
 module _ (ts : List (Thing Head Label)) where
-  -- a type that stays cs it is
+  -- a type that stays as it is
   pub stays_is : (x : ℕ) (h : Head) → head_of ts x ≡ Some h → stays_at ts x ≡ stays ts x h
   stays_is x h e = ap (λ (o : Option Head). elim o [ None ↦ true | Some k ↦ stays ts x k ]) e
 

@@ -1,5 +1,5 @@
 -- Device: the links of one name while they are joined, of which those are left out that say nothing new.
-use Rattle.std.specs.Prelude.{◌≡◌, ◌⊎◌, ℕ, ◌<◌, ◌≤◌, Bool, true, false, List, [], ◌∷◌, ◌++◌, Some, map, take, slice_get}
+use Rattle.std.specs.Prelude.{◌≡◌, ◌⊎◌, ℕ, ◌<◌, ◌≤◌, List, [], ◌∷◌, ◌++◌, Some, map, take, slice_get}
 use Rattle.type_things.specs.declared.web.Head.{Head}
 use Rattle.type_things.specs.declared.web.Label.{Label}
 use Rattle.type_joins.specs.declared.joining.Joining.{Joining}

@@ -9,7 +9,7 @@ use Rattle.type_links.specs.declared.linking.Side.{Side}
 use Rattle.type_links.specs.declared.parties.Group.{Group}
 use Rattle.type_links.specs.declared.parties.Party.{Party}
 use Rattle.type_things.specs.Heads.{first_type, is_open, is_bounded, lacks_prototype, has_prototype, is_enum, parts_of, first_part}
-use Rattle.type_things.specs.Things.{Thing, head_of, inside_of, Joint, IsClash}
+use Rattle.type_things.specs.Things.{Thing, head_of, Joint, IsClash}
 
 -- what is compared of the declarations of a unit
 abbrev pub side_of : List (ℕ × ℕ) → Party → Side
@@ -26,7 +26,7 @@ module _ (ts : List (Thing Head Label)) where
   abbrev pub is_enum_at : ℕ → Bool
   is_enum_at x = elim (head_of ts x) [ None ↦ false | Some h ↦ is_enum h ]
 
-  -- a type that the default argument promotions leave cs it is (6.5.2.2p6)
+  -- a type that the default argument promotions leave as it is (6.5.2.2p6)
   abbrev pub stays : ℕ → Head → Bool
   stays x (Int kind) = same_kind (promoted kind) kind
   stays x Agg = not (is_enum_at (first_part ts x))
@@ -39,7 +39,7 @@ module _ (ts : List (Thing Head Label)) where
   all_stay [] = true
   all_stay (p ∷ ps) = stays_at p.1 && all_stay ps
 
-  -- the parameters of a prototype fit a function without one: that of a definition has none, those of declarations stay cs they are
+  -- the parameters of a prototype fit a function without one: that of a definition has none, those of declarations stay as they are
   abbrev pub parameters_fit : Bool → List (Label × ℕ) → Bool
   parameters_fit bare ps = if bare then (length ps == 0) else all_stay ps
 

@@ -1,5 +1,5 @@
 -- Device: things by their numbers, and the first thing of each number.
-use Rattle.std.proofs.Common.{◌≡◌, ◌⊎◌, inl, inr, ℕ, zero, suc, ◌+◌, ◌<◌, ◌≤◌, Bool, true, false, not, ◌||◌, cond, List, [], ◌∷◌, ◌++◌, Some, length, get_or, slice_get, subst, refl, sym, ap, ◌∙◌, arith, add-one, eqb, nat_eq, Result, Ok, Err, IfOk, OnOk, Fits, w32, true≢false}
+use Rattle.std.proofs.Common.{◌≡◌, ◌⊎◌, inl, inr, ℕ, zero, suc, ◌+◌, ◌<◌, Bool, true, false, not, ◌||◌, cond, List, [], ◌∷◌, ◌++◌, Some, length, get_or, slice_get, subst, refl, sym, ap, ◌∙◌, arith, eqb, nat_eq, Result, Ok, Err, IfOk, OnOk, Fits, w32}
 use Rattle.std.specs.List.{list_any, position_or_len}
 use Rattle.std.proofs.lemmas.Bool.{eqb-true, eq-eqb}
 use Rattle.std.proofs.lemmas.List.{get_or_default}

@@ -1,5 +1,5 @@
 -- Device: the steps of the functions that gather isomorphic things, over plain values.
-use Rattle.std.proofs.Common.{◌≡◌, ◌⊎◌, inl, inr, ℕ, suc, ◌<◌, List, [], length, get_or, Result, Ok, Err, IfOk, Vec, subst, refl, sym}
+use Rattle.std.proofs.Common.{◌≡◌, inl, inr, ℕ, suc, ◌<◌, List, [], length, get_or, Result, Ok, Err, IfOk, Vec, subst, refl, sym}
 use mathlib.Core.Path.{fun_ext}
 use Rattle.std.specs.declared.alloc.Global.{Global}
 use Rattle.type_things.specs.declared.web.Head.{Head}

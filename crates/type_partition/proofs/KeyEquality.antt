@@ -1,5 +1,5 @@
 -- Device: the derived comparison tells whether keys are equal.
-use Rattle.std.proofs.Common.{◌≡◌, true, ◌&&◌, refl, ap, ◌∙◌, eqb-true, eq-eqb}
+use Rattle.std.proofs.Common.{◌≡◌, true, refl, ap, ◌∙◌, eqb-true, eq-eqb}
 use Rattle.type_things.specs.declared.web.Label.{Label}
 use Rattle.type_things.proofs.HeadLaws.{joined, both, eq_tells, eq_same, label_tells, label_same}
 use Rattle.type_partition.specs.declared.refining.Key.{Key}

@@ -1,7 +1,7 @@
 -- Device: two things have one key exactly where they are alike with parts of the same numbers.
-use Rattle.std.proofs.Common.{◌≡◌, ◌≢◌, ◌⊎◌, inl, inr, ℕ, zero, suc, ◌+◌, ◌<◌, ◌≤◌, Bool, true, false, ◌||◌, cond, List, [], ◌∷◌, ◌++◌, Option, Some, None, map, length, get_or, slice_get, MatchOption, subst, refl, sym, ap, ◌∙◌, arith, true≢false}
+use Rattle.std.proofs.Common.{◌≡◌, ◌⊎◌, inl, inr, ℕ, zero, suc, ◌+◌, ◌<◌, ◌≤◌, Bool, true, false, ◌||◌, cond, List, [], ◌∷◌, ◌++◌, Option, Some, None, length, get_or, slice_get, MatchOption, subst, refl, sym, ap, ◌∙◌, arith, true≢false}
 use Rattle.std.specs.List.{list_any}
-use Rattle.type_graph.proofs.Lists.{get_stays, get_push, get_at_end, get_there}
+use Rattle.type_graph.proofs.Lists.{get_stays, get_push}
 use Rattle.type_things.specs.declared.web.Head.{Head}
 use Rattle.type_things.specs.declared.web.Label.{Label}
 use Rattle.type_partition.specs.declared.refining.Key.{Key}

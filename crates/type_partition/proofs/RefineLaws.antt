@@ -1,5 +1,5 @@
 -- Device: the steps of the functions that number things, over plain values.
-use Rattle.std.proofs.Common.{◌≡◌, ◌⊎◌, inl, inr, ℕ, zero, suc, ◌+◌, ◌-◌, ◌<◌, ◌≤◌, Bool, true, false, not, cond, List, [], ◌∷◌, ◌++◌, Option, Some, None, Result, Ok, Err, IfOk, OnOk, Bor, map, length, get_or, drop, slice_get, MatchOption, subst, refl, sym, ap, ◌∙◌, arith, add-one, eqb, Fits, w32, ◌&&◌}
+use Rattle.std.proofs.Common.{◌≡◌, ℕ, zero, suc, ◌+◌, ◌-◌, ◌<◌, ◌≤◌, Bool, true, cond, List, [], ◌∷◌, ◌++◌, Option, Some, None, Result, Ok, Err, IfOk, OnOk, Bor, length, get_or, drop, slice_get, MatchOption, subst, refl, sym, ap, ◌∙◌, arith, add-one, eqb, Fits, w32}
 use Rattle.std.specs.Option.{option_map}
 use Rattle.std.specs.List.{list_any}
 use Rattle.std.specs.Cmp.Lexicographic.{pointwise}

@@ -1,5 +1,5 @@
 -- Device: classes are split by the numbers of parts until none splits.
-use Rattle.std.proofs.Common.{◌≡◌, ◌≢◌, ◌⊎◌, inl, inr, ℕ, zero, suc, ◌+◌, ◌<◌, ◌≤◌, Bool, true, List, [], ◌∷◌, Option, Some, None, map, length, get_or, slice_get, subst, refl, sym, ap, ◌∙◌, arith}
+use Rattle.std.proofs.Common.{◌≡◌, inl, inr, ℕ, zero, suc, ◌+◌, ◌<◌, ◌≤◌, Bool, true, List, [], ◌∷◌, refl, sym, ap, ◌∙◌, arith}
 use Rattle.type_things.proofs.NumberLaws.{less_or}
 use Rattle.type_things.specs.Things.{Thing, AllHeld, read, IsLocal}
 use Rattle.type_partition.specs.Partition.{AreNumbers}

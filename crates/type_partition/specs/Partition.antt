@@ -1,5 +1,5 @@
 -- Device: numbers by which isomorphic things are one, and the classes of what is joined and isomorphic.
-use Rattle.std.specs.Prelude.{◌≡◌, ◌⊎◌, ℕ, ◌<◌, List, Option, Some}
+use Rattle.std.specs.Prelude.{◌≡◌, ◌⊎◌, ℕ, ◌<◌, List, Some}
 use Rattle.type_things.specs.Things.{Thing, HoldsPairs, read, head_of, inside_of, Isomorphic, AreAlike, Fits, Same}
 use Rattle.type_joins.specs.Joined.{Within}
 

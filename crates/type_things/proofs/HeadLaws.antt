@@ -1,5 +1,5 @@
 -- Device: the derived comparisons tell whether heads and labels are equal.
-use Rattle.std.proofs.Common.{◌≡◌, ℕ, ℤ, Bool, true, false, ◌&&◌, Option, Some, None, refl, sym, ap, ◌∙◌, true≢false, eqb, eqb-true, eq-eqb, rules}
+use Rattle.std.proofs.Common.{◌≡◌, ℕ, ℤ, Bool, true, false, ◌&&◌, Option, Some, None, refl, ap, ◌∙◌, eqb, eqb-true, eq-eqb, rules}
 use Rattle.std.specs.Cmp.{booleans_Decides, signed_Decides}
 use Rattle.std.specs.Option.{option_eq}
 use denote.Enum.Bare.{same_true, true_same}

@@ -1,7 +1,7 @@
 -- Device: things are added to a web one by one.
-use Rattle.std.proofs.Common.{◌≡◌, ℕ, zero, suc, ◌+◌, ◌<◌, ◌≤◌, List, [], ◌∷◌, ◌++◌, Option, Some, None, map, length, get_or, take, drop, slice_get, Result, Ok, Err, OnOk, MatchOption, subst, refl, sym, ap, ◌∙◌, append_assoc, append-nil, arith}
+use Rattle.std.proofs.Common.{◌≡◌, ℕ, zero, suc, ◌+◌, ◌<◌, ◌≤◌, List, [], ◌∷◌, ◌++◌, Option, Some, None, map, length, get_or, take, drop, Result, Ok, Err, OnOk, MatchOption, subst, refl, sym, ap, ◌∙◌, append_assoc, append-nil, arith}
 use Rattle.std.specs.Option.{option_map}
-use Rattle.std.proofs.lemmas.List.{map-append, length-append, take-append-le, drop-append-le}
+use Rattle.std.proofs.lemmas.List.{map-append, length-append}
 use Rattle.type_things.specs.declared.web.Head.{Head}
 use Rattle.type_things.specs.declared.web.Label.{Label}
 use Rattle.type_things.specs.declared.web.Span.{Span}

@@ -1,5 +1,5 @@
 -- Device: reading a web.
-use Rattle.std.proofs.Common.{◌≡◌, ◌≢◌, ◌⊎◌, inl, inr, ℕ, zero, suc, ◌<◌, ◌≤◌, Bool, List, [], ◌∷◌, ◌++◌, Option, Some, None, is_some, map, length, get_or, take, drop, slice_get, ◌+◌, Result, IfOk, subst, refl, sym, ap, ◌∙◌, arith}
+use Rattle.std.proofs.Common.{◌≡◌, inl, inr, ℕ, zero, suc, ◌<◌, ◌≤◌, List, [], ◌∷◌, ◌++◌, Option, Some, None, is_some, map, length, get_or, slice_get, ◌+◌, Result, IfOk, subst, refl, sym, ap, ◌∙◌, arith}
 use Rattle.std.specs.Option.{option_map}
 use Rattle.type_things.specs.declared.web.First.{First}
 use Rattle.type_things.specs.declared.web.Label.{Label}

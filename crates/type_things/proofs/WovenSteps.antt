@@ -1,5 +1,5 @@
 -- Device: the steps by which the things of units are added, over plain values.
-use Rattle.std.proofs.Common.{◌≡◌, ℕ, zero, suc, ◌+◌, ◌<◌, ◌≤◌, List, [], ◌∷◌, ◌++◌, Option, Some, None, Result, Ok, Err, IfOk, OnOk, Bor, map, length, take, get_or, slice_get, subst, refl, sym, ap, ◌∙◌, append_assoc, append-nil, arith}
+use Rattle.std.proofs.Common.{◌≡◌, ℕ, zero, suc, ◌+◌, ◌<◌, ◌≤◌, List, [], ◌∷◌, ◌++◌, Option, Some, None, Bor, map, length, take, get_or, slice_get, subst, refl, sym, ap, ◌∙◌, arith}
 use Rattle.std.specs.Option.{option_map}
 use Rattle.std.proofs.lemmas.List.{map-append}
 use Rattle.type_graph.specs.declared.aggregates.Aggregate.{Aggregate}
@@ -14,7 +14,7 @@ use Rattle.type_things.specs.declared.web.Stored.{Stored}
 use Rattle.type_things.specs.declared.web.Web.{Web}
 use Rattle.type_things.specs.Things.{Thing, inside_of}
 use Rattle.type_things.specs.Heads.{parts_of}
-use Rattle.type_things.specs.Units.{tag_stem, member_part, aggregate_thing, type_thing, aggregates_from, types_from, aggregate_count, firsts_from, things}
+use Rattle.type_things.specs.Units.{tag_stem, member_part, aggregate_thing, type_thing, aggregates_from, types_from, aggregate_count, firsts_from}
 use Rattle.type_things.specs.Webs.{things_in, first_pair, first_pairs}
 use Rattle.type_things.specs.Weaving.{Spanned, IsSpanned, Adds, AllArenas, IsWoven, type_count}
 use Rattle.type_things.proofs.WeaveLaws.{adds_nothing, adds_then}

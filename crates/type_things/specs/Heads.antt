@@ -1,5 +1,5 @@
 -- Definition: what is asked of types and of structs, unions and enums of units: arrays without a bound, functions without a prototype, enums (C11 6.2.5p20, 6.7.6.3p14), and their parts.
-use Rattle.std.specs.Prelude.{ℕ, Bool, true, false, List, [], ◌∷◌, Option, Some, None, slice_get}
+use Rattle.std.specs.Prelude.{ℕ, Bool, true, false, List, [], ◌∷◌, Some, None, slice_get}
 use Rattle.type_graph.specs.declared.aggregates.AggKind.TheVariants.{Enum}
 use Rattle.type_things.specs.declared.web.Head.{Head}
 use Rattle.type_things.specs.declared.web.Head.TheVariants.{Array, Func, Tagged}

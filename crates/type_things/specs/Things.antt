@@ -1,5 +1,5 @@
 -- Definition: the types and the structs, unions and enums of several units as things with parts, and which of them are one (C11 6.2.7p1).
-use Rattle.std.specs.Prelude.{◌≡◌, ◌⊎◌, ◌↔◌, ℕ, Bool, true, List, [], ◌∷◌, Option, Some, map, slice_get}
+use Rattle.std.specs.Prelude.{◌≡◌, ◌⊎◌, ℕ, Bool, true, List, [], ◌∷◌, Option, Some, map, slice_get}
 use Rattle.std.specs.Option.{option_map, option_and_then}
 
 -- what a thing is, without its parts, and its parts, each with what is beside it (for a member its name, for an enumerator also its value);

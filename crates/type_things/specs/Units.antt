@@ -1,5 +1,5 @@
 -- Definition: the types and the structs, unions and enums of several units as things with parts (C11 6.2.5, 6.2.7p1): the aggregates of all units, unit by unit, and then their types. Names are compared as numbers.
-use Rattle.std.specs.Prelude.{ℕ, ◌+◌, Bool, List, [], ◌∷◌, ◌++◌, Option, Some, None, map, length, slice_index_or, pos, codes, if◌then◌else◌}
+use Rattle.std.specs.Prelude.{ℕ, ◌+◌, List, [], ◌∷◌, ◌++◌, Option, Some, None, map, length, slice_index_or, pos, codes}
 use Rattle.std.specs.Option.{option_map}
 use Rattle.std.specs.List.{position_or_len}
 use Rattle.std.specs.Str.{bytes_eq}

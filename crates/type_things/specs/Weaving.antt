@@ -1,5 +1,5 @@
 -- Device: a web while things are added to it.
-use Rattle.std.specs.Prelude.{◌≡◌, ℕ, ◌<◌, get_or, codes, Some, None, ◌+◌, ◌≤◌, List, [], ◌∷◌, ◌++◌, Option, map, length, MatchOption}
+use Rattle.std.specs.Prelude.{◌≡◌, ℕ, ◌<◌, get_or, codes, Some, ◌+◌, ◌≤◌, List, [], ◌∷◌, ◌++◌, length, MatchOption}
 use Rattle.type_graph.specs.Arena.{Graph, IsArena}
 use Rattle.type_things.specs.declared.web.Head.{Head}
 use Rattle.type_things.specs.declared.web.Label.{Label}

@@ -1,5 +1,5 @@
 -- Device: a web as a list of things, each with its parts.
-use Rattle.std.specs.Prelude.{◌≡◌, ℕ, ◌<◌, ◌≤◌, Bool, true, false, List, [], ◌∷◌, Option, Some, map, take, drop}
+use Rattle.std.specs.Prelude.{◌≡◌, ℕ, ◌<◌, ◌≤◌, Bool, true, false, List, [], ◌∷◌, Some, map, take, drop}
 use Rattle.std.specs.Option.{option_map}
 use Rattle.type_things.specs.declared.web.First.{First}
 use Rattle.type_things.specs.declared.web.Head.{Head}

@@ -1,4 +1,4 @@
-use Rattle.std.proofs.Common.{◌≡◌, take, length}
+use Rattle.std.proofs.Common.{◌≡◌, take}
 use Rattle.type_things.specs.Things.{labels}
 use Rattle.type_joins.proofs.joining.same_labels.Given as goal
 

@@ -1,4 +1,4 @@
-use Rattle.std.proofs.Common.{◌∷◌, [], ◌++◌, take}
+use Rattle.std.proofs.Common.{◌++◌, take}
 use Rattle.type_things.specs.Things.{IsClash}
 use Rattle.type_joins.specs.Forests.{root}
 use Rattle.type_links.specs.Links.{links_with}

@@ -1,4 +1,3 @@
-use Rattle.std.proofs.Common.{eqb}
 use Rattle.type_partition.proofs.FoundLaws.{new_keys, each_new, there_new, count_new, there_old, once_new, grown_new}
 use Rattle.type_partition.proofs.gathering.first_of.Goals as goal
 

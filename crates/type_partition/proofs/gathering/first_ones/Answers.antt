@@ -1,4 +1,4 @@
-use Rattle.std.proofs.Common.{length, refl, ap, ◌∙◌, sym, arith}
+use Rattle.std.proofs.Common.{length, refl, ap, ◌∙◌, arith}
 use Rattle.type_things.proofs.WebLaws.{push_length}
 use Rattle.type_partition.proofs.FoundLaws.{things_step, firsts_step, firsts_end, fits_below, are_firsts}
 use Rattle.type_partition.proofs.gathering.first_ones.Goals as goal

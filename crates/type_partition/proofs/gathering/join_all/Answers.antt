@@ -1,4 +1,4 @@
-use Rattle.std.proofs.Common.{ℕ, length, get_or, add-one, arith, subst, sym, ap, ◌∙◌}
+use Rattle.std.proofs.Common.{get_or, add-one, arith, subst, sym}
 use Rattle.std.proofs.lemmas.List.{get_or_default}
 use Rattle.type_joins.specs.Forests.{root}
 use Rattle.type_partition.specs.Partition.{IsGathering}

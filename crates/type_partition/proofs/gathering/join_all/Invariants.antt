@@ -1,4 +1,4 @@
-use Rattle.std.proofs.Common.{◌≡◌, ℕ, List, get_or}
+use Rattle.std.proofs.Common.{ℕ, List, get_or}
 use Rattle.type_things.specs.declared.web.Head.{Head}
 use Rattle.type_things.specs.declared.web.Label.{Label}
 use Rattle.type_things.specs.Things.{Thing}

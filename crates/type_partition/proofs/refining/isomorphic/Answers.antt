@@ -1,4 +1,4 @@
-use Rattle.std.proofs.Common.{ℕ, length, sym, ap, subst, ◌∙◌, arith}
+use Rattle.std.proofs.Common.{length, sym, ap, subst, ◌∙◌, arith}
 use Rattle.type_partition.specs.Rounds.{AreSplit}
 use Rattle.type_partition.specs.Keys.{num_at}
 use Rattle.type_things.specs.Webs.{things_of}

@@ -1,4 +1,4 @@
-use Rattle.std.proofs.Common.{[], ◌∷◌, ◌+◌, arith, ◌++◌, ◌∙◌, map, length, refl, sym, ap, append-nil}
+use Rattle.std.proofs.Common.{[], arith, refl, sym, append-nil}
 use Rattle.type_things.proofs.WeaveLaws.{closes_adds}
 use Rattle.type_things.proofs.web.add_bare.Goals as goal
 

@@ -1,4 +1,4 @@
-use Rattle.std.proofs.Common.{[], ◌∷◌, ◌+◌, arith, ◌++◌, ◌∙◌, append_assoc, map, length, refl, sym, ap, append-nil}
+use Rattle.std.proofs.Common.{[], ◌∷◌, ◌+◌, arith, ◌++◌, ◌∙◌, append_assoc, map, refl, ap}
 use Rattle.type_things.specs.Units.{plain}
 use Rattle.type_things.proofs.WeaveLaws.{closes_adds}
 use Rattle.type_things.proofs.web.add_function.Goals as goal

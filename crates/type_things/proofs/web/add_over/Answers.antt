@@ -1,4 +1,4 @@
-use Rattle.std.proofs.Common.{[], ◌∷◌, ◌+◌, arith, ◌++◌, ◌∙◌, map, length, refl, sym, ap, append-nil}
+use Rattle.std.proofs.Common.{[], ◌∷◌, ◌+◌, arith, refl}
 use Rattle.type_things.specs.Units.{plain}
 use Rattle.type_things.proofs.WeaveLaws.{closes_adds}
 use Rattle.type_things.proofs.web.add_over.Goals as goal

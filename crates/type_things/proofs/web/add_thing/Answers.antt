@@ -1,4 +1,4 @@
-use Rattle.std.proofs.Common.{refl, sym, ap, ◌∙◌, length, arith}
+use Rattle.std.proofs.Common.{refl, arith}
 use Rattle.type_things.proofs.web.add_thing.Goals as goal
 
 pub returns : goal.returns

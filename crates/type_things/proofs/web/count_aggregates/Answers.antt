@@ -1,4 +1,4 @@
-use Rattle.std.proofs.Common.{length, map, get_or, refl, ap, subst, ◌∙◌}
+use Rattle.std.proofs.Common.{length, map, ap, subst, ◌∙◌}
 use Rattle.type_graph.specs.Arena.{Graph, IsArena}
 use Rattle.type_things.specs.Units.{aggregate_count}
 use Rattle.type_things.specs.Weaving.{AllArenas}

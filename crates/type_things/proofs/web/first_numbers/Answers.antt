@@ -1,4 +1,4 @@
-use Rattle.std.proofs.Common.{◌≡◌, length, map, get_or, refl, sym, ap, subst, ◌∙◌, arith}
+use Rattle.std.proofs.Common.{◌≡◌, length, map, refl, ap, subst, ◌∙◌, arith}
 use Rattle.type_graph.specs.Arena.{Graph}
 use Rattle.type_things.specs.Units.{firsts_from}
 use Rattle.type_things.specs.Webs.{first_pair}

@@ -1,4 +1,4 @@
-use Rattle.std.proofs.Common.{length, map, refl, ap, subst, arith}
+use Rattle.std.proofs.Common.{map, ap, subst, arith}
 use Rattle.type_graph.specs.Arena.{Graph}
 use Rattle.type_things.specs.Units.{aggregate_thing, aggregates_from}
 use Rattle.type_things.specs.Weaving.{Adds}

@@ -1,4 +1,4 @@
-use Rattle.std.proofs.Common.{◌+◌, codes, length, subst, ap, ◌∙◌, arith}
+use Rattle.std.proofs.Common.{codes, length, subst, ap, ◌∙◌, arith}
 use Rattle.cil_base.specs.NamePool.{interned, Interns}
 use Rattle.cil_base.proofs.PoolLemmas.{Interns-stays}
 use Rattle.type_things.specs.Stems.{stem_of}

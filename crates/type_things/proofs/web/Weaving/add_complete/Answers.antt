@@ -1,4 +1,4 @@
-use Rattle.std.proofs.Common.{◌∙◌, arith, map, length, refl, ap}
+use Rattle.std.proofs.Common.{arith, map, refl}
 use Rattle.type_things.specs.Units.{member_part}
 use Rattle.type_things.proofs.WeaveLaws.{closes_adds}
 use Rattle.type_things.proofs.web.Weaving.add_complete.Goals as goal

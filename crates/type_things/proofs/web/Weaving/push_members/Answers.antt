@@ -1,4 +1,4 @@
-use Rattle.std.proofs.Common.{ℕ, ◌∷◌, [], ◌++◌, ◌+◌, drop, map, length, get_or, sym, ap, ◌∙◌, arith}
+use Rattle.std.proofs.Common.{get_or, arith}
 use Rattle.type_things.specs.Units.{member_part}
 use Rattle.type_things.proofs.WeaveLaws.{label_part, members_start, members_next, members_end}
 use Rattle.type_things.proofs.web.Weaving.push_members.Goals as goal
