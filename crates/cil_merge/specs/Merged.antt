@@ -18,10 +18,10 @@ pub record IsJoined (c : Classes) (units : List Fronted) (program : CilUnit) : T
   pub order : map mark program.globals.items ≡ once_each (marks_of units)
   pub types : HasTypes c units program.graph
 
--- units become a program: all that they declare gets its name first
+-- units become a program: all that they declare gets its name first, their structs, unions and enums by these classes
 pub record IsNamedAndJoined (externals : List NameId) (pool : List (List ℕ)) (c : Classes) (units : List Fronted) (program : CilUnit) : Type 0 where
   pub renamed : List Fronted
-  pub names : AreRenamed externals pool units renamed
+  pub names : AreRenamed c externals pool units renamed
   pub joined : IsJoined c renamed program
 
 -- units become a program by their links and the classes of their structs, unions and enums; names are the texts of all names before anything gets a name, and pool those behind that

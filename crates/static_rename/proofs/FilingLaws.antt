@@ -14,8 +14,8 @@ use Rattle.typed_tree.specs.declared.units.Ordinary.{Ordinary}
 use Rattle.typed_tree.specs.declared.units.Ordinary.TheVariants.{Static, Enumerator}
 use Rattle.link_names.specs.declared.units.Fronted.{Fronted}
 use Rattle.static_rename.specs.declared.files.Filed.{Filed}
-use Rattle.static_rename.specs.Files.{is_object, has_linkage, unlinked_at, unlinked_from, named_in, wish_at, wishes_of, renamed_at, with_given}
-use Rattle.static_rename.specs.Filing.{same_entity, Links, AreLinked, names_of, things_in, Files, FilesAll}
+use Rattle.static_rename.specs.Files.{is_object, has_linkage, unlinked_at, unlinked_from, named_in, things_in, wish_at, wishes_of, renamed_at}
+use Rattle.static_rename.specs.Filing.{same_entity, Links, AreLinked, names_of, Files, FilesAll}
 use Rattle.fresh_names.specs.Giving.{AreTakenBelow, GivesAll}
 use Rattle.fresh_names.proofs.NamingLaws.{all_start, all_twice}
 
@@ -88,21 +88,6 @@ pub renamed_set : (gs : List GlobalDecl) (i : ℕ) (n : NameId) (g d : GlobalDec
 renamed_set [] i n g d less is = absurd (omega arith)
 renamed_set (h ∷ gs) zero n g d less is = ap (λ k. k ∷ gs) is
 renamed_set (h ∷ gs) (suc i) n g d less is = ap (λ hs. h ∷ hs) (renamed_set gs i n g d (omega arith) is)
-
-pub given_next : (os : List Ordinary) (ns : List NameId) (i : ℕ) (o : Ordinary) (n : NameId) (before after start : List GlobalDecl) → i < length os → i < length ns → o ≡ get_or os i o → n ≡ get_or ns i n
-    → after ≡ with_given (o ∷ []) (n ∷ []) before → with_given (drop i os) (drop i ns) before ≡ start → with_given (drop (i + 1) os) (drop (i + 1) ns) after ≡ start
-given_next os ns i o n before after start few less is name step inv =
-    ap (λ k. with_given (drop k os) (drop k ns) after) (add-one i)
-    ∙ ap (with_given (drop (suc i) os) (drop (suc i) ns)) step
-    ∙ by o
-    ∙ ap (λ p. with_given (p ∷ drop (suc i) os) (n ∷ drop (suc i) ns) before) is
-    ∙ ap (λ m. with_given (get_or os i o ∷ drop (suc i) os) (m ∷ drop (suc i) ns) before) name
-    ∙ ap (λ ps. with_given ps (get_or ns i n ∷ drop (suc i) ns) before) (sym (drop_at os i o few))
-    ∙ ap (λ ms. with_given (drop i os) ms before) (sym (drop_at ns i n less)) ∙ inv
-  where
-    by : (p : Ordinary) → with_given (drop (suc i) os) (drop (suc i) ns) (with_given (p ∷ []) (n ∷ []) before) ≡ with_given (p ∷ drop (suc i) os) (n ∷ drop (suc i) ns) before
-    by (Static e) = refl
-    by (Enumerator a k) = refl
 
 -- units one after another
 

@@ -1,19 +1,15 @@
 -- Device: names that are taken before any is given.
-use Rattle.std.proofs.Common.{◌≡◌, ℕ, zero, suc, ◌+◌, ◌<◌, Bool, true, false, cond, List, [], ◌∷◌, ◌++◌, Some, map, length, drop, take, get_or, slice_get, sym, ap, ◌∙◌, add-one, subst, arith}
+use Rattle.std.proofs.Common.{◌≡◌, ℕ, zero, suc, ◌+◌, ◌<◌, Bool, true, false, cond, List, [], ◌∷◌, ◌++◌, Some, map, length, take, get_or, slice_get, sym, ap, ◌∙◌, add-one, subst, arith}
 use Rattle.cil_base.specs.declared.numbers.NameId.{NameId}
 use Rattle.std.specs.List.{list_any}
 use Rattle.std.proofs.lemmas.List.{map-append}
 use Rattle.std.specs.Str.{bytes_eq}
 use Rattle.cil_base.specs.NamePool.{Interns}
 use Rattle.cil_base.specs.HostNames.{host_names}
-use Rattle.fresh_names.specs.Naming.{with_name, with_names, Stays}
+use Rattle.fresh_names.specs.Naming.{with_names, Stays}
 use Rattle.fresh_names.specs.Giving.{start_of, AreTakenBelow}
 use Rattle.static_rename.specs.Files.{HaveTexts, AreKept}
-use Rattle.static_rename.proofs.FilingLaws.{drop_at, take_at}
-
-pub names_next : (taken after start ns : List NameId) (i : ℕ) (n : NameId) → i < length ns → n ≡ get_or ns i n → after ≡ with_name taken n → with_names taken (drop i ns) ≡ start → with_names after (drop (i + 1) ns) ≡ start
-names_next taken after start ns i n less is step inv =
-    ap (λ k. with_names after (drop k ns)) (add-one i) ∙ ap (λ ts. with_names ts (drop (suc i) ns)) (step ∙ ap (with_name taken) is) ∙ ap (with_names taken) (sym (drop_at ns i n less)) ∙ inv
+use Rattle.static_rename.proofs.FilingLaws.{take_at}
 
 pub texts_stay : (p q : List (List ℕ)) (ns : List NameId) (ts : List (List ℕ)) → Stays p q → HaveTexts p ns ts → HaveTexts q ns ts
 texts_stay p q [] [] h all = tt

@@ -3,4 +3,5 @@ pub mod FilingLaws
 pub mod LocalLaws
 pub mod EachLaws
 pub mod BodyLaws
+pub mod TagLaws
 pub mod UnitLaws

@@ -59,6 +59,12 @@ unlinked_from n ordinary (g ∷ gs) = unlinked_at (record { 0 = n }) (has_linkag
 abbrev pub named_in : List Bool → Fronted → List Ordinary
 named_in stands f = filter (is_named stands f.cil.globals.items) f.ordinary.items ++ unlinked_from 0 f.ordinary.items f.cil.globals.items
 
+-- the same for units, by which of their aggregates stand for their classes
+abbrev pub things_in : List (List Bool) → List Fronted → List (List Ordinary)
+things_in [] fs = []
+things_in (s ∷ stands) [] = []
+things_in (s ∷ stands) (f ∷ fs) = named_in s f ∷ things_in stands fs
+
 -- nothing is said of what a thing that is not there asks for
 abbrev pub no_wish : Wish
 no_wish = Asked (record { 0 = 0 })

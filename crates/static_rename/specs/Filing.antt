@@ -7,7 +7,7 @@ use Rattle.cil_base.specs.declared.numbers.NameId.{NameId}
 use Rattle.typed_tree.specs.declared.units.Ordinary.{Ordinary}
 use Rattle.link_names.specs.declared.units.Fronted.{Fronted}
 use Rattle.static_rename.specs.declared.files.Filed.{Filed}
-use Rattle.static_rename.specs.Files.{is_object, has_linkage, named_in, wish_at, wishes_of}
+use Rattle.static_rename.specs.Files.{is_object, has_linkage, named_in, things_in, wish_at, wishes_of}
 use Rattle.fresh_names.specs.Giving.{GivesAll}
 
 abbrev pub same_entity : EntityId → EntityId → Bool
@@ -27,11 +27,6 @@ things_of fs = map (λ f. f.things.items) fs
 abbrev pub names_of : List Filed → List NameId
 names_of [] = []
 names_of (f ∷ fs) = f.names.items ++ names_of fs
-
-abbrev pub things_in : List (List Bool) → List Fronted → List (List Ordinary)
-things_in [] fs = []
-things_in (s ∷ stands) [] = []
-things_in (s ∷ stands) (f ∷ fs) = named_in s f ∷ things_in stands fs
 
 -- what a unit names at file scope is named
 pub record Files (bases : Bases) (stands : List Bool) (unit : Fronted) (before after : List NameId) (next : List (NameId × ℕ)) (old new : List (List ℕ)) (filed : Filed) : Type 0 where

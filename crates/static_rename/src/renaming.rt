@@ -2,6 +2,7 @@ ghost use Rattle.std.specs.Prelude.{◌≡◌, map, OnOk};
 ghost use Rattle.fresh_names.specs.Naming.{Stays};
 ghost use Rattle.static_rename.specs.Local.{IsTable};
 ghost use Rattle.static_rename.specs.Renamed.{IsNamedUnit, AreRenamed};
+ghost use Rattle.static_rename.specs.Tagging.{named_by};
 ghost use Rattle.static_rename.specs.Unit.{AreUnits};
 
 use crate::bodies::name_bodies;
@@ -9,29 +10,20 @@ use crate::files::{Filed, file_units, put_all_given};
 use crate::kept::kept_names;
 use crate::locals::FileNames;
 use crate::numbers::{impossible, unit_number};
-use crate::types::{
-    ClassNames, all_asked, all_stand, name_tags, put_enumerators, rename_aggregates,
-};
-use cil_base::{Bases, Memory, NamePool, UnitNo};
+use crate::standing::{all_standing, standing_from};
+use crate::tags::{name_enumerators, name_tags};
+use crate::types::{NamedTypes, rename_aggregates};
+use cil_base::{Memory, NamePool, UnitNo};
 use link_names::{Fronted, Links};
 use std::alloc::Global;
 use type_iso::Classes;
-
-/// The names of the classes of units, while they are put in.
-#[derive(Drop)]
-struct Tags<'a> {
-    alloc: Global,
-    bases: Bases,
-    classes: &'a Classes,
-    aggregates: Vec<ClassNames>,
-}
 
 /// Gives what a unit declares its names.
 #[tactic(auto, using(crate::proofs::UnitLaws::unit_named))]
 fn name_unit(
     file: &mut FileNames,
     names: &mut NamePool,
-    tags: &Tags<'_>,
+    types: &NamedTypes<'_>,
     u: UnitNo,
     filed: &Filed,
     unit: &mut Fronted,
@@ -40,17 +32,11 @@ fn name_unit(
     ensures kept { OnOk result (file.new.names.taken.keys ≡ file.old.names.taken.keys) }
     ensures stays { OnOk result (Stays names.old names.new) }
     ensures table { OnOk result (IsTable file.new names.new) }
-    ensures named { OnOk result (IsNamedUnit file.old.names.taken.keys names.new tags.now.bases filed.now.things.items filed.now.names.items unit.old unit.new) }
+    ensures named { OnOk result (IsNamedUnit (named_by types.now) u.0 file.old.names.taken.keys names.new types.now.bases filed.now.things.items filed.now.names.items unit.old unit.new) }
 {
     put_all_given(&mut unit.cil.globals, filed)?;
-    rename_aggregates(
-        tags.alloc,
-        tags.classes,
-        &tags.aggregates,
-        u,
-        &mut unit.cil.graph,
-    )?;
-    name_bodies(tags.alloc, file, names, tags.bases, &mut unit.cil.globals)
+    rename_aggregates(types, u, &mut unit.cil.graph)?;
+    name_bodies(types.alloc, file, names, types.bases, &mut unit.cil.globals)
 }
 
 /// Gives what all units declare its names.
@@ -58,19 +44,26 @@ fn name_unit(
 fn name_units(
     file: &mut FileNames,
     names: &mut NamePool,
-    tags: &Tags<'_>,
+    types: &NamedTypes<'_>,
     filed: &[Filed],
     units: &mut Vec<Fronted>,
 ) -> Result<(), Memory>
     requires table { IsTable file.old names.old }
     ensures stays { OnOk result (Stays names.old names.new) }
-    ensures named { OnOk result (AreUnits file.old.names.taken.keys names.new tags.now.bases filed.now units.old.items units.new.items) }
+    ensures named { OnOk result (AreUnits (named_by types.now) 0 file.old.names.taken.keys names.new types.now.bases filed.now units.old.items units.new.items) }
 {
     if filed.len() != units.len() {
         return Err(impossible());
     }
     for u in 0..units.len() {
-        name_unit(file, names, tags, unit_number(u)?, &filed[u], &mut units[u])?;
+        name_unit(
+            file,
+            names,
+            types,
+            unit_number(u)?,
+            &filed[u],
+            &mut units[u],
+        )?;
     }
     Ok(())
 }
@@ -91,22 +84,23 @@ pub fn rename(
     classes: &Classes,
     names: &mut NamePool,
 ) -> Result<(), Memory>
-    ensures { OnOk result (AreRenamed (map (λ l. l.name) links.now.names.items) names.new units.old.items units.new.items) }
+    ensures { OnOk result (AreRenamed classes.now (map (λ l. l.name) links.now.names.items) names.new units.old.items units.new.items) }
 {
     let bases = names.bases()?;
     let mut fresh = kept_names(alloc, links, names)?;
-    let stands = all_stand(alloc, classes, units)?;
+    let stands = standing_from(alloc, classes, units)?;
     let filed = file_units(&mut fresh, names, bases, &stands, units)?;
-    let mut aggregates = all_asked(alloc, units, classes, bases)?;
-    put_enumerators(classes, &mut aggregates, &filed)?;
-    name_tags(alloc, names, &mut aggregates)?;
-    let tags = Tags {
+    let standing = all_standing(alloc, classes)?;
+    let enumerators = name_enumerators(alloc, classes, units, &standing, &filed)?;
+    let tags = name_tags(alloc, names, bases, units, &standing)?;
+    let types = NamedTypes {
         alloc,
         bases,
         classes,
-        aggregates,
+        tags,
+        enumerators,
     };
     let mut file = FileNames::new(alloc, fresh);
-    name_units(&mut file, names, &tags, &filed, units)?;
+    name_units(&mut file, names, &types, &filed, units)?;
     Ok(())
 }

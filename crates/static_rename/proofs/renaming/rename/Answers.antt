@@ -1,8 +1,11 @@
 use Rattle.std.proofs.Common.{map}
+use Rattle.static_rename.specs.Tagging.{lists}
 use Rattle.static_rename.proofs.UnitLaws.{renamed_read}
 use Rattle.static_rename.proofs.renaming.rename.Goals as goal
 
 pub returns : goal.returns
 returns c =
-    renamed_read (map (λ l. l.name) c.args.links.now.names.items) c.bases.new.self c.kept_names.new.names c.file_units.new.names c.name_tags.new.names c.name_units.new.names c.in_ok-bases.bases c.in_ok-fresh.fresh.taken.keys c.file_units.new.fresh.taken.keys c.new-file.result.names.taken.keys c.file_units.new.fresh.next.entries
-    c.deref-2.result.now c.in_ok-filed.filed.items c.deref-6.result.now c.args.units.now.items c.deref-3.result.now c.name_units.new.units.items c.deref-3.ensures.value c.deref-6.ensures.value c.in_ok-bases.ensures.numbers c.in_ok-fresh.ensures.stays c.in_ok-fresh.ensures.kept c.in_ok-filed.ensures.filed c.in_ok-filed.ensures.many c.in_ok-name_tags.ensures.stays c.new-file.ensures.taken c.in_ok-name_units.ensures.stays c.in_ok-name_units.ensures.named
+    renamed_read c.args.classes.now (map (λ l. l.name) c.args.links.now.names.items) c.bases.new.self c.kept_names.new.names c.file_units.new.names c.name_tags.new.names c.name_units.new.names c.in_ok-bases.bases c.in_ok-fresh.fresh.taken.keys c.file_units.new.fresh.taken.keys c.new-file.result.names.taken.keys c.file_units.new.fresh.next.entries
+    c.in_ok-stands.stands.items c.deref-2.result.now c.in_ok-filed.filed.items c.deref-6.result.now c.deref-9.result.now c.in_ok-standing.standing.items c.deref-5.result.now c.deref-8.result.now c.in_ok-tags.tags.items (lists c.in_ok-enumerators.enumerators.items) c.args.units.now.items c.deref.result.now c.deref-3.result.now c.deref-4.result.now c.deref-7.result.now c.name_units.new.units.items
+    c.deref.ensures.value c.deref-3.ensures.value c.deref-4.ensures.value c.deref-7.ensures.value c.deref-2.ensures.value c.deref-6.ensures.value c.deref-9.ensures.value c.deref-5.ensures.value c.deref-8.ensures.value
+    c.in_ok-bases.ensures.numbers c.in_ok-fresh.ensures.stays c.in_ok-fresh.ensures.kept c.in_ok-stands.ensures c.in_ok-filed.ensures.filed c.in_ok-standing.ensures c.in_ok-enumerators.ensures c.in_ok-tags.ensures.stays c.in_ok-tags.ensures.named c.new-file.ensures.taken c.in_ok-name_units.ensures.stays c.in_ok-name_units.ensures.named
