@@ -153,8 +153,8 @@ classes_ordered names gs c order pairs count long here below listed n s p q e =
     (λ a l i. (let w = here.each i.0 a i.1 in (i.0, w.0, w.1, place_number gs c.firsts.items a w.0 pairs l w.2)))
     (λ a l i. (i.0, found i.0 a i.1 i.2 i.3))
     (λ a l h u b z f g. (
-        let same : at_own c.of.items a ≡ z = some_number (at_own c.of.items a) z (sym (class_number gs c u b a pairs count f).0 ∙ g) in
-        omega (arith, h, same)))
+    let same : at_own c.of.items a ≡ z = some_number (at_own c.of.items a) z (sym (class_number gs c u b a pairs count f).0 ∙ g) in
+    omega (arith, h, same)))
     (λ a l h. (let w = aggregate_at gs a l in h w.0 w.1 (at_own c.of.items a) w.2 (class_number gs c w.0 w.1 a pairs count w.2).0))
     s (listed n s (found n s p q e))
   where
@@ -269,20 +269,22 @@ type_numbered k t (g ∷ gs) zero n y f e sum ends h =
 type_numbered k t (g ∷ gs) (suc u) n y f e sum ends h = type_numbered (k + length g.aggs) (t + length g.nodes) gs u n y f e sum ends (omega (arith, h))
 
 type_placed : (names : List (List ℕ)) (gs : List Graph) (w : Web) (x y : ℕ) (p : UnitNo × TypeId) → IsWoven names gs w → IsOver (things_of w) x y → IsTypePlace w.firsts.items (length w.things.items) y p → IsTypeOf (things names gs) gs p x
-type_placed names gs w x y p woven over is = (y,
-    type_numbered 0 (aggregate_count gs) gs p.0.0 p.1.0 y (first_pair is.first) (ap (λ l. slice_get l p.0.0) (sym woven.firsts) ∙ get_mapped first_pair w.firsts.items p.0.0 is.first is.unit) is.number
-    (λ g q. (
-        let r = get_map first_pair w.firsts.items (suc p.0.0) g (ap (λ l. slice_get l (suc p.0.0)) woven.firsts ∙ q) in
-        let less = is.ends r.0 r.1 in
-        let same : r.0.ty ≡ g.1 = ap (λ (v : ℕ × ℕ). v.1) r.2 in
-        omega (arith, less, same)))
-    (
-        let a = ap length woven.things in
-        let b = map_length (thing_in w.parts.items) w.things.items in
-        let c = things_count names gs in
-        let d = is.within in
-        omega (arith, a, b, c, d)),
-    subst (λ ts. IsOver ts x y) woven.things over)
+type_placed names gs w x y p woven over is = (
+  y,
+  type_numbered 0 (aggregate_count gs) gs p.0.0 p.1.0 y (first_pair is.first) (ap (λ l. slice_get l p.0.0) (sym woven.firsts) ∙ get_mapped first_pair w.firsts.items p.0.0 is.first is.unit) is.number
+      (λ g q. (
+      let r = get_map first_pair w.firsts.items (suc p.0.0) g (ap (λ l. slice_get l (suc p.0.0)) woven.firsts ∙ q) in
+      let less = is.ends r.0 r.1 in
+      let same : r.0.ty ≡ g.1 = ap (λ (v : ℕ × ℕ). v.1) r.2 in
+      omega (arith, less, same)))
+      (
+      let a = ap length woven.things in
+      let b = map_length (thing_in w.parts.items) w.things.items in
+      let c = things_count names gs in
+      let d = is.within in
+      omega (arith, a, b, c, d)),
+  subst (λ ts. IsOver ts x y) woven.things over,
+)
 
 pub refused : (names : List (List ℕ)) (gs : List Graph) (groups : List Group) (w : Web) (f : Failure) (s : ClassStop) → IsWoven names gs w → IsClashAt w f s
     → FailsFirst (things_of w) (map (sides_in (first_pairs w)) groups) f.group f.earlier f.later f.pair → IsRefused names gs groups s

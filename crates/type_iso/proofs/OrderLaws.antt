@@ -217,9 +217,9 @@ module _ (ts : List (Thing Head Label)) where
           let l = get_within (at k) x false e in
           let c = marked_length settled (take k come) in
           omega (arith, l, c))) [
-        | inl q ↦ true_false (slice_get (at k) x) (marked_kept settled (take k come) x q) e
-        | inr q ↦ q
-      ]
+            | inl q ↦ true_false (slice_get (at k) x) (marked_kept settled (take k come) x q) e
+            | inr q ↦ q
+          ]
 
       -- what waits, by its head
       waits : (k x : ℕ) → slice_get (at k) x ≡ Some false → AreNeedsOf m st vs ts x (needs x)
@@ -428,7 +428,8 @@ module _ (ts : List (Thing Head Label)) where
               elim n.2 [
                 | inl v ↦ (let q = (need.value (ap has_values (heads_same x w.0 wait.head w.1 wait.at_head) ∙ wait.values)).value c (value_get vs r.values n.0 c v) in next.ready (at_own st c) q.1)
                 | inr v ↦ element_come vs (at k) r.values (closed k) n.0 c v (next.ready n.0 need.itself)
-              ])))
+              ])),
+        )
 
         -- another one that may stand and does not stand yet may come
         others : (b : ℕ) → b < m → at_own st b ≡ b → slice_get (at k) b ≡ Some false → ((c : ℕ) → c < m → Needs ts b c → IsListed ts m st order c) → IsReady needs (at k) b

@@ -181,10 +181,14 @@ module _ (st : List ℕ) (vs : List (Option ℕ)) where
 
   pub needs_end : (m x : ℕ) (ts : List (Thing Head Label)) (h : Head) (v : Bool) (ps : List (Label × ℕ)) (ns : List ℕ) (k : ℕ) → head_of ts x ≡ Some h → v ≡ has_values h → ps ≡ parts_of ts x → length ps ≤ k
       → AreNeedsUpTo st vs m v x ps ns k → AreNeedsOf m st vs ts x ns
-  needs_end m x ts h v ps ns k e f g l n = (h, e, subst (λ qs. AreNeedsUpTo st vs m (has_values h) x qs ns (length qs)) g (subst (λ u. AreNeedsUpTo st vs m u x ps ns (length ps)) f (record {
-    all = λ i y j w q. n.all i y j (omega (arith, w, l)) q;
-    only = n.only;
-  })))
+  needs_end m x ts h v ps ns k e f g l n = (
+    h,
+    e,
+    subst (λ qs. AreNeedsUpTo st vs m (has_values h) x qs ns (length qs)) g (subst (λ u. AreNeedsUpTo st vs m u x ps ns (length ps)) f (record {
+      all = λ i y j w q. n.all i y j (omega (arith, w, l)) q;
+      only = n.only;
+    })),
+  )
 
 needed_left : (vs : List (Vec ℕ Global)) (v : Vec ℕ Global) (x : ℕ) → x < length vs → needed_of (vs ++ v ∷ []) x ≡ needed_of vs x
 needed_left [] v x h = absurd (omega (arith, h))
@@ -279,10 +283,13 @@ module _ (ts : List (Thing Head Label)) (m : ℕ) (st : List ℕ) where
 
 -- what stands for a class stands for its own
 pub standing_idempotent : {H L : Type 0} (ts : List (Thing H L)) (cs st : List ℕ) (m : ℕ) → AreLeast cs → AreStanding ts cs m st → AreIdempotent m st
-standing_idempotent ts cs st m least s = (s.count, λ a h. (
-    let below = inside a h in
-    let c = s.each a h in
-    (below, s.same (at_own st a) a below h c.member)))
+standing_idempotent ts cs st m least s = (
+  s.count,
+  λ a h. (
+      let below = inside a h in
+      let c = s.each a h in
+      (below, s.same (at_own st a) a below h c.member)),
+)
   where
     inside : (a : ℕ) → a < m → at_own st a < m
     inside a h = elim (s.each a h).early [
@@ -315,15 +322,15 @@ pub in_order : (ts : List (Thing Head Label)) (m : ℕ) (st all order : List ℕ
 in_order ts m st all order idem o is k s e = next_same ts m (IsOwn ts m st) (IsIn order) (IsListed ts m st (take k order)) (λ a. at_own all a < k)
     (λ a l own. (at_own all a, o.each a (inside a l) ∙ ap Some own))
     (λ a l p. (
-        let r = o.own p.0 a p.1 in
-        some_same (at_own st a) a (sym (o.each a r.0) ∙ ap (slice_get order) r.1 ∙ p.1)))
+    let r = o.own p.0 a p.1 in
+    some_same (at_own st a) a (sym (o.each a r.0) ∙ ap (slice_get order) r.1 ∙ p.1)))
     (λ a l p. (
-        let g = get_take order k p.0 (at_own st a) p.1 in
-        let r = o.own p.0 (at_own st a) g.0 in
-        let below = g.1 in
-        let at = r.1 in
-        let same = o.same (at_own st a) a r.0 (inside a l) (idem.1 a l).1 in
-        omega (arith, below, at, same)))
+    let g = get_take order k p.0 (at_own st a) p.1 in
+    let r = o.own p.0 (at_own st a) g.0 in
+    let below = g.1 in
+    let at = r.1 in
+    let same = o.same (at_own st a) a r.0 (inside a l) (idem.1 a l).1 in
+    omega (arith, below, at, same)))
     (λ a l h. (at_own all a, take_get order k (at_own all a) (at_own st a) h (o.each a (inside a l))))
     s (is k s e)
   where
@@ -360,5 +367,5 @@ pub found : (X : List (Thing Head Label) → List ℕ → Type 0) (w : Web) (st 
     → ((ts : List (Thing Head Label)) (sts : List ℕ) (os : List (Option ℕ)) (bs : List Bool) (ns : ℕ → List ℕ) → IsReckoned ts w.aggregates sts os bs ns → IsLeastFirst ns w.aggregates bs came → AreEnums ts w.aggregates sts enums w.aggregates → X ts sts) → X (things_of w) st
 found X w st vs us ws settled known needs asked come came enums eu ew ek ea ec h i v s n f e listed = listed (things_of w) st vs settled (needed_of needs)
     (reckoned w st vs settled (needed_of needs) h i v (subst (λ l. AreSettledUpTo (things_of w) w.aggregates st l settled (length w.things.items)) eu s)
-      (subst (λ l. AreNeeds w.aggregates st l (things_of w) settled (needed_of needs) (length w.things.items)) ew (subst (λ l. AreNeeds w.aggregates st ws (things_of w) l (needed_of needs) (length w.things.items)) ek n)))
+    (subst (λ l. AreNeeds w.aggregates st l (things_of w) settled (needed_of needs) (length w.things.items)) ew (subst (λ l. AreNeeds w.aggregates st ws (things_of w) l (needed_of needs) (length w.things.items)) ek n)))
     (subst (IsLeastFirst (needed_of needs) w.aggregates settled) (sym ec) (subst (λ l. IsLeastFirst (needed_of l) w.aggregates settled come) ea f)) e

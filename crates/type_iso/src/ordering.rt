@@ -246,7 +246,15 @@ fn needs_of(
     let parts = web.parts(x)?;
     let mut all = Vec::new(alloc);
     for i in 0..parts.len() {
-        push_needs(&mut all, web.aggregates, standing, values, by_value, x, parts[i].1)?;
+        push_needs(
+            &mut all,
+            web.aggregates,
+            standing,
+            values,
+            by_value,
+            x,
+            parts[i].1,
+        )?;
     }
     Ok(all)
 }
@@ -300,12 +308,7 @@ fn is_own_enum(web: &Web, standing: &[u32], a: u32) -> Result<bool, Memory>
 }
 
 /// Puts an enum that stands for its class behind an order.
-fn list_enum(
-    order: &mut Vec<u32>,
-    web: &Web,
-    standing: &[u32],
-    a: u32,
-) -> Result<(), Memory>
+fn list_enum(order: &mut Vec<u32>, web: &Web, standing: &[u32], a: u32) -> Result<(), Memory>
     ensures { OnOk result (ListsEnum (things_of web.now) standing.now a order.old.items order.new.items) }
 {
     if !is_own_enum(web, standing, a)? {
