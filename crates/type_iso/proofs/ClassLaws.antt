@@ -1,6 +1,6 @@
 -- Device: the classes that come are those of the units' types.
-use Rattle.std.proofs.Common.{◌≡◌, ◌⊎◌, inl, inr, ◌↔◌, ℕ, zero, suc, ◌+◌, ◌<◌, ◌≤◌, Bool, true, false, List, [], ◌∷◌, Option, Some, None, map, length, get_or, slice_get, nat_lt, if◌then◌else◌, subst, refl, sym, ap, ◌∙◌, arith, Vec}
-use borrow.Author.Tests.{ltb-true}
+use Rattle.std.proofs.Common.{◌≡◌, inl, inr, ℕ, zero, suc, ◌+◌, ◌<◌, ◌≤◌, Bool, true, false, List, [], ◌∷◌, Option, Some, None, map, length, get_or, slice_get, nat_lt, if◌then◌else◌, subst, refl, sym, ap, ◌∙◌, arith}
+use borrow.Author.Tests.{ltb-true, lt-ltb}
 use Rattle.std.specs.Option.{option_map, option_and_then}
 use Rattle.cil_base.specs.declared.numbers.UnitNo.{UnitNo}
 use Rattle.cil_base.specs.declared.numbers.AggId.{AggId}
@@ -13,9 +13,11 @@ use Rattle.type_things.specs.declared.web.Head.{Head}
 use Rattle.type_things.specs.declared.web.Label.{Label}
 use Rattle.type_things.specs.declared.web.Web.{Web}
 use Rattle.type_things.specs.Things.{Thing}
-use Rattle.type_things.specs.Units.{things, aggregate_count, firsts_from}
+use Rattle.cil_base.specs.declared.numbers.TypeId.{TypeId}
+use Rattle.type_things.specs.Units.{things, aggregate_thing, type_thing, aggregates_from, types_from, aggregate_count, firsts_from}
 use Rattle.type_things.specs.Webs.{thing_in, things_of, first_pair, first_pairs, AreWhole, IsWeb}
-use Rattle.type_things.specs.Weaving.{IsWoven}
+use Rattle.type_things.specs.Weaving.{IsWoven, type_count}
+use Rattle.std.proofs.lemmas.List.{length-append}
 use Rattle.type_links.specs.Links.{sides_in, links_of, FailsFirst}
 use Rattle.type_joins.specs.declared.forest.Forest.{Forest}
 use Rattle.type_links.specs.declared.linking.Failure.{Failure}
@@ -26,9 +28,13 @@ use Rattle.type_partition.specs.Partition.{AreNumbers}
 use Rattle.type_partition.specs.Keys.{num_at}
 use Rattle.type_partition.specs.Gathered.{AreGathered}
 use Rattle.type_iso.specs.Standing.{at_own, AreLeast, AreStanding, AreOrdered, AreClassed}
-use Rattle.type_iso.specs.Classes.{aggregate_number, class_in, sides, IsClashOf, AreClasses, IsRefused}
-use Rattle.type_iso.specs.Places.{ArePlaced}
-use Rattle.type_iso.proofs.PlaceLaws.{place_number}
+use Rattle.type_iso.specs.Classes.{aggregate_number, class_in, representative_in, sides, type_number, IsTypeOf, IsRepresentative, StandsBefore, AreClasses, IsRefused}
+use Rattle.type_order.specs.Order.{IsIn}
+use Rattle.type_iso.specs.Places.{ArePlaced, IsTypePlace, IsOver, IsClashAt}
+use Rattle.type_iso.specs.Order.{StandsNext}
+use Rattle.type_iso.specs.Ordering.{AreIdempotent, IsOrder, AreInOrder}
+use Rattle.type_iso.proofs.PlaceLaws.{place_number, aggregate_at, get_mapped}
+use Rattle.type_iso.proofs.OrderSteps.{next_same, in_order, standing_idempotent}
 use Rattle.type_things.proofs.WovenLaws.{get_map, things_web, things_whole, things_aggregates, map_length}
 
 module _ {H L : Type 0} (ts : List (Thing H L)) (done : List (ℕ × ℕ)) where
@@ -92,13 +98,15 @@ module _ {H L : Type 0} (ts : List (Thing H L)) (done : List (ℕ × ℕ)) where
       ]
 
 -- what the phases give
-pub order_classed : (ts : List (Thing Head Label)) (done : List (ℕ × ℕ)) (m : ℕ) (f h : Forest) (st ns nd cs cd ss sd os od all : List ℕ) → h ≡ f → nd ≡ ns → cd ≡ cs → sd ≡ ss → od ≡ os
+pub order_classed : (ts : List (Thing Head Label)) (done : List (ℕ × ℕ)) (m : ℕ) (f h : Forest) (st ns nd cs cd ss so sd os od all : List ℕ) → h ≡ f → nd ≡ ns → cd ≡ cs → so ≡ ss → sd ≡ ss → od ≡ os
     → AreNumbers ts (num_at ns) → ((us : List (Thing Head Label)) (es : List (ℕ × ℕ)) (vs : List ℕ) → IsJoining us es (root h.parents.items) vs [] → AreNumbers us (num_at nd) → AreGathered us es cs)
-    → (AreLeast cd → AreStanding ts cd m ss) → AreOrdered od sd all → IsJoining ts done (root f.parents.items) st [] → AreClassed ts done m all os
-order_classed ts done m f h st ns nd cs cd ss sd os od all ef en ec es eo num gather stand order j =
+    → (AreLeast cd → AreStanding ts cd m ss) → (AreIdempotent m so → IsOrder ts m so os) → AreOrdered od sd all → IsJoining ts done (root f.parents.items) st [] → AreClassed ts done m all os × AreInOrder ts m all os
+order_classed ts done m f h st ns nd cs cd ss so sd os od all ef en ec eo es el num gather stand order numbers j =
     let g : AreGathered ts done cs = gather ts done st (subst (λ (k : Forest). IsJoining ts done (root k.parents.items) st []) (sym ef) j) (subst (λ l. AreNumbers ts (num_at l)) (sym en) num) in
     let s : AreStanding ts cs m ss = subst (λ l. AreLeast l → AreStanding ts l m ss) ec stand (least_classes ts done cs g) in
-    are_classed ts done m cs ss os all g s (subst (λ l. AreOrdered l ss all) eo (subst (λ l. AreOrdered od l all) es order))
+    let o : AreOrdered os ss all = subst (λ l. AreOrdered l ss all) el (subst (λ l. AreOrdered od l all) es numbers) in
+    let i : AreIdempotent m ss = standing_idempotent ts cs ss m (least_classes ts done cs g) s in
+    (are_classed ts done m cs ss os all g s o, in_order ts m ss all os i o (subst (λ l. AreIdempotent m l → IsOrder ts m l os) eo order i))
 
 -- an aggregate of a unit among those of all units
 number_at : (k t : ℕ) (gs : List Graph) (u a x : ℕ) → aggregate_number gs u a ≡ Some x → (f : ℕ × ℕ) × (slice_get (firsts_from k t gs) u ≡ Some f) × (f.0 + a ≡ k + x) × (x < aggregate_count gs)
@@ -136,15 +144,50 @@ class_number gs c u a x firsts count e =
     let same : f.0.aggregate + a ≡ x = omega (arith, first, sum) in
     (ap (option_and_then (λ (z : First). slice_get c.of.items (z.aggregate + a))) f.1 ∙ ap (slice_get c.of.items) same ∙ get_own c.of.items x (omega (arith, less, count)), less)
 
+-- the classes are in order, by the units' aggregates
+classes_ordered : (names : List (List ℕ)) (gs : List Graph) (c : Classes) (order : List ℕ) → map first_pair c.firsts.items ≡ firsts_from 0 (aggregate_count gs) gs → length c.of.items ≡ aggregate_count gs
+    → length c.representatives.items ≡ length order → ArePlaced c.firsts.items order c.representatives.items → ((n s : ℕ) → slice_get order n ≡ Some s → s < aggregate_count gs) → AreInOrder (things names gs) (aggregate_count gs) c.of.items order
+    → (n s : ℕ) (p : UnitNo × AggId) → representative_in c n ≡ Some p → aggregate_number gs p.0.0 p.1.0 ≡ Some s → StandsNext (things names gs) (aggregate_count gs) (IsRepresentative gs c) (StandsBefore gs c n) s
+classes_ordered names gs c order pairs count long here below listed n s p q e =
+    next_same (things names gs) (aggregate_count gs) (IsIn order) (IsRepresentative gs c) (λ a. at_own c.of.items a < n) (StandsBefore gs c n)
+    (λ a l i. (let w = here.each i.0 a i.1 in (i.0, w.0, w.1, place_number gs c.firsts.items a w.0 pairs l w.2)))
+    (λ a l i. (i.0, found i.0 a i.1 i.2 i.3))
+    (λ a l h u b z f g. (
+    let same : at_own c.of.items a ≡ z = some_number (at_own c.of.items a) z (sym (class_number gs c u b a pairs count f).0 ∙ g) in
+    omega (arith, h, same)))
+    (λ a l h. (let w = aggregate_at gs a l in h w.0 w.1 (at_own c.of.items a) w.2 (class_number gs c w.0 w.1 a pairs count w.2).0))
+    s (listed n s (found n s p q e))
+  where
+    some_number : (m n : ℕ) → ◌≡◌ {A = Option ℕ} (Some m) (Some n) → m ≡ n
+    some_number m n e = cc
+
+    some_place : (p q : UnitNo × AggId) → ◌≡◌ {A = Option (UnitNo × AggId)} (Some p) (Some q) → p ≡ q
+    some_place p q e = cc
+
+    inside : (ps : List (UnitNo × AggId)) (i : ℕ) (p : UnitNo × AggId) → slice_get ps i ≡ Some p → i < length ps
+    inside [] i p e = (let bad : ⊥ = cc in absurd bad)
+    inside (q ∷ ps) zero p e = omega arith
+    inside (q ∷ ps) (suc i) p e = (let w = inside ps i p e in omega (arith, w))
+
+    found : (i x : ℕ) (r : UnitNo × AggId) → representative_in c i ≡ Some r → aggregate_number gs r.0.0 r.1.0 ≡ Some x → slice_get order i ≡ Some x
+    found i x r f g =
+        let at = get_there order i (subst (λ z. i < z) long (inside c.representatives.items i r f)) in
+        let place = here.each i at.0 at.1 in
+        let one : place.0 ≡ r = some_place place.0 r (sym place.1 ∙ f) in
+        let number = subst (λ (z : UnitNo × AggId). aggregate_number gs z.0.0 z.1.0 ≡ Some at.0) one (place_number gs c.firsts.items at.0 place.0 pairs (below i at.0 at.1) place.2) in
+        at.1 ∙ ap Some (some_number at.0 x (sym number ∙ g))
+
 pub are_classes : (names : List (List ℕ)) (gs : List Graph) (groups : List Group) (c : Classes) (w : Web) (order : List ℕ) → IsWoven names gs w → c.firsts ≡ w.firsts
-    → AreClassed (things_of w) (links_of (things_of w) (map (sides_in (first_pairs w)) groups)) w.aggregates c.of.items order → ArePlaced w.firsts.items order c.representatives.items → AreClasses names gs groups c
-are_classes names gs groups c w order woven firsts a places =
+    → AreClassed (things_of w) (links_of (things_of w) (map (sides_in (first_pairs w)) groups)) w.aggregates c.of.items order → ArePlaced w.firsts.items order c.representatives.items → AreInOrder (things_of w) w.aggregates c.of.items order → AreClasses names gs groups c
+are_classes names gs groups c w order woven firsts a places ordered =
     let first : AreClassed (things names gs) (links_of (things names gs) (map (sides_in (first_pairs w)) groups)) w.aggregates c.of.items order =
     subst (λ ts. AreClassed ts (links_of ts (map (sides_in (first_pairs w)) groups)) w.aggregates c.of.items order) woven.things a in
     let second : AreClassed (things names gs) (links_of (things names gs) (sides gs groups)) w.aggregates c.of.items order =
     subst (λ f. AreClassed (things names gs) (links_of (things names gs) (map (sides_in f) groups)) w.aggregates c.of.items order) woven.firsts first in
     let k : AreClassed (things names gs) (links_of (things names gs) (sides gs groups)) (aggregate_count gs) c.of.items order =
     subst (λ m. AreClassed (things names gs) (links_of (things names gs) (sides gs groups)) m c.of.items order) woven.aggregates second in
+    let listed : AreInOrder (things names gs) (aggregate_count gs) c.of.items order =
+    subst (λ m. AreInOrder (things names gs) m c.of.items order) woven.aggregates (subst (λ ts. AreInOrder ts w.aggregates c.of.items order) woven.things ordered) in
     let pairs : map first_pair c.firsts.items ≡ firsts_from 0 (aggregate_count gs) gs = ap (λ v. map first_pair v.items) firsts ∙ woven.firsts in
     let here : ArePlaced c.firsts.items order c.representatives.items = subst (λ v. ArePlaced v.items order c.representatives.items) (sym firsts) places in
     record {
@@ -168,6 +211,7 @@ are_classes names gs groups c w order woven firsts a places =
           let r = k.placed x p.1 in
           let place = here.each (at_own c.of.items x) r.0 r.1 in
           (place.0, r.0, ap (slice_get c.representatives.items) (sym same) ∙ place.1, place_number gs c.firsts.items r.0 place.0 pairs r.2.within place.2, r.2));
+      ordered = classes_ordered names gs c order pairs k.count places.count here (λ n s q. (k.own n s q).0) listed;
     }
   where
     some_number : (m n : ℕ) → ◌≡◌ {A = Option ℕ} (Some m) (Some n) → m ≡ n
@@ -187,9 +231,65 @@ fails_first names gs groups w group earlier later pair woven f =
     subst (λ l. FailsFirst (things names gs) (map (sides_in l) groups) group earlier later pair) woven.firsts
     (subst (λ ts. FailsFirst ts (map (sides_in (first_pairs w)) groups) group earlier later pair) woven.things f)
 
-pub refused : (names : List (List ℕ)) (gs : List Graph) (groups : List Group) (w : Web) (f : Failure) (s : ClassStop) → IsWoven names gs w → IsClashOf f.group f.earlier f.later s
+things_count : (names : List (List ℕ)) (gs : List Graph) → length (things names gs) ≡ aggregate_count gs + type_count gs
+things_count names gs = (
+    let a = length-append (aggregates_from names (aggregate_count gs) gs) (types_from 0 (aggregate_count gs) gs) in
+    let b = aggregates (aggregate_count gs) gs in
+    let c = types 0 (aggregate_count gs) gs in
+    omega (arith, a, b, c))
+  where
+    aggregates : (t : ℕ) (hs : List Graph) → length (aggregates_from names t hs) ≡ aggregate_count hs
+    aggregates t [] = refl
+    aggregates t (h ∷ hs) = (
+        let a = length-append (map (aggregate_thing names t) h.aggs) (aggregates_from names (t + length h.nodes) hs) in
+        let b = map_length (aggregate_thing names t) h.aggs in
+        let c = aggregates (t + length h.nodes) hs in
+        omega (arith, a, b, c))
+
+    types : (k t : ℕ) (hs : List Graph) → length (types_from k t hs) ≡ type_count hs
+    types k t [] = refl
+    types k t (h ∷ hs) = (
+        let a = length-append (map (type_thing k t) h.nodes) (types_from (k + length h.aggs) (t + length h.nodes) hs) in
+        let b = map_length (type_thing k t) h.nodes in
+        let c = types (k + length h.aggs) (t + length h.nodes) hs in
+        omega (arith, a, b, c))
+
+-- a type of a unit by its number
+type_numbered : (k t : ℕ) (gs : List Graph) (u n y : ℕ) (f : ℕ × ℕ) → slice_get (firsts_from k t gs) u ≡ Some f → f.1 + n ≡ y → ((g : ℕ × ℕ) → slice_get (firsts_from k t gs) (suc u) ≡ Some g → y < g.1) → y < t + type_count gs → type_number t gs u n ≡ Some y
+type_numbered k t [] u n y f e sum ends h = (let bad : ⊥ = cc in absurd bad)
+type_numbered k t (g ∷ gs) zero n y f e sum ends h =
+    let same : (k, t) ≡ f = cc in
+    let first : t ≡ f.1 = ap (λ (p : ℕ × ℕ). p.1) same in
+    let own : t + n ≡ y = omega (arith, first, sum) in
+    ap (λ b. if b then Some (t + n) else None) (lt-ltb n (length g.nodes) (by gs ends h own)) ∙ ap Some own
+  where
+    by : (hs : List Graph) → ((p : ℕ × ℕ) → slice_get (firsts_from (k + length g.aggs) (t + length g.nodes) hs) 0 ≡ Some p → y < p.1) → y < t + (length g.nodes + type_count hs) → t + n ≡ y → n < length g.nodes
+    by [] last less own = omega (arith, less, own)
+    by (i ∷ hs) last less own = (let q = last (k + length g.aggs, t + length g.nodes) refl in omega (arith, q, own))
+type_numbered k t (g ∷ gs) (suc u) n y f e sum ends h = type_numbered (k + length g.aggs) (t + length g.nodes) gs u n y f e sum ends (omega (arith, h))
+
+type_placed : (names : List (List ℕ)) (gs : List Graph) (w : Web) (x y : ℕ) (p : UnitNo × TypeId) → IsWoven names gs w → IsOver (things_of w) x y → IsTypePlace w.firsts.items (length w.things.items) y p → IsTypeOf (things names gs) gs p x
+type_placed names gs w x y p woven over is = (
+  y,
+  type_numbered 0 (aggregate_count gs) gs p.0.0 p.1.0 y (first_pair is.first) (ap (λ l. slice_get l p.0.0) (sym woven.firsts) ∙ get_mapped first_pair w.firsts.items p.0.0 is.first is.unit) is.number
+      (λ g q. (
+      let r = get_map first_pair w.firsts.items (suc p.0.0) g (ap (λ l. slice_get l (suc p.0.0)) woven.firsts ∙ q) in
+      let less = is.ends r.0 r.1 in
+      let same : r.0.ty ≡ g.1 = ap (λ (v : ℕ × ℕ). v.1) r.2 in
+      omega (arith, less, same)))
+      (
+      let a = ap length woven.things in
+      let b = map_length (thing_in w.parts.items) w.things.items in
+      let c = things_count names gs in
+      let d = is.within in
+      omega (arith, a, b, c, d)),
+  subst (λ ts. IsOver ts x y) woven.things over,
+)
+
+pub refused : (names : List (List ℕ)) (gs : List Graph) (groups : List Group) (w : Web) (f : Failure) (s : ClassStop) → IsWoven names gs w → IsClashAt w f s
     → FailsFirst (things_of w) (map (sides_in (first_pairs w)) groups) f.group f.earlier f.later f.pair → IsRefused names gs groups s
-refused names gs groups w f s woven clash fails = subst (IsRefused names gs groups) (sym clash.2) (f.pair, fails_first names gs groups w f.group f.earlier f.later f.pair woven fails)
+refused names gs groups w f s woven clash fails = subst (IsRefused names gs groups) (sym clash.is)
+    (f.pair, fails_first names gs groups w f.group f.earlier f.later f.pair woven fails, type_placed names gs w f.pair.0 clash.first clash.left woven clash.first_over clash.first_at, type_placed names gs w f.pair.1 clash.second clash.right woven clash.second_over clash.second_at)
 
 pub woven_whole : (names : List (List ℕ)) (gs : List Graph) (w : Web) → IsWoven names gs w → AreWhole (things_of w)
 woven_whole names gs w woven = subst AreWhole (sym woven.things) (things_whole names gs)

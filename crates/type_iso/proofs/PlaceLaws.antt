@@ -1,11 +1,12 @@
 -- Device: aggregates by their units and their numbers there.
-use Rattle.std.proofs.Common.{◌≡◌, ℕ, zero, suc, ◌+◌, ◌<◌, ◌≤◌, List, [], ◌∷◌, Some, None, map, length, slice_get, if◌then◌else◌, refl, sym, ap, ◌∙◌, arith}
+use Rattle.std.proofs.Common.{◌≡◌, inl, inr, ℕ, zero, suc, ◌+◌, ◌<◌, ◌≤◌, List, [], ◌∷◌, Some, None, map, length, slice_get, if◌then◌else◌, refl, sym, ap, ◌∙◌, arith}
 use borrow.Author.Tests.{lt-ltb}
 use Rattle.std.specs.Option.{option_map}
 use Rattle.cil_base.specs.declared.numbers.UnitNo.{UnitNo}
 use Rattle.cil_base.specs.declared.numbers.AggId.{AggId}
 use Rattle.type_graph.specs.Arena.{Graph}
 use Rattle.type_things.specs.declared.web.First.{First}
+use Rattle.type_things.proofs.NumberLaws.{less_or}
 use Rattle.type_things.specs.Units.{aggregate_count, firsts_from}
 use Rattle.type_things.specs.Webs.{first_pair}
 use Rattle.type_iso.specs.Places.{IsPlace}
@@ -45,7 +46,19 @@ numbered k t (g ∷ gs) (suc u) n x f e sum ends h =
     by : (u n : ℕ) (f : ℕ × ℕ) → slice_get (firsts_from (k + length g.aggs) (t + length g.nodes) gs) u ≡ Some f → f.0 + n ≡ k + x → k + length g.aggs ≤ f.0 → ((p : ℕ × ℕ) → slice_get (firsts_from (k + length g.aggs) (t + length g.nodes) gs) (suc u) ≡ Some p → k + x < p.0) → length g.aggs ≤ x
     by u n f e sum above ends = omega (arith, sum, above)
 
-get_mapped : {X Y : Type 0} (f : X → Y) (xs : List X) (i : ℕ) (x : X) → slice_get xs i ≡ Some x → slice_get (map f xs) i ≡ Some (f x)
+-- an aggregate of all units is one of a unit
+pub aggregate_at : (gs : List Graph) (x : ℕ) → x < aggregate_count gs → (u : ℕ) × (b : ℕ) × (aggregate_number gs u b ≡ Some x)
+aggregate_at [] x h = absurd (omega (arith, h))
+aggregate_at (g ∷ gs) x h = elim (less_or x (length g.aggs)) [
+  | inl l ↦ (0, x, ap (λ b. if b then Some x else None) (lt-ltb x (length g.aggs) l))
+  | inr l ↦ (
+      let d = difference (length g.aggs) x l in
+      let is = d.1 in
+      let r = aggregate_at gs d.0 (omega (arith, h, is)) in
+      (suc r.0, r.1, ap (option_map (λ m. length g.aggs + m)) r.2 ∙ ap Some (sym is)))
+]
+
+pub get_mapped : {X Y : Type 0} (f : X → Y) (xs : List X) (i : ℕ) (x : X) → slice_get xs i ≡ Some x → slice_get (map f xs) i ≡ Some (f x)
 get_mapped f [] i x e = (let bad : ⊥ = cc in absurd bad)
 get_mapped f (y ∷ xs) zero x e = (let s : y ≡ x = cc in ap (λ z. Some (f z)) s)
 get_mapped f (y ∷ xs) (suc i) x e = get_mapped f xs i x e

@@ -1,3 +1,5 @@
 pub mod Classes
+pub mod Order
+pub mod Ordering
 pub mod Standing
 pub mod Places

@@ -1,5 +1,5 @@
 -- Device: which aggregate stands for a class of aggregates, and the numbers of classes.
-use Rattle.std.specs.Prelude.{◌≡◌, ◌⊎◌, ◌↔◌, ℕ, ◌<◌, ◌≤◌, Bool, true, false, List, Some, Option, length, get_or, slice_get, slice_set}
+use Rattle.std.specs.Prelude.{◌≡◌, ◌⊎◌, ◌↔◌, ℕ, ◌<◌, ◌≤◌, true, false, List, Some, Option, length, get_or, slice_get, slice_set}
 use Rattle.type_things.specs.Things.{Thing, Joint, Same}
 use Rattle.type_iso.specs.Classes.{has_parts, Represents}
 

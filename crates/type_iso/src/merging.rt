@@ -1,10 +1,15 @@
-ghost use Rattle.std.specs.Prelude.{◌≡◌, ℕ, ◌≤◌, List, [], Option, Some, None, map, length, slice_get, slice_set, IsTrue, IfOk, OnOk};
+ghost use Rattle.std.specs.Prelude.{◌≡◌, ℕ, suc, ◌<◌, ◌≤◌, true, List, [], Option, Some, None, map, length, slice_get, slice_set, IsTrue, IfOk, OnOk};
 ghost use Rattle.type_joins.specs.Forests.{root, IsForest};
 ghost use Rattle.type_joins.specs.Joined.{IsJoining};
 ghost use Rattle.type_things.specs.Webs.{IsWeb, things_of};
-ghost use Rattle.type_iso.specs.Places.{EndsAbove, IsPlace, ArePlaces, ArePlaced};
+ghost use Rattle.type_things.specs.declared.web.First.{First};
+ghost use Rattle.type_things.specs.declared.web.Head.TheVariants.{Agg};
+ghost use Rattle.type_things.specs.Heads.{first_part};
+ghost use Rattle.type_things.specs.Things.{head_of};
+ghost use Rattle.type_iso.specs.Places.{EndsAbove, IsPlace, ArePlaces, ArePlaced, IsTypePlace, IsOver, IsClashAt};
 ghost use Rattle.type_iso.specs.Standing.{AreLeast, LetsStand, StandUpTo, AreStanding, AreNumbersIn, IsStandingAt, AreNumbersOf, AreOrdered, AreClassed};
-ghost use Rattle.type_iso.specs.Classes.{IsClashOf, Answers};
+ghost use Rattle.type_iso.specs.Ordering.{AreInOrder};
+ghost use Rattle.type_iso.specs.Classes.{Answers};
 
 use crate::class_table::Classes;
 use crate::ordering::ordered;
@@ -53,30 +58,77 @@ impl<T: Drop> From<AllocFailed<T>> for ClassStop {
     }
 }
 
-/// The last unit whose first type is not above a type, and that first type.
-fn unit_of(firsts: &[First], x: u32) -> Result<(UnitNo, u32), Memory> {
-    let mut found = (UnitNo(0), 0);
+/// The last unit whose first type is not above a type.
+fn unit_of(firsts: &[First], x: u32) -> Result<UnitNo, Memory> {
+    let mut found = UnitNo(0);
     for u in 0..firsts.len() {
         if firsts[u].ty <= x {
-            found = (UnitNo(narrow(u)?), firsts[u].ty);
+            found = UnitNo(narrow(u)?);
         }
     }
     Ok(found)
 }
 
+/// The first numbers of a unit.
+fn first_of(firsts: &[First], u: UnitNo) -> Result<First, Memory>
+    ensures { IfOk result (λ f. slice_get firsts.now u.0 ≡ Some f) }
+{
+    match firsts.get(u.0 as usize) {
+        Some(first) => Ok(*first),
+        None => Err(impossible()),
+    }
+}
+
+/// That a number is below another one.
+fn check_below(x: u32, end: u32) -> Result<(), Memory>
+    ensures { OnOk result (x < end) }
+{
+    if x >= end {
+        return Err(impossible());
+    }
+    Ok(())
+}
+
+/// That a type stands before those of the next unit.
+fn check_end(firsts: &[First], u: UnitNo, x: u32) -> Result<(), Memory>
+    ensures { OnOk result ((f : First) → slice_get firsts.now (suc u.0) ≡ Some f → x < f.ty) }
+{
+    match firsts.get(u.0 as usize + 1) {
+        None => Ok(()),
+        Some(next) => check_below(x, next.ty),
+    }
+}
+
 /// A type by its unit and its number there.
-fn type_of(web: &Web, x: u32) -> Result<(UnitNo, TypeId), Memory> {
-    let (u, first) = unit_of(web.firsts(), x)?;
-    match x.checked_sub(first) {
+fn type_of(web: &Web, x: u32) -> Result<(UnitNo, TypeId), Memory>
+    ensures { IfOk result (IsTypePlace web.now.firsts.items (length web.now.things.items) x) }
+{
+    let u = unit_of(web.firsts(), x)?;
+    check_end(web.firsts(), u, x)?;
+    check_below(x, web.count()?)?;
+    let first = first_of(web.firsts(), u)?;
+    match x.checked_sub(first.ty) {
         Some(number) => Ok((u, TypeId(number))),
         None => Err(impossible()),
     }
 }
 
+/// Whether a type is an aggregate.
+fn is_type_of(web: &Web, x: u32, a: u32) -> Result<bool, Memory>
+    ensures { IfOk result (λ b. b ≡ true → (head_of (things_of web.now) x ≡ Some Agg) × (first_part (things_of web.now) x ≡ a)) }
+{
+    match web.head(x)? {
+        Head::Agg => Ok(web.first_part(x)? == a),
+        _ => Ok(false),
+    }
+}
+
 /// A type that is an aggregate.
-fn type_that_is(web: &Web, a: u32) -> Result<u32, Memory> {
+fn type_that_is(web: &Web, a: u32) -> Result<u32, Memory>
+    ensures { IfOk result (λ y. (head_of (things_of web.now) y ≡ Some Agg) × (first_part (things_of web.now) y ≡ a)) }
+{
     for x in web.aggregates..web.count()? {
-        if web.head(x)? == Head::Agg && web.first_part(x)? == a {
+        if is_type_of(web, x, a)? {
             return Ok(x);
         }
     }
@@ -84,7 +136,9 @@ fn type_that_is(web: &Web, a: u32) -> Result<u32, Memory> {
 }
 
 /// The type that a thing is: itself, or one that is the aggregate.
-fn type_over(web: &Web, x: u32) -> Result<u32, Memory> {
+fn type_over(web: &Web, x: u32) -> Result<u32, Memory>
+    ensures { IfOk result (IsOver (things_of web.now) x) }
+{
     if x < web.aggregates {
         return type_that_is(web, x);
     }
@@ -93,7 +147,7 @@ fn type_over(web: &Web, x: u32) -> Result<u32, Memory> {
 
 /// The refusal that a link is.
 fn clash(web: &Web, failure: Failure) -> Result<ClassStop, Memory>
-    ensures { IfOk result (IsClashOf failure.group failure.earlier failure.later) }
+    ensures { IfOk result (IsClashAt web.now failure) }
 {
     Ok(ClassStop::Clash {
         group: failure.group,
@@ -289,7 +343,7 @@ fn class_order(alloc: Global, web: &Web, joining: Joining) -> Result<(Vec<u32>, 
     requires web { IsWeb (things_of web.now) web.now.aggregates }
     requires within { web.now.aggregates ≤ length web.now.things.items }
     requires forest { IsForest joining.forest.parents.items }
-    ensures { (done : List (ℕ × ℕ)) → IsJoining (things_of web.now) done (root joining.forest.parents.items) joining.stand.items [] → IfOk result (λ p. AreClassed (things_of web.now) done web.now.aggregates p.0.items p.1.items) }
+    ensures { (done : List (ℕ × ℕ)) → IsJoining (things_of web.now) done (root joining.forest.parents.items) joining.stand.items [] → IfOk result (λ p. AreClassed (things_of web.now) done web.now.aggregates p.0.items p.1.items × AreInOrder (things_of web.now) web.now.aggregates p.0.items p.1.items) }
 {
     let numbers = isomorphic(alloc, web)?;
     let classes = gather(alloc, joining.into_forest(), &numbers)?;
@@ -304,7 +358,7 @@ fn classed(alloc: Global, web: Web, joining: Joining) -> Result<Classes, Memory>
     requires web { IsWeb (things_of web) web.aggregates }
     requires within { web.aggregates ≤ length web.things.items }
     requires forest { IsForest joining.forest.parents.items }
-    ensures { (done : List (ℕ × ℕ)) → IsJoining (things_of web) done (root joining.forest.parents.items) joining.stand.items [] → IfOk result (λ c. (c.firsts ≡ web.firsts) × ((order : List ℕ) × AreClassed (things_of web) done web.aggregates c.of.items order × ArePlaced web.firsts.items order c.representatives.items)) }
+    ensures { (done : List (ℕ × ℕ)) → IsJoining (things_of web) done (root joining.forest.parents.items) joining.stand.items [] → IfOk result (λ c. (c.firsts ≡ web.firsts) × ((order : List ℕ) × AreClassed (things_of web) done web.aggregates c.of.items order × ArePlaced web.firsts.items order c.representatives.items × AreInOrder (things_of web) web.aggregates c.of.items order)) }
 {
     let (of, order) = class_order(alloc, &web, joining)?;
     let representatives = representatives(alloc, &web, &order)?;

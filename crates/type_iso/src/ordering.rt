@@ -1,347 +1,365 @@
+ghost use Rattle.std.specs.Prelude.{◌≡◌, ◌≢◌, ◌⊎◌, ℕ, ◌<◌, ◌≤◌, Bool, true, false, List, [], ◌∷◌, ◌++◌, Option, Some, None, MatchBool, length, slice_get, IfOk, OnOk};
+ghost use Rattle.type_things.specs.declared.web.Head.{Head};
+ghost use Rattle.type_things.specs.declared.web.Label.{Label};
+ghost use Rattle.type_things.specs.Heads.{is_enum, parts_of};
+ghost use Rattle.type_things.specs.Things.{Thing};
+ghost use Rattle.type_things.specs.Webs.{things_of};
+ghost use Rattle.type_iso.specs.Standing.{at_own};
+ghost use Rattle.type_iso.specs.Ordering.{has_values, AreSettled, IsOnlyPart, IsValue, AreValues, IsArraySettled, IsSettled, AreSettledUpTo, AddsValue, AddsNeeds, AreNeedsOf, AreNeeds, IsOwnEnum, AreIdempotent, IsOrder, AreEnums, ListsEnum, Lists, IsReckoned};
+ghost use Rattle.type_order.specs.Order.{needed_of, IsLeastFirst};
+
 use cil_base::Memory;
 use std::alloc::Global;
-use std::collections::BTreeSet;
-use type_things::{Head, Web, at, impossible, narrow, put, sum};
+use type_order::least_first;
+use type_things::{Head, Part, Web, at, impossible};
 
-/// That something waits for another thing, and the next that does; the first has the number 1, and 0 is the end.
-#[derive(Clone, Copy)]
-struct Wait {
-    who: u32,
-    next: u32,
-}
-
-/// Who waits for whom. An aggregate waits for those within it and for the types of its members; a type waits for the aggregates that
-/// are elements of an array in it, and so for its parts.
-#[derive(Drop)]
-struct Waits {
-    /// For each thing how much it waits for.
-    counts: Vec<u32>,
-    /// For each thing the first that waits for it.
-    firsts: Vec<u32>,
-    all: Vec<Wait>,
-}
-
-/// For each type the struct or union that it has within itself, and whether such a one is the element of an array anywhere in it.
-#[derive(Clone, Copy)]
-struct Within {
-    value: Option<u32>,
-    elements: bool,
-}
-
-/// Zeroes.
-fn zeroes(alloc: Global, count: usize) -> Result<Vec<u32>, Memory> {
-    let mut all = Vec::new(alloc);
-    for _i in 0..count {
-        all.push(0)?;
-    }
-    Ok(all)
-}
-
-impl Waits {
-    /// Nothing waits.
-    fn new(alloc: Global, count: usize) -> Result<Self, Memory> {
-        Ok(Waits {
-            counts: zeroes(alloc, count)?,
-            firsts: zeroes(alloc, count)?,
-            all: Vec::new(alloc),
-        })
-    }
-
-    /// Something waits for another thing.
-    fn add(&mut self, who: u32, whom: u32) -> Result<(), Memory> {
-        let next = at(&self.firsts, whom)?;
-        self.all.push(Wait { who, next })?;
-        let number = narrow(self.all.len())?;
-        put(&mut self.firsts, whom, number)?;
-        let count = at(&self.counts, who)?;
-        put(&mut self.counts, who, sum(count, 1)?)
-    }
-
-    /// Something waits for one thing less. Whether it waits for nothing now.
-    fn release(&mut self, who: u32) -> Result<bool, Memory> {
-        let count = at(&self.counts, who)?;
-        let Some(left) = count.checked_sub(1) else {
-            return Err(impossible());
-        };
-        put(&mut self.counts, who, left)?;
-        Ok(left == 0)
-    }
-
-    /// Who waits by a number.
-    fn wait(&self, number: u32) -> Result<Wait, Memory> {
-        let Some(i) = number.checked_sub(1) else {
-            return Err(impossible());
-        };
-        match self.all.get(i as usize) {
-            Some(wait) => Ok(*wait),
-            None => Err(impossible()),
-        }
-    }
-}
-
-/// The aggregates of all units in their classes: for each the one that stands for its class.
-#[derive(Drop)]
-struct Classed<'a> {
-    web: &'a Web,
-    standing: &'a [u32],
-}
-
-/// What stands within a type; an enum does not count.
-fn part_within(all: &[Within], ty: u32, aggregates: u32) -> Result<Within, Memory> {
-    let Some(i) = ty.checked_sub(aggregates) else {
+/// The only part of a thing.
+fn only_part(web: &Web, x: u32) -> Result<u32, Memory>
+    ensures { IfOk result (IsOnlyPart (things_of web.now) x) }
+{
+    let parts = web.parts(x)?;
+    if parts.len() != 1 {
         return Err(impossible());
-    };
-    match all.get(i as usize) {
-        Some(within) => Ok(*within),
+    }
+    Ok(parts[0].1)
+}
+
+/// What a type has by value, in a table.
+fn value_at(values: &[Option<u32>], ty: u32) -> Result<Option<u32>, Memory>
+    ensures { IfOk result (λ o. slice_get values.now ty ≡ Some o) }
+{
+    match values.get(ty as usize) {
+        Some(value) => Ok(*value),
         None => Err(impossible()),
     }
 }
 
-impl Classed<'_> {
-    /// The struct or union that a type is.
-    fn value(&self, ty: u32) -> Result<Within, Memory> {
-        let a = self.web.first_part(ty)?;
-        if self.web.head(a)?.is_enum() {
-            return Ok(Within {
-                value: None,
-                elements: false,
-            });
-        }
-        Ok(Within {
-            value: Some(at(self.standing, a)?),
-            elements: false,
-        })
-    }
-
-    /// Whether an aggregate is the element of an array anywhere in the parts of a type.
-    fn elements(&self, all: &[Within], ty: u32) -> Result<bool, Memory> {
-        for part in self.web.parts(ty)? {
-            if part_within(all, part.1, self.web.aggregates)?.elements {
-                return Ok(true);
-            }
-        }
-        Ok(false)
-    }
-
-    /// What stands within an array.
-    fn array(&self, all: &[Within], ty: u32) -> Result<Within, Memory> {
-        let element = part_within(all, self.web.first_part(ty)?, self.web.aggregates)?;
-        Ok(Within {
-            value: element.value,
-            elements: element.elements || element.value.is_some(),
-        })
-    }
-
-    /// What stands within a type, from what stands within those before it.
-    fn within(&self, all: &[Within], ty: u32) -> Result<Within, Memory> {
-        match self.web.head(ty)? {
-            Head::Agg => self.value(ty),
-            Head::Array(_) => self.array(all, ty),
-            _ => Ok(Within {
-                value: None,
-                elements: self.elements(all, ty)?,
-            }),
-        }
-    }
-
-    /// What stands within each type.
-    fn held_within(&self, alloc: Global) -> Result<Vec<Within>, Memory> {
-        let mut all = Vec::new(alloc);
-        for x in self.web.aggregates..self.web.count()? {
-            let inner = self.within(&all, x)?;
-            all.push(inner)?;
-        }
-        Ok(all)
-    }
-
-    /// Lets something wait for what stands within a type by value.
-    fn wait_for_value(&self, waits: &mut Waits, who: u32, within: Within) -> Result<(), Memory> {
-        match within.value {
-            Some(a) => waits.add(who, a),
-            None => Ok(()),
-        }
-    }
-
-    /// Lets something wait for the elements of arrays in a type.
-    fn wait_for_elements(
-        &self,
-        waits: &mut Waits,
-        who: u32,
-        ty: u32,
-        within: Within,
-    ) -> Result<(), Memory> {
-        if within.elements {
-            return waits.add(who, ty);
-        }
-        Ok(())
-    }
-
-    /// Lets an aggregate wait for what its members have within themselves, and for the elements of arrays in their types.
-    fn wait_for_members(&self, waits: &mut Waits, all: &[Within], who: u32) -> Result<(), Memory> {
-        for part in self.web.parts(who)? {
-            let ty = part.1;
-            let inner = part_within(all, ty, self.web.aggregates)?;
-            self.wait_for_value(waits, who, inner)?;
-            self.wait_for_elements(waits, who, ty, inner)?;
-        }
-        Ok(())
-    }
-
-    /// Lets a type wait for the elements of arrays in its parts.
-    fn wait_for_parts(&self, waits: &mut Waits, all: &[Within], who: u32) -> Result<(), Memory> {
-        for part in self.web.parts(who)? {
-            let ty = part.1;
-            let inner = part_within(all, ty, self.web.aggregates)?;
-            self.wait_for_elements(waits, who, ty, inner)?;
-        }
-        Ok(())
-    }
-
-    /// Lets a type wait for the elements of arrays in it.
-    fn wait_in_type(&self, waits: &mut Waits, all: &[Within], who: u32) -> Result<(), Memory> {
-        match self.web.head(who)? {
-            Head::Agg => Ok(()),
-            Head::Array(_) => {
-                let element = part_within(all, self.web.first_part(who)?, self.web.aggregates)?;
-                self.wait_for_value(waits, who, element)?;
-                self.wait_for_parts(waits, all, who)
-            }
-            _ => self.wait_for_parts(waits, all, who),
-        }
-    }
-
-    /// Whether an aggregate stands for its class.
-    fn stands(&self, a: u32) -> Result<bool, Memory> {
-        Ok(at(self.standing, a)? == a)
-    }
-
-    /// Lets all aggregates that stand for classes wait.
-    fn wait_all_members(&self, waits: &mut Waits, all: &[Within]) -> Result<(), Memory> {
-        for a in 0..self.web.aggregates {
-            if self.stands(a)? {
-                self.wait_for_members(waits, all, a)?;
-            }
-        }
-        Ok(())
-    }
-
-    /// Lets all types wait.
-    fn wait_all_types(&self, waits: &mut Waits, all: &[Within]) -> Result<(), Memory> {
-        for x in self.web.aggregates..self.web.count()? {
-            self.wait_in_type(waits, all, x)?;
-        }
-        Ok(())
-    }
-
-    /// Who waits for whom.
-    fn waits(&self, alloc: Global) -> Result<Waits, Memory> {
-        let all = self.held_within(alloc)?;
-        let mut waits = Waits::new(alloc, self.web.count()? as usize)?;
-        self.wait_all_members(&mut waits, &all)?;
-        self.wait_all_types(&mut waits, &all)?;
-        Ok(waits)
-    }
-
-    /// The enums that stand for classes.
-    fn enums(&self, alloc: Global) -> Result<Vec<u32>, Memory> {
-        let mut order = Vec::new(alloc);
-        for a in 0..self.web.aggregates {
-            if self.stands(a)? && self.web.head(a)?.is_enum() {
-                order.push(a)?;
-            }
-        }
-        Ok(order)
-    }
-
-    /// The structs and unions that stand for classes and wait for nothing.
-    fn ready(&self, alloc: Global, waits: &Waits) -> Result<BTreeSet<u32>, Memory> {
-        let mut ready = BTreeSet::new(alloc);
-        for a in 0..self.web.aggregates {
-            if self.stands(a)? && !self.web.head(a)?.is_enum() && at(&waits.counts, a)? == 0 {
-                ready.insert(a)?;
-            }
-        }
-        Ok(ready)
+/// The aggregate that a type is, or that an array has as its elements, however many bounds it has.
+fn value_of(web: &Web, values: &[Option<u32>], x: u32) -> Result<Option<u32>, Memory>
+    ensures { IfOk result (IsValue (things_of web.now) values.now x) }
+{
+    match web.head(x)? {
+        Head::Agg => Ok(Some(only_part(web, x)?)),
+        Head::Array(_) => value_at(values, only_part(web, x)?),
+        Head::Void | Head::Int(_) | Head::Ptr | Head::Func { .. } | Head::Tagged(..) => Ok(None),
     }
 }
 
-/// Those that were released and wait for nothing now.
-#[derive(Drop)]
-struct Released {
-    ready: BTreeSet<u32>,
-    types: Vec<u32>,
+/// For each thing the aggregate that it has by value, if it is a type that does.
+fn values(alloc: Global, web: &Web) -> Result<Vec<Option<u32>>, Memory>
+    ensures { IfOk result (λ v. AreValues (things_of web.now) v.items (length web.now.things.items)) }
+{
+    let mut all = Vec::new(alloc);
+    for x in 0..web.count()? {
+        let value = value_of(web, &all, x)?;
+        all.push(value)?;
+    }
+    Ok(all)
 }
 
-/// Releases one that waited.
-fn release_one(
-    waits: &mut Waits,
-    aggregates: u32,
-    who: u32,
-    released: &mut Released,
-) -> Result<(), Memory> {
-    if !waits.release(who)? {
-        return Ok(());
+/// Whether a thing is settled, in a table.
+fn settled_at(settled: &[bool], x: u32) -> Result<bool, Memory>
+    ensures { IfOk result (λ b. slice_get settled.now x ≡ Some b) }
+{
+    match settled.get(x as usize) {
+        Some(b) => Ok(*b),
+        None => Err(impossible()),
     }
-    if who < aggregates {
-        released.ready.insert(who)?;
-        return Ok(());
+}
+
+/// Whether all parts are settled.
+fn parts_settled(settled: &[bool], parts: &[Part]) -> Result<bool, Memory>
+    ensures { IfOk result (λ b. b ≡ true → AreSettled settled.now parts.now) }
+{
+    for i in 0..parts.len() {
+        if !settled_at(settled, parts[i].1)? {
+            return Ok(false);
+        }
     }
-    released.types.push(who)?;
+    Ok(true)
+}
+
+/// Whether an aggregate is settled: one that does not stand for its class, or an enum.
+fn aggregate_settled(standing: &[u32], head: Head, x: u32) -> Result<bool, Memory>
+    ensures within { OnOk result (x < length standing.now) }
+    ensures which { IfOk result (λ b. MatchBool b ((at_own standing.now x ≢ x) ⊎ (is_enum head ≡ true)) ((at_own standing.now x ≡ x) × (is_enum head ≡ false))) }
+{
+    let own = at(standing, x)?;
+    if own != x {
+        return Ok(true);
+    }
+    Ok(head.is_enum())
+}
+
+/// That a type in which no type stands is settled.
+fn simple_settled(web: &Web, x: u32) -> Result<bool, Memory>
+    ensures type_is { OnOk result (web.now.aggregates ≤ x) }
+    ensures settled { IfOk result (λ b. b ≡ true) }
+{
+    if x < web.aggregates {
+        return Err(impossible());
+    }
+    Ok(true)
+}
+
+/// Whether a pointer, an array or a function is settled, but for what an array has as elements: the types in it are.
+fn derived_settled(web: &Web, settled: &[bool], x: u32) -> Result<bool, Memory>
+    ensures type_is { OnOk result (web.now.aggregates ≤ x) }
+    ensures settled { IfOk result (λ b. b ≡ true → AreSettled settled.now (parts_of (things_of web.now) x)) }
+{
+    if x < web.aggregates {
+        return Err(impossible());
+    }
+    parts_settled(settled, web.parts(x)?)
+}
+
+/// Whether an array is settled: its elements have no aggregate by value, and their type is settled.
+fn array_settled(
+    web: &Web,
+    values: &[Option<u32>],
+    settled: &[bool],
+    x: u32,
+) -> Result<bool, Memory>
+    ensures { IfOk result (IsArraySettled (things_of web.now) web.now.aggregates values.now settled.now x) }
+{
+    let value = value_at(values, only_part(web, x)?)?;
+    let inner = derived_settled(web, settled, x)?;
+    match value {
+        Some(_) => Ok(false),
+        None => Ok(inner),
+    }
+}
+
+/// Whether a thing is settled from the start: nothing waits for it. That is an aggregate that does not stand for its class or is an
+/// enum, and a type in which no aggregate is the element of an array.
+fn is_settled(
+    web: &Web,
+    standing: &[u32],
+    values: &[Option<u32>],
+    settled: &[bool],
+    x: u32,
+) -> Result<bool, Memory>
+    ensures { IfOk result (IsSettled (things_of web.now) web.now.aggregates standing.now values.now settled.now x) }
+{
+    match web.head(x)? {
+        Head::Void | Head::Int(_) | Head::Agg => simple_settled(web, x),
+        Head::Array(_) => array_settled(web, values, settled, x),
+        Head::Ptr | Head::Func { .. } => derived_settled(web, settled, x),
+        Head::Tagged(kind, stem) => aggregate_settled(standing, Head::Tagged(kind, stem), x),
+    }
+}
+
+/// Which things are settled from the start.
+fn all_settled(
+    alloc: Global,
+    web: &Web,
+    standing: &[u32],
+    values: &[Option<u32>],
+) -> Result<Vec<bool>, Memory>
+    ensures { IfOk result (λ v. AreSettledUpTo (things_of web.now) web.now.aggregates standing.now values.now v.items (length web.now.things.items)) }
+{
+    let mut all = Vec::new(alloc);
+    for x in 0..web.count()? {
+        let settled = is_settled(web, standing, values, &all, x)?;
+        all.push(settled)?;
+    }
+    Ok(all)
+}
+
+/// Puts what stands for the class of an aggregate.
+fn push_standing(all: &mut Vec<u32>, standing: &[u32], a: u32) -> Result<(), Memory>
+    ensures within { OnOk result (a < length standing.now) }
+    ensures pushed { OnOk result (all.new.items ≡ all.old.items ++ at_own standing.now a ∷ []) }
+{
+    let own = at(standing, a)?;
+    all.push(own)?;
     Ok(())
 }
 
-/// Releases all that waited for a thing.
-fn release_waiting(
-    waits: &mut Waits,
-    aggregates: u32,
-    whom: u32,
-    released: &mut Released,
-) -> Result<(), Memory> {
-    let mut number = at(&waits.firsts, whom)?;
-    for _step in 0..waits.all.len() {
-        if number == 0 {
-            return Ok(());
-        }
-        let wait = waits.wait(number)?;
-        release_one(waits, aggregates, wait.who, released)?;
-        number = wait.next;
+/// Puts the aggregate that a type has by value, as the one that stands for its class.
+fn push_value(
+    all: &mut Vec<u32>,
+    standing: &[u32],
+    values: &[Option<u32>],
+    ty: u32,
+) -> Result<(), Memory>
+    ensures { OnOk result (AddsValue standing.now values.now ty all.old.items all.new.items) }
+{
+    match value_at(values, ty)? {
+        None => Ok(()),
+        Some(a) => push_standing(all, standing, a),
+    }
+}
+
+/// That a part is a type, and that it stands before a type whose part it is.
+fn check_part(aggregates: u32, x: u32, ty: u32) -> Result<(), Memory>
+    ensures above { OnOk result (aggregates ≤ ty) }
+    ensures below { OnOk result (aggregates ≤ x → ty < x) }
+{
+    if ty < aggregates {
+        return Err(impossible());
+    }
+    if x >= aggregates && ty >= x {
+        return Err(impossible());
     }
     Ok(())
 }
 
-/// Releases all that waited for an aggregate, and for the types that are released by it.
-fn release_all(
-    waits: &mut Waits,
+/// Puts what a thing waits for by one of its parts.
+fn push_needs(
+    all: &mut Vec<u32>,
     aggregates: u32,
-    whom: u32,
-    released: &mut Released,
-) -> Result<(), Memory> {
-    release_waiting(waits, aggregates, whom, released)?;
-    for _step in 0..u64::MAX {
-        let Some(ty) = released.types.pop() else {
-            return Ok(());
-        };
-        release_waiting(waits, aggregates, ty, released)?;
+    standing: &[u32],
+    values: &[Option<u32>],
+    by_value: bool,
+    x: u32,
+    ty: u32,
+) -> Result<(), Memory>
+    ensures { OnOk result (AddsNeeds standing.now values.now aggregates by_value x ty all.old.items all.new.items) }
+{
+    check_part(aggregates, x, ty)?;
+    all.push(ty)?;
+    if by_value {
+        return push_value(all, standing, values, ty);
     }
-    Err(impossible())
+    Ok(())
 }
 
-/// The aggregates that stand for classes, in the order of their classes: the enums first, then again and again the least that is
-/// ready. One is ready where those within it, and those that are elements of arrays anywhere in its members' types, stand before it.
-pub(crate) fn ordered(alloc: Global, web: &Web, standing: &[u32]) -> Result<Vec<u32>, Memory> {
-    let classed = Classed { web, standing };
-    let mut waits = classed.waits(alloc)?;
-    let mut order = classed.enums(alloc)?;
-    let mut released = Released {
-        ready: classed.ready(alloc, &waits)?,
-        types: Vec::new(alloc),
-    };
-    for _step in 0..u64::MAX {
-        let Some(a) = released.ready.pop_first() else {
-            return Ok(order);
-        };
-        order.push(a)?;
-        release_all(&mut waits, web.aggregates, a, &mut released)?;
+/// Whether the parts of a thing stand in it by value.
+fn has_values(head: Head) -> bool
+    ensures { result ≡ has_values head }
+{
+    matches!(head, Head::Array(_) | Head::Tagged(..))
+}
+
+/// What a thing waits for.
+fn needs_of(
+    alloc: Global,
+    web: &Web,
+    standing: &[u32],
+    values: &[Option<u32>],
+    x: u32,
+) -> Result<Vec<u32>, Memory>
+    ensures { IfOk result (λ v. AreNeedsOf web.now.aggregates standing.now values.now (things_of web.now) x v.items) }
+{
+    let by_value = has_values(web.head(x)?);
+    let parts = web.parts(x)?;
+    let mut all = Vec::new(alloc);
+    for i in 0..parts.len() {
+        push_needs(
+            &mut all,
+            web.aggregates,
+            standing,
+            values,
+            by_value,
+            x,
+            parts[i].1,
+        )?;
     }
-    Err(impossible())
+    Ok(all)
+}
+
+/// What a thing waits for, if it is not settled.
+fn needs_unless(
+    alloc: Global,
+    web: &Web,
+    standing: &[u32],
+    values: &[Option<u32>],
+    settled: bool,
+    x: u32,
+) -> Result<Vec<u32>, Memory>
+    ensures { IfOk result (λ v. settled ≡ false → AreNeedsOf web.now.aggregates standing.now values.now (things_of web.now) x v.items) }
+{
+    if settled {
+        return Ok(Vec::new(alloc));
+    }
+    let needs = needs_of(alloc, web, standing, values, x)?;
+    Ok(needs)
+}
+
+/// What each thing waits for that is not settled.
+fn all_needs(
+    alloc: Global,
+    web: &Web,
+    standing: &[u32],
+    values: &[Option<u32>],
+    settled: &[bool],
+) -> Result<Vec<Vec<u32>>, Memory>
+    ensures { IfOk result (λ v. AreNeeds web.now.aggregates standing.now values.now (things_of web.now) settled.now (needed_of v.items) (length web.now.things.items)) }
+{
+    let mut all = Vec::new(alloc);
+    for x in 0..web.count()? {
+        let known = settled_at(settled, x)?;
+        let needs = needs_unless(alloc, web, standing, values, known, x)?;
+        all.push(needs)?;
+    }
+    Ok(all)
+}
+
+/// Whether an aggregate is an enum that stands for its class.
+fn is_own_enum(web: &Web, standing: &[u32], a: u32) -> Result<bool, Memory>
+    ensures { IfOk result (λ b. MatchBool b (IsOwnEnum (things_of web.now) standing.now a) (¬ (IsOwnEnum (things_of web.now) standing.now a))) }
+{
+    let own = at(standing, a)?;
+    if own != a {
+        return Ok(false);
+    }
+    Ok(web.head(a)?.is_enum())
+}
+
+/// Puts an enum that stands for its class behind an order.
+fn list_enum(order: &mut Vec<u32>, web: &Web, standing: &[u32], a: u32) -> Result<(), Memory>
+    ensures { OnOk result (ListsEnum (things_of web.now) standing.now a order.old.items order.new.items) }
+{
+    if !is_own_enum(web, standing, a)? {
+        return Ok(());
+    }
+    order.push(a)?;
+    Ok(())
+}
+
+/// The enums that stand for classes.
+fn enums(alloc: Global, web: &Web, standing: &[u32]) -> Result<Vec<u32>, Memory>
+    ensures { IfOk result (λ v. AreEnums (things_of web.now) web.now.aggregates standing.now v.items web.now.aggregates) }
+{
+    let mut order = Vec::new(alloc);
+    for a in 0..web.aggregates {
+        list_enum(&mut order, web, standing, a)?;
+    }
+    Ok(order)
+}
+
+/// Puts a thing behind an order if it is an aggregate.
+fn list(order: &mut Vec<u32>, aggregates: u32, x: u32) -> Result<(), Memory>
+    ensures { OnOk result (Lists aggregates x order.old.items order.new.items) }
+{
+    if x >= aggregates {
+        return Ok(());
+    }
+    order.push(x)?;
+    Ok(())
+}
+
+/// The aggregates among what comes, behind the enums.
+fn listed(come: &[u32], aggregates: u32, enums: Vec<u32>) -> Result<Vec<u32>, Memory>
+    ensures { (ts : List (Thing Head Label)) (st : List ℕ) (vs : List (Option ℕ)) (settled : List Bool) (needs : ℕ → List ℕ) → IsReckoned ts aggregates st vs settled needs → IsLeastFirst needs aggregates settled come.now → AreEnums ts aggregates st enums.items aggregates → IfOk result (λ v. IsOrder ts aggregates st v.items) }
+{
+    let mut order = enums;
+    for k in 0..come.len() {
+        list(&mut order, aggregates, come[k])?;
+    }
+    Ok(order)
+}
+
+/// The aggregates that stand for classes, in the order of their classes: the enums first, then again and again the least that may
+/// stand. One may where those that it has by value, and those that are elements of arrays anywhere in its members' types, stand before
+/// it.
+pub(crate) fn ordered(alloc: Global, web: &Web, standing: &[u32]) -> Result<Vec<u32>, Memory>
+    ensures { web.now.aggregates ≤ length web.now.things.items → AreIdempotent web.now.aggregates standing.now → IfOk result (λ v. IsOrder (things_of web.now) web.now.aggregates standing.now v.items) }
+{
+    let values = values(alloc, web)?;
+    let settled = all_settled(alloc, web, standing, &values)?;
+    let needs = all_needs(alloc, web, standing, &values, &settled)?;
+    let come = least_first(alloc, &needs, web.aggregates, settled)?;
+    listed(&come, web.aggregates, enums(alloc, web, standing)?)
 }

@@ -312,7 +312,7 @@ module _ (needs : ℕ → List ℕ) (listed : ℕ) where
         stay : (v y : ℕ) → IsChained old.all.items (get_or old.firsts.items v 0) y → IsChained new.all.items (get_or new.firsts.items v 0) y
         stay v y h = elim (same_or_not v w) [
           | inl q ↦ (let m = more (get_or old.firsts.items w 0) y (subst (λ u. IsChained old.all.items (get_or old.firsts.items u 0) y) q h) in
-            (suc m.0, (length old.all.items, last, ap (λ u. get_or new.firsts.items u 0) q ∙ at_w, there, inr m.1)))
+              (suc m.0, (length old.all.items, last, ap (λ u. get_or new.firsts.items u 0) q ∙ at_w, there, inr m.1)))
           | inr n ↦ subst (λ u. IsChained new.all.items u y) (sym (ap (λ l. get_or l v 0) f.firsts ∙ get_or-set_other old.firsts.items w v (suc (length old.all.items)) 0 n)) (more (get_or old.firsts.items v 0) y h)
         ]
 
@@ -335,7 +335,7 @@ module _ (needs : ℕ → List ℕ) (listed : ℕ) where
   pub released : (number i : ℕ) (v : Wait) (old new : Coming) → number ≡ suc i → slice_get old.all.items i ≡ Some v → Attempts (needs v.who) listed v.who old new
       → IsComing needs listed (IsChained old.all.items number) old → IsComing needs listed (IsChained new.all.items v.next) new
   released number i v old new e at a h = attempted (IsChained old.all.items number) (IsChained new.all.items v.next) v.who old new
-    (λ y c. elim (chained_next old.all.items number i y v e at c) [ inl q ↦ inl q | inr r ↦ inr (more_chained v.who old new a v.next y r) ]) h a
+      (λ y c. elim (chained_next old.all.items number i y v e at c) [ inl q ↦ inl q | inr r ↦ inr (more_chained v.who old new a v.next y r) ]) h a
 
   -- none is left of those that waited for what came
   pub all_released : (number : ℕ) (c : Coming) → number ≡ 0 → IsComing needs listed (IsChained c.all.items number) c → IsComing needs listed (λ y. ⊥) c

@@ -1,4 +1,4 @@
-use Rattle.std.proofs.Common.{[], map}
+use Rattle.std.proofs.Common.{map}
 use Rattle.type_links.specs.Links.{sides_in, links_of}
 use Rattle.type_things.specs.Webs.{things_of, first_pairs}
 use Rattle.type_joins.proofs.JoinedLaws.{none_of, some_of}
@@ -22,4 +22,4 @@ pub returns-in_ok-classed-in-None : goal.returns-in_ok-classed-in-None
 returns-in_ok-classed-in-None g c =
     let k = c.in_ok-classed-in-None.ensures (links_of (things_of c.in_ok-web.web) (map (sides_in (first_pairs c.in_ok-web.web)) c.args.groups.now))
     (none_of _ c.in_ok-join_groups.field-0 c.in-None.is (c.in_ok-join_groups.ensures.joins (woven_whole c.args.names.now (map g.G.HasGraph.graph_of c.args.units.now) c.in_ok-web.web c.in_ok-web.ensures) c.in_ok-joining.ensures.joining)) in
-    are_classes c.args.names.now (map g.G.HasGraph.graph_of c.args.units.now) c.args.groups.now c.in_ok-classed-in-None.field-0 c.in_ok-web.web k.1.0 c.in_ok-web.ensures k.0 k.1.1 k.1.2
+    are_classes c.args.names.now (map g.G.HasGraph.graph_of c.args.units.now) c.args.groups.now c.in_ok-classed-in-None.field-0 c.in_ok-web.web k.1.0 c.in_ok-web.ensures k.0 k.1.1 k.1.2 k.1.3

@@ -10,6 +10,7 @@ returns-in_default c = λ h.
 
 pub loop-step-preserved : goal.loop-step-preserved
 loop-step-preserved c = λ h.
-    let r = c.loop-step.invariant h in
-    (released (needed_of c.args.needs.now) c.args.listed c.loop-step.number c.in-Some.i c.in_ok-wait.wait c.loop-step.self c.attempt.new.self (omega (arith, c.in-Some.ensures)) (ap (λ l. slice_get l c.in-Some.i) (sym c.deref-in-loop-step.ensures.value) ∙ c.in_ok-wait.ensures) c.in_ok-attempt.ensures r.0,
-      c.in_ok-attempt.ensures.done ∙ r.1)
+    let r = c.loop-step.invariant h in (
+      released (needed_of c.args.needs.now) c.args.listed c.loop-step.number c.in-Some.i c.in_ok-wait.wait c.loop-step.self c.attempt.new.self (omega (arith, c.in-Some.ensures)) (ap (λ l. slice_get l c.in-Some.i) (sym c.deref-in-loop-step.ensures.value) ∙ c.in_ok-wait.ensures) c.in_ok-attempt.ensures r.0,
+      c.in_ok-attempt.ensures.done ∙ r.1,
+    )
