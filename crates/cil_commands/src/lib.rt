@@ -9,6 +9,7 @@ mod execute;
 mod file;
 mod lower;
 mod merge;
+mod placed;
 mod printer;
 mod reader;
 mod top;

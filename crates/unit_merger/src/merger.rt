@@ -170,7 +170,7 @@ fn merged(
     }
 }
 
-/// The program that one unit becomes, or its first fault.
+/// The program that one unit becomes, or its first fault. A unit alone has no links, so that merging refuses it for none.
 #[tactic(auto, using(crate::proofs::InOrder::of_check))]
 fn program_of_unit(
     alloc: Global,
@@ -189,7 +189,7 @@ fn program_of_unit(
     units.push(fronted)?;
     match merge(alloc, units, names, mode) {
         Ok(program) => Ok(program),
-        Err(_) => Err(impossible()),
+        Err(stop) => Err(stop),
     }
 }
 

@@ -1,0 +1,8 @@
+use Rattle.std.proofs.Common.{rules, ◌≡◌, ◌∷◌, []}
+use Rattle.unit_merger.proofs.OneUnit.{never_refused}
+use Rattle.unit_merger.proofs.merger.program_of_unit.Goals as goal
+
+pub returns-in-Err : goal.returns-in-Err
+returns-in-Err c =
+    let one : c.push.new.self.items ≡ c.in_ok-fronted.fronted ∷ [] = search rules in
+    record { cause = never_refused _ c.in-Err.stop c.args.tokens.now _ _ _ c.push.new.self.items c.in_ok-fronted.fronted one c.in_ok-fronted.ensures.externals c.in-Err.ensures.refused }
