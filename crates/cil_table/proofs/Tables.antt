@@ -1,5 +1,5 @@
 -- Device: a table of entries is what the linked programs mean.
-use Rattle.std.proofs.Common.{◌≡◌, ℕ, zero, suc, ◌<◌, ◌≤◌, List, [], ◌∷◌, ◌++◌, length, map, take, get_or, slice_get, Option, Some, None, Result, Ok, Err, IfOk, refl, sym, ap, subst, arith, append_assoc}
+use Rattle.std.proofs.Common.{false, ◌≡◌, ℕ, zero, suc, ◌<◌, ◌≤◌, List, [], ◌∷◌, ◌++◌, length, map, take, get_or, slice_get, Option, Some, None, Result, Ok, Err, IfOk, refl, sym, ap, subst, arith, append_assoc}
 use Rattle.cil_base.specs.declared.kinds.Abi.{Abi}
 use Rattle.cil_base.specs.declared.numbers.EntityId.{EntityId}
 use Rattle.cil_base.specs.declared.numbers.UnitNo.{UnitNo}
@@ -87,7 +87,7 @@ table_from abi programs before (d ∷ ds) (e ∷ es) model h = (
 -- the table of linked programs
 pub table_is : (programs : List Program) (definers : List Definer) (table : List (Option Entity)) → linking.IsTable programs definers → AreEntries programs definers table → IsLoadedTable programs definers table
 table_is programs definers table is all = λ abi model. record {
-  step = λ c s. calls_are (linked_in programs) (linked_tame (map linkables programs) (programs_tame programs)) c s;
+  step = λ c s. calls_are (linked_in programs) (linked_tame false (map linkables programs) (programs_tame programs)) c s;
   entries = subst (λ (link : Linked). IsTable abi (calls_in programs) (courses_in programs definers) 0 link table) (sym is.means) (table_from abi programs [] definers table model all);
 }
 
