@@ -1,7 +1,8 @@
 -- Device: a program of the form runs as the program of the whole language that it is.
-use Rattle.std.proofs.Common.{◌≡◌, ℕ, zero, suc, List, [], ◌∷◌, Option, Some, None, option_map, refl}
+use Rattle.std.proofs.Common.{◌≡◌, ℕ, zero, suc, Bool, true, false, List, [], ◌∷◌, Option, Some, None, option_map, refl}
 use Rattle.std.specs.Prelude.{ℤ}
 use Rattle.std.specs.Option.{option_and_then}
+use Rattle.cil_base.specs.declared.kinds.Abi.{Abi}
 use Rattle.cil_base.specs.declared.kinds.Mode.{Mode}
 use Rattle.cil_base.specs.declared.kinds.IntKind.TheVariants.{Int as int}
 use Rattle.cil_base.specs.declared.operators.BinOp.{BinOp}
@@ -42,10 +43,20 @@ valued p entities act m (Bin op left right) is =
     rw (typed p left is.1.0, typed p right is.1.1, valued p entities act m left is.1.0, valued p entities act m right is.1.1)
     (operated p m op (value_of left) (value_of right))
 
-pub runs_alike : (p : Exp) → IsExp p → (mode : Mode) (words : List (List ℕ)) (input : List ℕ) (env : Env) (n : ℕ) → WholeRun (whole_program p ∷ []) mode words input n ≡ RunCil p env n
-runs_alike p is mode words input env zero = refl
-runs_alike p is mode words input env (suc n) = by (value_of p) refl
+-- a program alone runs so, whether tentative definitions are common or not
+runs_in : (p : Exp) → IsExp p → (common : Bool) (abi : Abi) (words : List (List ℕ)) (input : List ℕ) (env : Env) (n : ℕ) → WholeRun (whole_program p ∷ []) (record { common = common; abi = abi }) words input n ≡ RunCil p env n
+runs_in p is true abi words input env zero = refl
+runs_in p is false abi words input env zero = refl
+runs_in p is true abi words input env (suc n) = by (value_of p) refl
   where
-    by : (o : Option ℤ) → value_of p ≡ o → WholeRun (whole_program p ∷ []) mode words input (suc n) ≡ RunCil p env (suc n)
+    by : (o : Option ℤ) → value_of p ≡ o → WholeRun (whole_program p ∷ []) (record { common = true; abi = abi }) words input (suc n) ≡ RunCil p env (suc n)
     by None e = rw (valued p (1 ∷ []) 0 _ p is, e) refl
     by (Some v) e = rw (valued p (1 ∷ []) 0 _ p is, e) refl
+runs_in p is false abi words input env (suc n) = by (value_of p) refl
+  where
+    by : (o : Option ℤ) → value_of p ≡ o → WholeRun (whole_program p ∷ []) (record { common = false; abi = abi }) words input (suc n) ≡ RunCil p env (suc n)
+    by None e = rw (valued p (1 ∷ []) 0 _ p is, e) refl
+    by (Some v) e = rw (valued p (1 ∷ []) 0 _ p is, e) refl
+
+pub runs_alike : (p : Exp) → IsExp p → (mode : Mode) (words : List (List ℕ)) (input : List ℕ) (env : Env) (n : ℕ) → WholeRun (whole_program p ∷ []) mode words input n ≡ RunCil p env n
+runs_alike p is mode words input env n = runs_in p is mode.common mode.abi words input env n
