@@ -90,7 +90,7 @@ no_refusal (Some unit) names = tt
 
 -- want of memory has no names
 memory_names : (told : Option Told) (words : List (List ℕ)) → AreNames told words Memory (names_asked words)
-memory_names told words = record { begin = record { more = []; is = sym (append-nil _) }; files = tt; refused = no_refusal (unit_asked told words) (names_asked words); placed = tt }
+memory_names told words = record { begin = record { more = []; is = sym (append-nil _) }; files = tt; refused = no_refusal (unit_asked told words) (names_asked words) }
 
 pub line_by : (told : Option Told) (words names : List (List ℕ)) (given : ℕ) (status : Status) → (status ≢ Memory → AreNames told words status names) → given ≡ steps_asked words → IsLine told words names given status
 line_by told words names given Memory are equal = record { known = names_asked words; are = memory_names told words; line = refl }

@@ -3,7 +3,6 @@ pub mod Lengths
 pub mod LongTexts
 pub mod Merging
 pub mod Numbers
-pub mod Placing
 pub mod Printing
 pub mod Ran
 pub mod Runs

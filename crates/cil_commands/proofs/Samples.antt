@@ -9,8 +9,7 @@ use Rattle.cil_commands.specs.Answers.{IsAnswerBy, IsAnswerTo}
 use Rattle.cil_commands.specs.Execute.{text_asked}
 use Rattle.cil_commands.specs.Merge.{unit_asked, file_under, IsRefused, IfRefused}
 use Rattle.cil_commands.specs.Messages.{names_asked, Begins, AreNames}
-use Rattle.cil_commands.proofs.Placing.{none_merged}
-use Rattle.cil_commands.proofs.Words.{if_some_by, merged_by_sample}
+use Rattle.cil_commands.proofs.Words.{if_some_by}
 use Rattle.cil_lines.specs.Messages.{HasFiles}
 use Rattle.cil_words.specs.declared.command.Command.TheVariants.{Sample}
 use Rattle.cil_lines.specs.declared.status.Status.{Status}
@@ -70,7 +69,6 @@ module _ (words : List (List ℕ)) (seed units : ℕ) (is : command_of words ≡
     begin = subst (λ first. Begins first names) (sym first_names) (record { more = names; is = refl });
     files = files;
     refused = if_some_by (unit_asked told words) None (λ unit. IfRefused status (λ refusal. IsRefused unit refusal names)) (no_unit told) tt;
-    placed = none_merged told words names status (merged_by_sample words seed units is);
   }
 
 -- it reads nothing

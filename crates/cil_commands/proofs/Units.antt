@@ -41,7 +41,7 @@ use Rattle.cil_lines.specs.declared.status.Status.{Status}
 use Rattle.cil_lines.specs.declared.status.Status.TheVariants.{Done, Exited, StillRunning, WentUndefined, Usage, Refused as IsRefusal, NotCil, ReadFault, WriteFault, Memory}
 
 -- below the limit the whole file was read
-pub whole : (limit : ℕ) (bytes file : List ℕ) → IsFrontOf limit bytes file → length bytes < limit → file ≡ bytes
+whole : (limit : ℕ) (bytes file : List ℕ) → IsFrontOf limit bytes file → length bytes < limit → file ≡ bytes
 whole limit bytes file front below = front.parts ∙ (ap (λ rest. bytes ++ rest) (front.end below) ∙ append-nil bytes)
 
 at_least : (limit : ℕ) (bytes file : List ℕ) → IsFrontOf limit bytes file → length bytes ≤ length file
@@ -331,7 +331,7 @@ first_grown r (first ∷ []) middle new alone grows keeps = λ known name more i
 first_grown r (first ∷ other ∷ more) middle new alone grows keeps = absurd alone
 
 -- the pool of a file's name alone
-pub interned_first : (old middle : List (List ℕ)) (name text : List ℕ) (n : ℕ) → old ≡ [] → text ≡ name → Interns old middle text n → middle ≡ name ∷ []
+interned_first : (old middle : List (List ℕ)) (name text : List ℕ) (n : ℕ) → old ≡ [] → text ≡ name → Interns old middle text n → middle ≡ name ∷ []
 interned_first old middle name text n none same interns = interns.after ∙ (ap (λ ns. interned ns text) none ∙ ap (λ t. t ∷ []) same)
 
 pub begun_names : (old middle new : List (List ℕ)) (name text : List ℕ) (n : ℕ) → old ≡ [] → text ≡ name → Interns old middle text n → ((first : List ℕ) (more : List (List ℕ)) → middle ≡ first ∷ more → (rest : List (List ℕ)) × (new ≡ first ∷ rest)) → Begins (name ∷ []) new

@@ -15,7 +15,6 @@ use Rattle.outside.specs.Named.{find_file}
 use Rattle.cil_commands.specs.Merge.{unit_asked, file_under, IsRefused, IfRefused}
 use Rattle.cil_lines.specs.Messages.{HasFiles}
 use Rattle.cil_commands.specs.Messages.{names_asked, Begins, AreNames}
-use Rattle.cil_commands.proofs.Placing.{none_merged}
 use Rattle.cil_commands.specs.Several.{common_asked}
 use Rattle.cil_words.specs.declared.command.Command.{Command}
 use Rattle.cil_words.specs.declared.command.Command.TheVariants.{Merge, Run, Sample}
@@ -242,7 +241,6 @@ run_names told words names status steps at name word command is file same files 
   files = files;
   begin = record { more = []; is = is ∙ (ap (λ t. t ∷ []) same ∙ (sym (ap option_to_list file) ∙ sym (append-nil _))) };
   refused = if_some_by (unit_asked told words) None (λ unit. IfRefused status (λ refusal. IsRefused unit refusal names)) (no_unit_asked told words steps at command) tt;
-  placed = none_merged told words names status (merged_by_run words steps at command);
 }
 
 -- the first of several files names the pool's first name

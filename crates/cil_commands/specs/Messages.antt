@@ -1,10 +1,8 @@
 -- Definition: the names whose numbers stand in an answer (own).
-use Rattle.std.specs.Prelude.{◌≡◌, ℕ, ◌<◌, List, ◌++◌, length, Option, IfSome}
+use Rattle.std.specs.Prelude.{◌≡◌, ℕ, List, ◌++◌, length, Option, IfSome}
 use Rattle.std.specs.Option.{option_to_list}
 use Rattle.outside.specs.Named.{Told}
-use Rattle.cil_words.specs.Command.{file_of, merged_files}
-use Rattle.cil_sources.specs.Files.{all_under}
-use Rattle.refusal_places.specs.Places.{ArePlaced}
+use Rattle.cil_words.specs.Command.{file_of}
 use Rattle.cil_lines.specs.declared.status.Status.{Status}
 use Rattle.cil_lines.specs.Messages.{HasFiles}
 use Rattle.cil_commands.specs.Merge.{unit_asked, IsRefused, IfRefused}
@@ -18,13 +16,8 @@ pub record Begins (first names : List (List ℕ)) : Type 0 where
   pub more : List (List ℕ)
   pub is : names ≡ first ++ more
 
--- the places of a refusal of the files that are to be merged are where they are presumed to be
-abbrev pub PlacesSay : Option Told → List (List ℕ) → List (List ℕ) → Status → Type 0
-PlacesSay told words names status = IfRefused status (λ refusal. 0 < length (merged_files words) → IfSome (all_under told (merged_files words)) (λ units. ArePlaced units (merged_files words) names refusal))
-
--- the names whose numbers stand in a status: that of the file, those that were asked for until a token was refused, and those of presumed files
+-- the names whose numbers stand in a status: that of the file, and those that were asked for until a token was refused
 pub record AreNames (told : Option Told) (words : List (List ℕ)) (status : Status) (names : List (List ℕ)) : Type 0 where
   pub begin : Begins (names_asked words) names
   pub files : HasFiles (length names) status
   pub refused : IfSome (unit_asked told words) (λ unit. IfRefused status (λ refusal. IsRefused unit refusal names))
-  pub placed : PlacesSay told words names status

@@ -9,7 +9,6 @@ mod execute;
 mod file;
 mod lower;
 mod merge;
-mod placed;
 mod printer;
 mod reader;
 mod top;

@@ -11,7 +11,6 @@ ghost use Rattle.outside.specs.Counts.{Rose};
 ghost use Rattle.outside.specs.Moves.{Began, Wrote};
 ghost use Rattle.outside.specs.Named.{find_file, names_of};
 ghost use Rattle.unit_merger.specs.Refusals.{IsMergeRefusal, KeepsFirst};
-ghost use Rattle.refusal_places.specs.Places.{ArePlaced};
 ghost use Rattle.cil_sources.specs.Files.{bytes_under, all_under, found_all};
 ghost use Rattle.cil_sources.specs.Units.{kept};
 ghost use Rattle.cil_commands.specs.Grammatical.{AreTokens};
@@ -24,7 +23,6 @@ ghost use Rattle.cil_commands.specs.Messages.{Begins};
 
 use crate::file::refused_first;
 use crate::lower::lower;
-use crate::placed::{is_placed, is_placed_alone};
 use crate::printer::print;
 use crate::reader::unit_of;
 use c_lexer::{Tokens, lex};
@@ -124,7 +122,6 @@ fn merge_unit<O: Sink>(
     ensures part { result ≡ Status.WriteFault → (p : Program) × IsMergedTo (file_in names.old unit.now) p × Began (O.taken out.old) (O.taken out.new) (Text p) }
     ensures idle { result ≢ Status.Done → result ≢ Status.WriteFault → out.new ≡ out.old }
     ensures refused { IfRefused result (λ refusal. IsRefused (file_in names.old unit.now) refusal names.new) }
-    ensures placed { IfRefused result (λ refusal. (first : List ℕ) (more : List (List ℕ)) → names.old ≡ first ∷ more → ArePlaced (unit.now ∷ []) (first ∷ []) names.new refusal) }
     ensures no_read { result ≢ Status.ReadFault }
     ensures write { result ≡ Status.WriteFault → Rose (O.faults out.old) (O.faults out.new) }
     ensures calm_out { result ≢ Status.WriteFault → O.faults out.new ≡ O.faults out.old }
@@ -132,12 +129,7 @@ fn merge_unit<O: Sink>(
 {
     match merged_text(alloc, unit, file, names) {
         Ok(text) => send(out, &text),
-        Err(Stop::Refused(refusal)) => {
-            if !is_placed_alone(alloc, unit, file, names, &refusal) {
-                return Status::Memory;
-            }
-            Status::Refused(refusal)
-        }
+        Err(Stop::Refused(refusal)) => Status::Refused(refusal),
         Err(Stop::Memory) => Status::Memory,
     }
 }
@@ -158,7 +150,6 @@ pub fn merge<F: Files, O: Sink>(
     ensures part { result ≡ Status.WriteFault → (p : Program) × IsTextOf (Text p) p × Began (O.taken out.old) (O.taken out.new) (Text p) × IfSome (file_under (F.told files.old) name.now) (λ unit. IsMergedTo unit p) }
     ensures idle { result ≢ Status.Done → result ≢ Status.WriteFault → out.new ≡ out.old }
     ensures refused { IfSome (file_under (F.told files.old) name.now) (λ unit. IfRefused result (λ refusal. IsRefused unit refusal names.new)) }
-    ensures placed { IfRefused result (λ refusal. IfSome (file_under (F.told files.old) name.now) (λ unit. ArePlaced (unit.bytes ∷ []) (name.now ∷ []) names.new refusal)) }
     ensures read { result ≡ Status.ReadFault → Rose (F.faults files.old) (F.faults files.new) }
     ensures calm { result ≢ Status.ReadFault → F.faults files.new ≡ F.faults files.old }
     ensures write { result ≡ Status.WriteFault → Rose (O.faults out.old) (O.faults out.new) }
@@ -192,7 +183,6 @@ fn merge_sources<O: Sink>(
     ensures files { HasFiles (length names.new) result }
     ensures units { SaysOfKept sources.now.units.items sources.now.over (map string_bytes asked.now) result }
     ensures links { SaysOfLinks common sources.now.units.items result }
-    ensures placed { IfRefused result (ArePlaced sources.now.units.items (map string_bytes asked.now) names.new) }
     ensures pool { result ≢ Status.Memory → (first : List ℕ) (more : List (List ℕ)) → names.old ≡ first ∷ more → (rest : List (List ℕ)) × (names.new ≡ first ∷ rest) }
     ensures done { result ≡ Status.Done → (p : Program) × IsTextOf (Text p) p × Wrote (O.taken out.old) (O.taken out.new) (Text p) }
     ensures part { result ≡ Status.WriteFault → (p : Program) × IsTextOf (Text p) p × Began (O.taken out.old) (O.taken out.new) (Text p) }
@@ -204,12 +194,7 @@ fn merge_sources<O: Sink>(
 {
     match units_text(alloc, sources, asked, common, names) {
         Ok(text) => send(out, text.as_slice()),
-        Err(Stop::Refused(refusal)) => {
-            if !is_placed(alloc, &sources.units, asked, names, &refusal) {
-                return Status::Memory;
-            }
-            Status::Refused(refusal)
-        }
+        Err(Stop::Refused(refusal)) => Status::Refused(refusal),
         Err(Stop::Memory) => Status::Memory,
     }
 }
@@ -231,7 +216,6 @@ pub fn merge_all<F: Files, O: Sink>(
     ensures files { HasFiles (length names.new) result }
     ensures units { IfSome (all_under (F.told files.old) (map string_bytes asked.now)) (λ units. SaysOfUnits units (map string_bytes asked.now) result) }
     ensures links { IfSome (all_under (F.told files.old) (map string_bytes asked.now)) (λ units. SaysOfLinks common (kept 0 units).units result) }
-    ensures placed { IfRefused result (λ refusal. IfSome (all_under (F.told files.old) (map string_bytes asked.now)) (λ units. ArePlaced units (map string_bytes asked.now) names.new refusal)) }
     ensures done { result ≡ Status.Done → (p : Program) × IsTextOf (Text p) p × Wrote (O.taken out.old) (O.taken out.new) (Text p) }
     ensures part { result ≡ Status.WriteFault → (p : Program) × IsTextOf (Text p) p × Began (O.taken out.old) (O.taken out.new) (Text p) }
     ensures idle { result ≢ Status.Done → result ≢ Status.WriteFault → out.new ≡ out.old }

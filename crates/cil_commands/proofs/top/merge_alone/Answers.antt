@@ -5,7 +5,6 @@ use Rattle.cil_lines.specs.declared.status.Status.TheVariants.{ReadFault, Memory
 use Rattle.cil_commands.specs.Merge.{unit_asked, file_under, IsMergeAnswer}
 use Rattle.cil_commands.proofs.Answered.{accepted_by, refuses_by, refused_by, unit_of_merged}
 use Rattle.cil_commands.proofs.Several.{says_alone, few_links}
-use Rattle.cil_commands.proofs.Placing.{placed_alone}
 use Rattle.cil_commands.proofs.Words.{unit_asked_is, merge_file_is, merge_file_alone, merged_alone, one_missing, one_stray, if_some_by, names_begin}
 use Rattle.cil_commands.proofs.top.merge_alone.Goals as goal
 
@@ -42,9 +41,6 @@ returns-clause-names g c = λ known. record {
       (unit_asked_is (g.F.Files.told c.args.files.now) c.args.words.now c.args._common c.args.first c.index-words-first.result c.requires.command c.requires.last
       ∙ ap (λ name. file_under (g.F.Files.told c.args.files.now) name) (sym (c.as_str.ensures.value ∙ ap string_bytes c.index-words-first.is)))
       c.merge.ensures.refused;
-  placed = placed_alone (g.F.Files.told c.args.files.now) (map string_bytes c.args.words.now) c.merge.new.names c.as_str.result.now c.merge.result
-      (merged_alone c.args.words.now c.args._common c.args.first c.index-words-first.result c.requires.command c.requires.last ∙ ap (λ name. name ∷ []) (sym (c.as_str.ensures.value ∙ ap string_bytes c.index-words-first.is)))
-      c.merge.ensures.placed;
 }
 
 pub returns-clause-kind : goal.returns-clause-kind

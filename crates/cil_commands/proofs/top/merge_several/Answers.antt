@@ -7,7 +7,6 @@ use Rattle.cil_sources.specs.Units.{kept}
 use Rattle.cil_lines.specs.declared.status.Status.TheVariants.{ReadFault, Memory}
 use Rattle.cil_commands.specs.Merge.{unit_asked}
 use Rattle.cil_commands.specs.Several.{SaysOfUnits, SaysOfLinks}
-use Rattle.cil_commands.proofs.Placing.{placed_several}
 use Rattle.cil_commands.proofs.Words.{merge_within, merge_files_are, merged_several, common_is, several_asked, several_begin, if_some_by}
 use Rattle.cil_commands.proofs.top.merge_several.Goals as goal
 
@@ -28,8 +27,6 @@ returns-clause-names g c = λ known. record {
   files = c.merge_all.ensures.files;
   begin = several_begin c.args.words.now c.args.common c.args.first c.merge_all.new.names c.requires.command (λ file more is. c.merge_all.ensures.names known file more (ap (map string_bytes) (take_rest c.args.words.now c.args.first) ∙ is));
   refused = if_some_by (unit_asked (g.F.Files.told c.args.files.now) (map string_bytes c.args.words.now)) None _ (several_asked (g.F.Files.told c.args.files.now) c.args.words.now c.args.common c.args.first c.requires.command c.requires.several) tt;
-  placed = placed_several (g.F.Files.told c.args.files.now) (map string_bytes c.args.words.now) _ c.merge_all.new.names c.merge_all.result
-      (ap (map string_bytes) (take_rest c.args.words.now c.args.first) ∙ sym (merged_several c.args.words.now c.args.common c.args.first c.requires.command)) c.merge_all.ensures.placed;
 }
 
 pub returns-clause-done : goal.returns-clause-done
