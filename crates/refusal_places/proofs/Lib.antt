@@ -1,2 +1,0 @@
-pub mod ReadAlone
-pub mod MoreUnits
