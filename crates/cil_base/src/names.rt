@@ -85,7 +85,7 @@ impl NamePool {
     }
 
     /// The number of a text, if the pool has it.
-    fn find(&self, text: &[u8]) -> Option<NameId>
+    pub fn find(&self, text: &[u8]) -> Option<NameId>
         ensures found { MatchOption result (list_any (bytes_eq text.now) self.now ≡ false) (λ n. slice_get self.now n.0 ≡ Some text.now) }
         ensures once { IsOnceEach self.now }
     {

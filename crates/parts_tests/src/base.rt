@@ -102,6 +102,8 @@ fn numbers_texts_in_first_seen_order(rt: HostRuntime) -> Result<(), Fail> {
     for (text, number) in [(b"main", 0), (b"argc", 1), (b"main", 0)] {
         assert_eq!(rt; pool.intern(text)?, NameId(number));
     }
+    assert_eq!(rt; pool.find(b"argc"), Some(NameId(1)));
+    assert_eq!(rt; pool.find(b"arg"), None);
     let bases = pool.bases()?;
     assert_eq!(rt; bases.literal, NameId(2));
     assert_eq!(rt; bases.tagless, NameId(3));
