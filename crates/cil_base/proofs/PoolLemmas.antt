@@ -10,7 +10,7 @@ use Rattle.std.proofs.lemmas.Map.Keys.{any_passes_from_place}
 use Rattle.std.proofs.lemmas.Option.{slice_get-map, get_or_from_slice_get}
 use Rattle.std.proofs.lemmas.Slice.Eq.{bytes_eq-Decides}
 use Rattle.cil_base.specs.declared.numbers.NameId.{NameId}
-use Rattle.cil_base.specs.NamePool.{IsOnceEach, interned, interned_all, Interns}
+use Rattle.cil_base.specs.NamePool.{IsOnceEach, interned, interned_all, Interns, Stays}
 
 -- what `find` finds passes the test
 find_passes : {K : Type 0} (test : K → Bool) (ks : List K) (k : K) → find test ks ≡ Some k → test k ≡ true
@@ -136,3 +136,14 @@ interns_new old new text (Err e) absent h = h
 pub on_err : {T E P : Type 0} (r : Result T E) → P → OnErr r P
 on_err (Ok x) p = tt
 on_err (Err e) p = p
+
+pub stays_same : (old new : List (List ℕ)) → new ≡ old → Stays old new
+stays_same old new is = subst (Stays old) (sym is) (λ i text e. e)
+
+pub stays_then : (old middle new : List (List ℕ)) → Stays old middle → Stays middle new → Stays old new
+stays_then old middle new x y = λ i text e. y i text (x i text e)
+
+-- what asking for a text leaves
+pub asked_stays : {E : Type 0} (old new : List (List ℕ)) (text : List ℕ) (r : Result NameId E) → IfOk r (λ n. Interns old new text n.0) → OnErr r (new ≡ old) → Stays old new
+asked_stays old new text (Ok n) interns same = λ i u e. Interns-stays old new text n.0 i u interns e
+asked_stays old new text (Err e) interns same = stays_same old new same

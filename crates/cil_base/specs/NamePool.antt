@@ -32,3 +32,7 @@ pub record NumbersBases (texts : List (List ℕ)) (bases : Bases) : Type 0 where
   pub tagless : slice_get texts bases.tagless.0 ≡ Some (codes "__anon")
   pub temporary : slice_get texts bases.temporary.0 ≡ Some (codes "__t")
   pub label : slice_get texts bases.label.0 ≡ Some (codes "__l")
+
+-- each name keeps its text
+abbrev pub Stays : List (List ℕ) → List (List ℕ) → Type 0
+Stays old new = (i : ℕ) (text : List ℕ) → slice_get old i ≡ Some text → slice_get new i ≡ Some text

@@ -1,7 +1,7 @@
 ghost use Rattle.std.specs.Prelude.{◌≡◌, ℕ, ◌<◌, false, [], ◌∷◌, ◌++◌, length, take, Some, Contains, MatchOption, IsOk, IfOk, OnOk, OnErr, slice_get};
 ghost use Rattle.std.specs.List.{list_any};
 ghost use Rattle.std.specs.Str.{bytes_eq};
-ghost use Rattle.cil_base.specs.NamePool.{IsOnceEach, Interns, NumbersBases, interned_all, base_texts};
+ghost use Rattle.cil_base.specs.NamePool.{IsOnceEach, Interns, NumbersBases, Stays, interned_all, base_texts};
 
 use crate::memory::Memory;
 use crate::numbers::NameId;
@@ -76,6 +76,7 @@ impl NamePool {
         ensures ok { IfOk result (λ n. Interns self.old self.new text.now n.0) }
         ensures known { Contains self.old text.now → IsOk result }
         ensures err { OnErr result (self.new ≡ self.old) }
+        ensures stays { Stays self.old self.new }
         ensures once { IsOnceEach self.new }
     {
         match self.find(text) {
@@ -116,6 +117,7 @@ impl NamePool {
         ensures after { OnOk result (self.new ≡ interned_all self.old base_texts) }
         ensures numbers { IfOk result (λ bases. NumbersBases self.new bases) }
         ensures err { OnErr result ((k : ℕ) × (self.new ≡ interned_all self.old (take k base_texts))) }
+        ensures stays { Stays self.old self.new }
         ensures once { IsOnceEach self.new }
     {
         let literal = self.intern(b"__str")?;

@@ -9,7 +9,8 @@ use Rattle.indexmap.specs.IndexMap.{insert_entry}
 use Rattle.cil_base.specs.declared.numbers.NameId.{NameId}
 use Rattle.fresh_names.specs.declared.fresh.Wish.{Wish}
 use Rattle.fresh_names.specs.declared.fresh.Wish.TheVariants.{Asked, Made}
-use Rattle.fresh_names.specs.Naming.{same_name, is_taken, with_name, suffixed_text, Stays, IsSuffixed, IsSuffixTaken, IsLeast, IsAnswer, IsNamed, AreNamed, AreNew}
+use Rattle.cil_base.specs.NamePool.{Stays}
+use Rattle.fresh_names.specs.Naming.{same_name, is_taken, with_name, suffixed_text, IsSuffixed, IsSuffixTaken, IsLeast, IsAnswer, IsNamed, AreNamed, AreNew}
 use Rattle.fresh_names.specs.Giving.{start_of, IsLeastFrom, AreTakenBelow, Gives, GivesAll}
 
 name_is : (a b : NameId) → same_name a b ≡ true → a ≡ b

@@ -4,7 +4,8 @@ use Rattle.std.specs.Map.{lookup}
 use Rattle.cil_base.specs.declared.numbers.NameId.{NameId}
 use Rattle.fresh_names.specs.declared.fresh.Wish.{Wish}
 use Rattle.fresh_names.specs.declared.fresh.Fresh.{Fresh}
-use Rattle.fresh_names.specs.Naming.{same_name, is_taken, Stays, IsSuffixed, IsSuffixTaken, IsNamed, AreNamed}
+use Rattle.cil_base.specs.NamePool.{Stays}
+use Rattle.fresh_names.specs.Naming.{same_name, is_taken, IsSuffixed, IsSuffixTaken, IsNamed, AreNamed}
 
 -- the number from which suffixed names of a base may be new, as it is remembered
 abbrev pub start_of : List (NameId × ℕ) → NameId → ℕ

@@ -25,10 +25,6 @@ with_names taken (n ∷ ns) = with_names (with_name taken n) ns
 abbrev pub wish_of : NameId → NameId → Wish
 wish_of base name = if same_name name base then Made base else Asked name
 
--- the names of a pool keep their texts
-abbrev pub Stays : List (List ℕ) → List (List ℕ) → Type 0
-Stays old new = (i : ℕ) (text : List ℕ) → slice_get old i ≡ Some text → slice_get new i ≡ Some text
-
 -- a text with the suffix `___` and a number
 abbrev pub suffixed_text : List ℕ → ℕ → List ℕ
 suffixed_text stem k = (stem ++ codes "___") ++ decimal k

@@ -1,7 +1,8 @@
 ghost use Rattle.std.specs.Prelude.{◌≡◌, ◌+◌, [], OnOk, IfOk};
 ghost use Rattle.indexmap.specs.IndexMap.{insert_entry};
 ghost use Rattle.fresh_names.specs.declared.fresh.Wish.TheVariants.{Made};
-ghost use Rattle.fresh_names.specs.Naming.{same_name, is_taken, with_name, with_names, wish_of, Stays, IsSuffixed};
+ghost use Rattle.cil_base.specs.NamePool.{Stays};
+ghost use Rattle.fresh_names.specs.Naming.{same_name, is_taken, with_name, with_names, wish_of, IsSuffixed};
 ghost use Rattle.fresh_names.specs.Giving.{start_of, IsLeastFrom, IsReady, Gives, GivesAll};
 
 use cil_base::{Memory, NameId, NamePool};

@@ -9,7 +9,7 @@ use Rattle.cil_tree.specs.declared.globals.Local.{Local}
 use Rattle.cil_tree.specs.declared.globals.GlobalDecl.{GlobalDecl}
 use Rattle.cil_tree.specs.declared.globals.GlobalDef.{GlobalDef}
 use Rattle.cil_tree.specs.declared.globals.GlobalDef.TheVariants.{Declared, Zero, Image, Body}
-use Rattle.fresh_names.specs.Naming.{Stays}
+use Rattle.cil_base.specs.NamePool.{Stays}
 use Rattle.static_rename.specs.Within.{is_sought, labels_from, with_labels, AreNamedLabels, IsNamedBody, IsNamedDefinition, IsNamedWithin}
 use Rattle.static_rename.specs.Local.{AreNamedLocals}
 use Rattle.fresh_names.proofs.NamingLaws.{are_named_stay}

@@ -4,9 +4,9 @@ use Rattle.cil_base.specs.declared.numbers.NameId.{NameId}
 use Rattle.std.specs.List.{list_any}
 use Rattle.std.proofs.lemmas.List.{map-append}
 use Rattle.std.specs.Str.{bytes_eq}
-use Rattle.cil_base.specs.NamePool.{Interns}
+use Rattle.cil_base.specs.NamePool.{Interns, Stays}
 use Rattle.cil_base.specs.HostNames.{host_names}
-use Rattle.fresh_names.specs.Naming.{with_names, Stays}
+use Rattle.fresh_names.specs.Naming.{with_names}
 use Rattle.fresh_names.specs.Giving.{start_of, AreTakenBelow}
 use Rattle.static_rename.specs.Files.{HaveTexts, AreKept}
 use Rattle.static_rename.proofs.FilingLaws.{take_at}

@@ -9,7 +9,8 @@ use Rattle.cil_base.specs.declared.numbers.NameId.{NameId}
 use Rattle.fresh_names.specs.declared.fresh.Wish.{Wish}
 use Rattle.fresh_names.specs.declared.fresh.Wish.TheVariants.{Asked, Made}
 use Rattle.static_rename.specs.declared.locals.Start.{Start}
-use Rattle.fresh_names.specs.Naming.{same_name, is_taken, with_name, Stays, IsSuffixTaken, IsLeast, IsAnswer, AreNamed}
+use Rattle.cil_base.specs.NamePool.{Stays}
+use Rattle.fresh_names.specs.Naming.{same_name, is_taken, with_name, IsSuffixTaken, IsLeast, IsAnswer, AreNamed}
 use Rattle.fresh_names.specs.Giving.{start_of, IsLeastFrom, AreTakenBelow, Gives, GivesAll}
 use Rattle.static_rename.specs.Local.{AreFree}
 use Rattle.fresh_names.proofs.NamingLaws.{suffixed_stays, stays_taken, suffix_kept, least_given, all_next}

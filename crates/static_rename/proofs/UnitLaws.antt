@@ -5,14 +5,14 @@ use Rattle.cil_base.specs.declared.names.Bases.{Bases}
 use Rattle.cil_base.specs.declared.numbers.AggId.{AggId}
 use Rattle.cil_base.specs.declared.numbers.NameId.{NameId}
 use Rattle.cil_base.specs.declared.numbers.UnitNo.{UnitNo}
-use Rattle.cil_base.specs.NamePool.{NumbersBases}
+use Rattle.cil_base.specs.NamePool.{NumbersBases, Stays}
 use Rattle.cil_base.specs.HostNames.{host_names}
 use Rattle.cil_tree.specs.declared.globals.GlobalDecl.{GlobalDecl}
 use Rattle.typed_tree.specs.declared.units.Ordinary.{Ordinary}
 use Rattle.type_iso.specs.declared.class_table.Classes.{Classes}
 use Rattle.link_names.specs.declared.units.Fronted.{Fronted}
 use Rattle.static_rename.specs.declared.files.Filed.{Filed}
-use Rattle.fresh_names.specs.Naming.{Stays, AreNamed}
+use Rattle.fresh_names.specs.Naming.{AreNamed}
 use Rattle.static_rename.specs.Files.{AreKept, named_in, things_in, wishes_of, with_given}
 use Rattle.static_rename.specs.Filing.{things_of, names_of, FilesAll}
 use Rattle.static_rename.specs.Within.{Each, IsNamedWithin}

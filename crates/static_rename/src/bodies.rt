@@ -1,5 +1,5 @@
 ghost use Rattle.std.specs.Prelude.{◌≡◌, ◌++◌, map, slice_set, OnOk, IfOk};
-ghost use Rattle.fresh_names.specs.Naming.{Stays};
+ghost use Rattle.cil_base.specs.NamePool.{Stays};
 ghost use Rattle.static_rename.specs.Local.{IsTable, AreNamedLocals};
 ghost use Rattle.static_rename.specs.Within.{is_sought, labels_from, label_order, label_wish, with_labels, named_locals, named_params, local_wishes, AreNamedLabels, IsNamedBody, IsNamedWithin, Each};
 

@@ -1,5 +1,5 @@
 ghost use Rattle.std.specs.Prelude.{◌≡◌, map, OnOk, IfOk};
-ghost use Rattle.fresh_names.specs.Naming.{Stays};
+ghost use Rattle.cil_base.specs.NamePool.{Stays};
 ghost use Rattle.fresh_names.specs.Giving.{IsReady};
 ghost use Rattle.static_rename.specs.Files.{HaveTexts, AreKept};
 

@@ -1,6 +1,7 @@
 ghost use Rattle.std.specs.Prelude.{◌≡◌, ◌++◌, [], OnOk, IfOk};
 ghost use Rattle.fresh_names.specs.declared.fresh.Wish.TheVariants.{Made};
-ghost use Rattle.fresh_names.specs.Naming.{is_taken, Stays, IsLeast, AreNamed};
+ghost use Rattle.cil_base.specs.NamePool.{Stays};
+ghost use Rattle.fresh_names.specs.Naming.{is_taken, IsLeast, AreNamed};
 ghost use Rattle.fresh_names.specs.Giving.{IsLeastFrom, AreTakenBelow, Gives};
 ghost use Rattle.static_rename.specs.Local.{IsTable};
 

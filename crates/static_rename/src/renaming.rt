@@ -1,5 +1,5 @@
 ghost use Rattle.std.specs.Prelude.{◌≡◌, map, OnOk};
-ghost use Rattle.fresh_names.specs.Naming.{Stays};
+ghost use Rattle.cil_base.specs.NamePool.{Stays};
 ghost use Rattle.static_rename.specs.Local.{IsTable};
 ghost use Rattle.static_rename.specs.Renamed.{IsNamedUnit, AreRenamed};
 ghost use Rattle.static_rename.specs.Tagging.{named_by};

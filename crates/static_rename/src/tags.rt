@@ -1,5 +1,6 @@
 ghost use Rattle.std.specs.Prelude.{◌≡◌, [], map, slice_set, OnOk, IfOk};
-ghost use Rattle.fresh_names.specs.Naming.{Stays, AreNamed};
+ghost use Rattle.cil_base.specs.NamePool.{Stays};
+ghost use Rattle.fresh_names.specs.Naming.{AreNamed};
 ghost use Rattle.static_rename.specs.Tags.{members_in, members_at, tag_wish, class_wish, given_in, enumerators_of};
 ghost use Rattle.static_rename.specs.Tagging.{lists, with_enumerator, with_thing, with_things, given_filed};
 

@@ -1,5 +1,5 @@
 use Rattle.std.proofs.Common.{◌≡◌}
-use Rattle.fresh_names.specs.Naming.{Stays}
+use Rattle.cil_base.specs.NamePool.{Stays}
 use Rattle.static_rename.specs.Local.{IsTable}
 use Rattle.static_rename.specs.Within.{IsNamedWithin}
 use Rattle.static_rename.proofs.EachLaws.{UpTo}

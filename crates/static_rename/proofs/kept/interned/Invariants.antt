@@ -1,5 +1,5 @@
 use Rattle.std.proofs.Common.{map, take}
-use Rattle.fresh_names.specs.Naming.{Stays}
+use Rattle.cil_base.specs.NamePool.{Stays}
 use Rattle.static_rename.specs.Files.{HaveTexts}
 use Rattle.static_rename.proofs.kept.interned.Given as goal
 

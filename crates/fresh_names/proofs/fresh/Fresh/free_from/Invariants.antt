@@ -1,5 +1,6 @@
 use Rattle.std.proofs.Common.{ℕ, ◌<◌, ◌≤◌}
-use Rattle.fresh_names.specs.Naming.{Stays, IsSuffixTaken}
+use Rattle.cil_base.specs.NamePool.{Stays}
+use Rattle.fresh_names.specs.Naming.{IsSuffixTaken}
 use Rattle.fresh_names.proofs.fresh.Fresh.free_from.Given as goal
 
 abbrev pub invariant-loop-number : goal.invariant-loop-number

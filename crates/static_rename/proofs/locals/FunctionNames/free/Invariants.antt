@@ -1,5 +1,6 @@
 use Rattle.std.proofs.Common.{◌≡◌, ℕ, ◌<◌, ◌++◌}
-use Rattle.fresh_names.specs.Naming.{Stays, IsSuffixTaken}
+use Rattle.cil_base.specs.NamePool.{Stays}
+use Rattle.fresh_names.specs.Naming.{IsSuffixTaken}
 use Rattle.static_rename.specs.Local.{IsTable}
 use Rattle.static_rename.proofs.locals.FunctionNames.free.Given as goal
 
