@@ -108,7 +108,7 @@ use typed_tree::TypedExp;
 
 /// The type of an expression and what it is (C11 6.5).
 #[cycle(walk)]
-pub fn expr(w: &mut Walker, e: &Expr) -> Result<TypedExp, WalkStop> {
+pub fn expr(w: &mut Walker<'_>, e: &Expr) -> Result<TypedExp, WalkStop> {
     match e {
         Expr::Name(at, n) => name(w, *at, *n),
         Expr::Integer(at, text) => integer(w, *at, text.as_slice()),
@@ -137,7 +137,7 @@ pub fn expr(w: &mut Walker, e: &Expr) -> Result<TypedExp, WalkStop> {
 
 /// A postfix expression (C11 6.5.2).
 #[cycle(walk)]
-fn postfix(w: &mut Walker, e: &Expr) -> Result<TypedExp, WalkStop> {
+fn postfix(w: &mut Walker<'_>, e: &Expr) -> Result<TypedExp, WalkStop> {
     match e {
         Expr::Index(at, a, i) => {
             let a = expr(w, a)?;
@@ -171,7 +171,7 @@ fn postfix(w: &mut Walker, e: &Expr) -> Result<TypedExp, WalkStop> {
 
 /// A unary expression or a cast (C11 6.5.3, 6.5.4).
 #[cycle(walk)]
-fn prefixed(w: &mut Walker, e: &Expr) -> Result<TypedExp, WalkStop> {
+fn prefixed(w: &mut Walker<'_>, e: &Expr) -> Result<TypedExp, WalkStop> {
     match e {
         Expr::Prefix(at, op, of) => {
             let place = expr(w, of)?;
@@ -204,7 +204,7 @@ fn prefixed(w: &mut Walker, e: &Expr) -> Result<TypedExp, WalkStop> {
 
 /// An expression with an operator between its operands (C11 6.5.5 to 6.5.17).
 #[cycle(walk)]
-fn infixed(w: &mut Walker, e: &Expr) -> Result<TypedExp, WalkStop> {
+fn infixed(w: &mut Walker<'_>, e: &Expr) -> Result<TypedExp, WalkStop> {
     match e {
         Expr::Binary(at, op, a, b) => {
             let x = expr(w, a)?;
@@ -238,7 +238,7 @@ fn infixed(w: &mut Walker, e: &Expr) -> Result<TypedExp, WalkStop> {
 
 /// The arguments of a call (C11 6.5.2.2).
 #[cycle(walk)]
-fn exprs(w: &mut Walker, es: &[Expr]) -> Result<Vec<Operand>, WalkStop> {
+fn exprs(w: &mut Walker<'_>, es: &[Expr]) -> Result<Vec<Operand>, WalkStop> {
     let mut arguments = Vec::new(w.alloc);
     for e in es {
         let exp = expr(w, e)?;
@@ -254,7 +254,7 @@ fn exprs(w: &mut Walker, es: &[Expr]) -> Result<Vec<Operand>, WalkStop> {
 
 /// The type of an operand of `sizeof`, which is not evaluated (C11 6.5.3.4p2).
 #[cycle(walk)]
-fn unevaluated(w: &mut Walker, e: &Expr) -> Result<QualType, WalkStop> {
+fn unevaluated(w: &mut Walker<'_>, e: &Expr) -> Result<QualType, WalkStop> {
     let before = w.evaluation;
     w.evaluation = Evaluation::Unevaluated;
     let exp = expr(w, e)?;
@@ -264,7 +264,7 @@ fn unevaluated(w: &mut Walker, e: &Expr) -> Result<QualType, WalkStop> {
 
 /// The type that a type name names as the operand of `sizeof` or `_Alignof`, where nothing is evaluated (C11 6.5.3.4p2, p3).
 #[cycle(walk)]
-fn unevaluated_type(w: &mut Walker, t: &TypeName) -> Result<QualType, WalkStop> {
+fn unevaluated_type(w: &mut Walker<'_>, t: &TypeName) -> Result<QualType, WalkStop> {
     let before = w.evaluation;
     w.evaluation = Evaluation::Unevaluated;
     let ty = type_name(w, t)?;
@@ -274,7 +274,7 @@ fn unevaluated_type(w: &mut Walker, t: &TypeName) -> Result<QualType, WalkStop> 
 
 /// The type that a type name names (C11 6.7.7).
 #[cycle(walk)]
-pub fn type_name(w: &mut Walker, t: &TypeName) -> Result<QualType, WalkStop> {
+pub fn type_name(w: &mut Walker<'_>, t: &TypeName) -> Result<QualType, WalkStop> {
     let base = specifiers(w, &t.specifiers, Behind::Declarators)?;
     let mut ds = Vec::new(w.alloc);
     derivations(w, &t.declarator, Role::Ordinary, &mut ds)?;
@@ -283,7 +283,11 @@ pub fn type_name(w: &mut Walker, t: &TypeName) -> Result<QualType, WalkStop> {
 
 /// The type that specifiers and qualifiers name (C11 6.7.2), and what they declare.
 #[cycle(walk)]
-pub fn specifiers(w: &mut Walker, ss: &[Specifier], behind: Behind) -> Result<QualType, WalkStop> {
+pub fn specifiers(
+    w: &mut Walker<'_>,
+    ss: &[Specifier],
+    behind: Behind,
+) -> Result<QualType, WalkStop> {
     for s in ss {
         match s {
             Specifier::Members(at, _, _, ms) => {
@@ -309,7 +313,7 @@ pub fn specifiers(w: &mut Walker, ss: &[Specifier], behind: Behind) -> Result<Qu
 
 /// The members of a struct or union (C11 6.7.2.1).
 #[cycle(walk)]
-fn members(w: &mut Walker, a: AggId, ms: &[MemberDeclaration]) -> Result<(), WalkStop> {
+fn members(w: &mut Walker<'_>, a: AggId, ms: &[MemberDeclaration]) -> Result<(), WalkStop> {
     let last = last_member(ms);
     for m in ms {
         member_declaration(w, a, last, m)?;
@@ -320,7 +324,7 @@ fn members(w: &mut Walker, a: AggId, ms: &[MemberDeclaration]) -> Result<(), Wal
 /// A declaration among members. The token of the last member is known.
 #[cycle(walk)]
 fn member_declaration(
-    w: &mut Walker,
+    w: &mut Walker<'_>,
     a: AggId,
     last: Option<u32>,
     m: &MemberDeclaration,
@@ -343,7 +347,7 @@ fn member_declaration(
 /// A declarator among members.
 #[cycle(walk)]
 fn member_declarator(
-    w: &mut Walker,
+    w: &mut Walker<'_>,
     a: AggId,
     last: Option<u32>,
     base: QualType,
@@ -380,7 +384,7 @@ fn name_or(d: &Declarator, at: u32) -> u32 {
 
 /// The enumerators of an enum (C11 6.7.2.2).
 #[cycle(walk)]
-fn enumerators(w: &mut Walker, a: AggId, es: &[Enumerator]) -> Result<(), WalkStop> {
+fn enumerators(w: &mut Walker<'_>, a: AggId, es: &[Enumerator]) -> Result<(), WalkStop> {
     for e in es {
         enumerator(w, a, e)?;
     }
@@ -389,7 +393,7 @@ fn enumerators(w: &mut Walker, a: AggId, es: &[Enumerator]) -> Result<(), WalkSt
 
 /// An enumerator, whose scope begins behind it (C11 6.2.1p7).
 #[cycle(walk)]
-fn enumerator(w: &mut Walker, a: AggId, e: &Enumerator) -> Result<(), WalkStop> {
+fn enumerator(w: &mut Walker<'_>, a: AggId, e: &Enumerator) -> Result<(), WalkStop> {
     let value = match &e.value {
         Some(x) => {
             let typed = expr(w, x)?;
@@ -397,13 +401,13 @@ fn enumerator(w: &mut Walker, a: AggId, e: &Enumerator) -> Result<(), WalkStop> 
         }
         None => None,
     };
-    let name = NewName::of(e.name, &w.names);
+    let name = NewName::of(e.name, w.names);
     placed(e.at, w.declarer.enumerator(a, name, value, &mut w.types))
 }
 
 /// A static assertion (C11 6.7.10).
 #[cycle(walk)]
-pub fn static_assert(w: &mut Walker, s: &StaticAssert) -> Result<(), WalkStop> {
+pub fn static_assert(w: &mut Walker<'_>, s: &StaticAssert) -> Result<(), WalkStop> {
     let condition = expr(w, &s.condition)?;
     let _message = bytes_of(w, s.message_at, &s.message)?;
     if constant_value(w, expr_at(&s.condition), &condition)? == 0 {
@@ -415,7 +419,7 @@ pub fn static_assert(w: &mut Walker, s: &StaticAssert) -> Result<(), WalkStop> {
 /// The derivations of a declarator in the order of the text (C11 6.7.6): what stands nearer to the name comes first.
 #[cycle(walk)]
 pub fn derivations(
-    w: &mut Walker,
+    w: &mut Walker<'_>,
     d: &Declarator,
     role: Role,
     into: &mut Vec<Derivation>,
@@ -451,7 +455,7 @@ pub fn derivations(
 }
 
 /// Leaves the scope of a list of parameters, unless it is a defined function's own (C11 6.2.1p4).
-fn left_behind(w: &mut Walker, role: Role, inner: &Declarator) -> Result<(), WalkStop> {
+fn left_behind(w: &mut Walker<'_>, role: Role, inner: &Declarator) -> Result<(), WalkStop> {
     if role == Role::Definition && is_direct(inner) {
         return Ok(());
     }
@@ -480,7 +484,7 @@ fn company(ps: &[Parameter], variadic: bool) -> Company {
 /// What stands between the brackets of an array declarator, which may have qualifiers and `static` in the outermost array of a parameter
 /// alone (C11 6.7.6.2).
 #[cycle(walk)]
-fn bound(w: &mut Walker, b: &ArrayBound, allowed: bool) -> Result<Brackets, WalkStop> {
+fn bound(w: &mut Walker<'_>, b: &ArrayBound, allowed: bool) -> Result<Brackets, WalkStop> {
     match b {
         ArrayBound::Unspecified(at, qs) => Ok(Brackets {
             bound: None,
@@ -515,7 +519,7 @@ fn bound(w: &mut Walker, b: &ArrayBound, allowed: bool) -> Result<Brackets, Walk
 /// The adjusted types of the parameters of a list (C11 6.7.6.3): none for a list that is `void` alone.
 #[cycle(walk)]
 fn parameters(
-    w: &mut Walker,
+    w: &mut Walker<'_>,
     ps: &[Parameter],
     company: Company,
 ) -> Result<Vec<QualType>, WalkStop> {
@@ -531,7 +535,7 @@ fn parameters(
 /// A parameter, which is in scope behind its declarator (C11 6.2.1p7).
 #[cycle(walk)]
 fn parameter(
-    w: &mut Walker,
+    w: &mut Walker<'_>,
     p: &Parameter,
     company: Company,
 ) -> Result<Option<QualType>, WalkStop> {
@@ -545,7 +549,7 @@ fn parameter(
 
 /// The initialiser of an object (C11 6.7.9).
 pub fn initialiser(
-    w: &mut Walker,
+    w: &mut Walker<'_>,
     storage: Storage,
     ty: QualType,
     x: &Init,
@@ -562,7 +566,12 @@ pub fn initialiser(
 }
 
 /// An initialiser without braces (C11 6.7.9p11, p13, p14).
-fn whole(w: &mut Walker, filling: &mut Filling, ty: QualType, e: &Expr) -> Result<(), WalkStop> {
+fn whole(
+    w: &mut Walker<'_>,
+    filling: &mut Filling,
+    ty: QualType,
+    e: &Expr,
+) -> Result<(), WalkStop> {
     if is_character_array(&w.types, ty) {
         if let Some((at, texts)) = literals(e) {
             let root = Path::new(w.alloc);
@@ -576,7 +585,7 @@ fn whole(w: &mut Walker, filling: &mut Filling, ty: QualType, e: &Expr) -> Resul
 /// A brace list for an object, whose path and number are given (C11 6.7.9p11, p14, p16).
 #[cycle(walk)]
 fn braces(
-    w: &mut Walker,
+    w: &mut Walker<'_>,
     filling: &mut Filling,
     path: &Path,
     object: u32,
@@ -597,7 +606,7 @@ fn braces(
 /// The items of a brace list for an array, struct or union: all its bytes become zero first (C11 6.7.9p16, p21).
 #[cycle(walk)]
 fn list(
-    w: &mut Walker,
+    w: &mut Walker<'_>,
     filling: &mut Filling,
     path: &Path,
     outermost: Level,
@@ -618,7 +627,7 @@ fn list(
 /// An item of a brace list (C11 6.7.9p17).
 #[cycle(walk)]
 fn item(
-    w: &mut Walker,
+    w: &mut Walker<'_>,
     filling: &mut Filling,
     levels: &mut Levels,
     base: &Path,
@@ -645,7 +654,7 @@ fn item(
 /// An item that is an expression.
 #[cycle(walk)]
 fn expression_item(
-    w: &mut Walker,
+    w: &mut Walker<'_>,
     filling: &mut Filling,
     levels: &mut Levels,
     place: Place,
@@ -661,7 +670,7 @@ fn expression_item(
 /// The designators of an item: the type of the part that they name, if there are some (C11 6.7.9p6, p7).
 #[cycle(walk)]
 fn designators(
-    w: &mut Walker,
+    w: &mut Walker<'_>,
     filling: &mut Filling,
     levels: &mut Levels,
     place: Place,
@@ -681,7 +690,7 @@ fn designators(
 /// A designator, in the part that those before it name. The type of the part that it names.
 #[cycle(walk)]
 fn designator(
-    w: &mut Walker,
+    w: &mut Walker<'_>,
     filling: &mut Filling,
     levels: &mut Levels,
     place: Place,
@@ -704,7 +713,7 @@ fn designator(
 /// A brace list for a scalar: one item without designators (C11 6.7.9p11).
 #[cycle(walk)]
 fn scalar_list(
-    w: &mut Walker,
+    w: &mut Walker<'_>,
     filling: &mut Filling,
     path: &Path,
     ty: QualType,
@@ -728,7 +737,7 @@ enum Given {
 /// An item of a brace list for a scalar.
 #[cycle(walk)]
 fn scalar_item(
-    w: &mut Walker,
+    w: &mut Walker<'_>,
     filling: &mut Filling,
     path: &Path,
     ty: QualType,
@@ -759,7 +768,7 @@ fn scalar_item(
 /// A compound literal of a type (C11 6.5.2.5).
 #[cycle(walk)]
 fn compound_literal(
-    w: &mut Walker,
+    w: &mut Walker<'_>,
     at: u32,
     ty: QualType,
     items: &[InitItem],

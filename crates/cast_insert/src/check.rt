@@ -1,16 +1,16 @@
 ghost use Rattle.std.specs.Prelude.{◌≡◌, IsTrue};
 ghost use Rattle.cil_base.specs.declared.faults.Fault.TheVariants.{Excluded, Limit};
 ghost use Rattle.cil_base.specs.declared.faults.Stop.TheVariants.{Memory as WantOfMemory};
+ghost use Rattle.cil_base.specs.NamePool.{Stays};
 ghost use Rattle.c_lexer.specs.Lexed.{IfRefused};
 ghost use Rattle.cast_insert.specs.Refusals.{IfRefusal, IsCheckedFault, IsCheckedRefusal};
 
 use crate::unit::{ended, externals, place_of, unit_of};
 use c_lexer::TokenList;
 use c_tree::Unit;
-use cil_base::{Abi, Fault, Feature, NamePool, Refusal, RuleStop, Stop, What};
+use cil_base::{Abi, Fault, Feature, Memory, NamePool, Refusal, Stop, What};
 use decl_types::Declarer;
 use std::alloc::Global;
-use std::mem;
 use typed_parts::{WalkStop, Walker};
 use typed_tree::TypedUnit;
 use unit_types::Types;
@@ -86,16 +86,19 @@ fn stopped<L: TokenList>(t: &L, stop: WalkStop) -> Stop
     }
 }
 
-/// The walk of a unit before its first declaration. It takes the names.
-fn begun(alloc: Global, names: &mut NamePool, abi: Abi) -> Result<Walker, RuleStop> {
+/// The declarations of a unit before its first one, and its types.
+fn begun(alloc: Global, names: &mut NamePool, abi: Abi) -> Result<(Declarer, Types), Memory>
+    ensures { Stays names.old names.new }
+{
     let mut types = Types::new(alloc, abi);
-    let declarer = Declarer::new(alloc, names, &mut types)?;
-    let names = mem::replace(names, NamePool::new(alloc));
-    Ok(Walker::new(alloc, names, types, declarer))
+    match Declarer::new(alloc, names, &mut types) {
+        Ok(declarer) => Ok((declarer, types)),
+        Err(_) => Err(Memory),
+    }
 }
 
 /// The walk of all external declarations, and of the unit's end.
-fn walked(w: &mut Walker, u: &Unit) -> Result<(), WalkStop> {
+fn walked(w: &mut Walker<'_>, u: &Unit) -> Result<(), WalkStop> {
     externals(w, u)?;
     ended(w)
 }
@@ -105,6 +108,7 @@ fn walked(w: &mut Walker, u: &Unit) -> Result<(), WalkStop> {
 ///
 /// It is refused at the first constraint that is violated, the first form that is left out and the first limit that is passed, with the place
 /// of its token.
+#[tactic(auto, using(cil_base::proofs::PoolLemmas::stays_then))]
 pub fn check_unit<L: TokenList>(
     alloc: Global,
     u: &Unit,
@@ -113,15 +117,14 @@ pub fn check_unit<L: TokenList>(
     abi: Abi,
 ) -> Result<TypedUnit, Stop>
     ensures refused { IfRefused result (IsCheckedRefusal (L.lexed t.now)) }
+    ensures stays { Stays names.old names.new }
 {
-    let mut w = match begun(alloc, names, abi) {
-        Ok(w) => w,
-        Err(_) => return Err(Stop::Memory),
-    };
-    let end = walked(&mut w, u);
-    *names = mem::replace(&mut w.names, NamePool::new(alloc));
-    match end {
-        Ok(()) => Ok(unit_of(t, w)?),
-        Err(stop) => Err(stopped(t, stop)),
+    let (declarer, types) = begun(alloc, names, abi)?;
+    let mut w = Walker::new(alloc, names, types, declarer);
+    if let Err(stop) = walked(&mut w, u) {
+        return Err(stopped(t, stop));
     }
+    let (unit, made) = unit_of(t, w)?;
+    made.give(names)?;
+    Ok(unit)
 }

@@ -25,7 +25,7 @@ struct Base {
 
 /// A declaration (C11 6.7). What it does when it is reached goes behind the other statements of its block.
 pub(crate) fn declaration(
-    w: &mut Walker,
+    w: &mut Walker<'_>,
     position: Position,
     d: &Declaration,
     out: &mut Vec<TypedStmt>,
@@ -44,7 +44,7 @@ pub(crate) fn declaration(
 
 /// What the specifiers of a declaration say.
 fn base_of(
-    w: &mut Walker,
+    w: &mut Walker<'_>,
     position: Position,
     ss: &[Specifier],
     alone: bool,
@@ -62,7 +62,7 @@ fn base_of(
 
 /// A declarator with its initialiser, if it has one.
 fn init_declarator(
-    w: &mut Walker,
+    w: &mut Walker<'_>,
     base: Base,
     d: &InitDeclarator,
     out: &mut Vec<TypedStmt>,
@@ -105,7 +105,7 @@ fn is_unbounded(t: &Types, ty: QualType) -> bool {
 
 /// The initialiser of a declared object, which gives an array of unknown bound its bound (C11 6.7.9p22).
 fn initialised(
-    w: &mut Walker,
+    w: &mut Walker<'_>,
     n: DeclaredName,
     storage: Storage,
     ty: QualType,
@@ -123,7 +123,7 @@ fn initialised(
 
 /// An object with automatic storage duration.
 fn local(
-    w: &mut Walker,
+    w: &mut Walker<'_>,
     n: DeclaredName,
     l: LocalId,
     ty: QualType,
@@ -142,7 +142,7 @@ fn local(
 
 /// An object with static storage duration, or a function.
 fn global(
-    w: &mut Walker,
+    w: &mut Walker<'_>,
     n: DeclaredName,
     e: EntityId,
     declared: Declared,
@@ -161,7 +161,7 @@ fn global(
 
 /// A declaration without initialiser: it defines an object that has no other definition (C11 6.9.2p2).
 fn without_initialiser(
-    w: &mut Walker,
+    w: &mut Walker<'_>,
     n: DeclaredName,
     e: EntityId,
     constant: bool,
@@ -176,7 +176,7 @@ fn without_initialiser(
 }
 
 /// Whether a definition is noted for an object or a function.
-fn is_defined(w: &Walker, e: EntityId) -> bool {
+fn is_defined(w: &Walker<'_>, e: EntityId) -> bool {
     match w.sites.get(e.0 as usize) {
         Some(site) => site.defined.is_some(),
         None => false,

@@ -61,7 +61,7 @@ struct Head {
 }
 
 /// The type of the result of a function type.
-fn result_of(w: &Walker, ty: QualType) -> Result<TypeId, WalkStop> {
+fn result_of(w: &Walker<'_>, ty: QualType) -> Result<TypeId, WalkStop> {
     match w.types.class(ty.of) {
         Class::Func { ret, .. } => Ok(ret),
         Class::Void | Class::Int(_) | Class::Ptr(_) | Class::Array(..) | Class::Agg(..) => {
@@ -71,7 +71,7 @@ fn result_of(w: &Walker, ty: QualType) -> Result<TypeId, WalkStop> {
 }
 
 /// Opens a scope for a declarator without a list of its own: it is refused with the scope of parameters open.
-fn parameters_opened(w: &mut Walker, own: OwnList) -> Result<(), WalkStop> {
+fn parameters_opened(w: &mut Walker<'_>, own: OwnList) -> Result<(), WalkStop> {
     match own {
         OwnList::None => Ok(w.declarer.enter()?),
         OwnList::Parameters(_) | OwnList::Identifiers(_) => Ok(()),
@@ -79,7 +79,7 @@ fn parameters_opened(w: &mut Walker, own: OwnList) -> Result<(), WalkStop> {
 }
 
 /// The specifiers and the declarator of a function definition (C11 6.9.1). The scope of its parameters is then open.
-fn head_of(w: &mut Walker, d: &FunctionDefinition) -> Result<Head, WalkStop> {
+fn head_of(w: &mut Walker<'_>, d: &FunctionDefinition) -> Result<Head, WalkStop> {
     let at = specifiers_at(&d.specifiers)?;
     let heading = placed(at, heading_of(&d.specifiers, Position::Definition))?;
     let base = specifiers(w, &d.specifiers, Behind::Declarators)?;
@@ -109,7 +109,7 @@ fn head_of(w: &mut Walker, d: &FunctionDefinition) -> Result<Head, WalkStop> {
 }
 
 /// The parameters of a function that is defined, in the order of the text (C11 6.9.1p7).
-fn defined_parameters(w: &Walker, ps: &[Parameter]) -> Result<(), WalkStop> {
+fn defined_parameters(w: &Walker<'_>, ps: &[Parameter]) -> Result<(), WalkStop> {
     for (i, p) in ps.iter().enumerate() {
         if let Some(n) = named(&p.declarator) {
             if i >= u32::MAX as usize {
@@ -133,7 +133,7 @@ fn own_parameters(d: &FunctionDefinition) -> &[Parameter] {
 }
 
 /// The function that a body makes, whose items are walked.
-fn function_of(w: &mut Walker, f: Body, body: Vec<TypedStmt>) -> TypedFunction {
+fn function_of(w: &mut Walker<'_>, f: Body, body: Vec<TypedStmt>) -> TypedFunction {
     let declared = w.declarer.end_function();
     let literals = mem::replace(&mut w.literals, Vec::new(w.alloc));
     let lists = FunctionLists {
@@ -146,7 +146,7 @@ fn function_of(w: &mut Walker, f: Body, body: Vec<TypedStmt>) -> TypedFunction {
 }
 
 /// A function definition (C11 6.9.1): its parameters and the outermost block of its body are one scope (6.2.1p4).
-pub(crate) fn definition(w: &mut Walker, d: &FunctionDefinition) -> Result<(), WalkStop> {
+pub(crate) fn definition(w: &mut Walker<'_>, d: &FunctionDefinition) -> Result<(), WalkStop> {
     let head = head_of(w, d)?;
     w.note(head.entity, head.name.at)?;
     defined_parameters(w, own_parameters(d))?;

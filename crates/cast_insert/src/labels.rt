@@ -96,8 +96,8 @@ impl Labels {
 }
 
 /// A label that is declared may not be reserved (C11 7.1.3, own).
-pub(crate) fn not_reserved(w: &Walker, at: u32, n: NameId) -> Result<(), WalkStop> {
-    if is_reserved(n, &w.names) {
+pub(crate) fn not_reserved(w: &Walker<'_>, at: u32, n: NameId) -> Result<(), WalkStop> {
+    if is_reserved(n, w.names) {
         Err(violated(at, Code::Reserved))
     } else {
         Ok(())

@@ -15,13 +15,13 @@ use typed_tree::{
 use unit_types::Class;
 
 /// The value of an expression whose value is not used, or a void expression (C11 6.8.3p2).
-fn discarded(w: &mut Walker, e: &Expr) -> Result<TypedExp, WalkStop> {
+fn discarded(w: &mut Walker<'_>, e: &Expr) -> Result<TypedExp, WalkStop> {
     let x = expr(w, e)?;
     placed(expr_at(e), value(w.alloc, Operand::plain(x), &mut w.types))
 }
 
 /// The value of such an expression, where there is one.
-fn discarded_if(w: &mut Walker, e: &Option<Expr>) -> Result<Option<TypedExp>, WalkStop> {
+fn discarded_if(w: &mut Walker<'_>, e: &Option<Expr>) -> Result<Option<TypedExp>, WalkStop> {
     match e {
         Some(e) => Ok(Some(discarded(w, e)?)),
         None => Ok(None),
@@ -29,7 +29,7 @@ fn discarded_if(w: &mut Walker, e: &Option<Expr>) -> Result<Option<TypedExp>, Wa
 }
 
 /// The controlling expression of an `if` or a loop (C11 6.8.4.1p1, 6.8.5p2).
-fn test(w: &mut Walker, e: &Expr) -> Result<TypedExp, WalkStop> {
+fn test(w: &mut Walker<'_>, e: &Expr) -> Result<TypedExp, WalkStop> {
     let x = expr(w, e)?;
     placed(
         expr_at(e),
@@ -38,7 +38,7 @@ fn test(w: &mut Walker, e: &Expr) -> Result<TypedExp, WalkStop> {
 }
 
 /// The condition of a `for`, where there is one.
-fn test_if(w: &mut Walker, e: &Option<Expr>) -> Result<Option<TypedExp>, WalkStop> {
+fn test_if(w: &mut Walker<'_>, e: &Option<Expr>) -> Result<Option<TypedExp>, WalkStop> {
     match e {
         Some(e) => Ok(Some(test(w, e)?)),
         None => Ok(None),
@@ -46,7 +46,7 @@ fn test_if(w: &mut Walker, e: &Option<Expr>) -> Result<Option<TypedExp>, WalkSto
 }
 
 /// The promoted controlling expression of a `switch` (C11 6.8.4.2p1, p5).
-fn switched(w: &mut Walker, e: &Expr) -> Result<TypedExp, WalkStop> {
+fn switched(w: &mut Walker<'_>, e: &Expr) -> Result<TypedExp, WalkStop> {
     let x = expr(w, e)?;
     placed(
         expr_at(e),
@@ -55,7 +55,7 @@ fn switched(w: &mut Walker, e: &Expr) -> Result<TypedExp, WalkStop> {
 }
 
 /// The kind of a promoted value.
-fn kind_of(w: &Walker, e: &TypedExp) -> Result<IntKind, WalkStop> {
+fn kind_of(w: &Walker<'_>, e: &TypedExp) -> Result<IntKind, WalkStop> {
     match w.types.class(e.ty().of) {
         Class::Int(kind) => Ok(kind),
         Class::Void | Class::Ptr(_) | Class::Array(..) | Class::Func { .. } | Class::Agg(..) => {
@@ -65,7 +65,7 @@ fn kind_of(w: &Walker, e: &TypedExp) -> Result<IntKind, WalkStop> {
 }
 
 /// Whether the function returns nothing.
-fn is_void(w: &Walker, f: &Body) -> bool {
+fn is_void(w: &Walker<'_>, f: &Body) -> bool {
     match w.types.class(f.result) {
         Class::Void => true,
         Class::Int(_) | Class::Ptr(_) | Class::Array(..) | Class::Func { .. } | Class::Agg(..) => {
@@ -75,7 +75,7 @@ fn is_void(w: &Walker, f: &Body) -> bool {
 }
 
 /// The value that a function returns, converted as by assignment (C11 6.8.6.4); the token of the `return` is given.
-fn returned_value(w: &mut Walker, f: &Body, at: u32, e: &Expr) -> Result<TypedExp, WalkStop> {
+fn returned_value(w: &mut Walker<'_>, f: &Body, at: u32, e: &Expr) -> Result<TypedExp, WalkStop> {
     let x = expr(w, e)?;
     if is_void(w, f) {
         return Err(violated(at, Code::Return));
@@ -85,7 +85,7 @@ fn returned_value(w: &mut Walker, f: &Body, at: u32, e: &Expr) -> Result<TypedEx
 
 /// What stands behind a `return`, whose token is given (C11 6.8.6.4p1).
 fn returned(
-    w: &mut Walker,
+    w: &mut Walker<'_>,
     f: &Body,
     at: u32,
     e: &Option<Expr>,
@@ -103,14 +103,19 @@ fn returned(
 }
 
 /// The kind and the value of a case label (C11 6.8.4.2p3), whose token is given.
-fn case_of(w: &mut Walker, f: &mut Body, at: u32, e: &Expr) -> Result<(IntKind, i128), WalkStop> {
+fn case_of(
+    w: &mut Walker<'_>,
+    f: &mut Body,
+    at: u32,
+    e: &Expr,
+) -> Result<(IntKind, i128), WalkStop> {
     let x = expr(w, e)?;
     let v = constant_value(w, expr_at(e), &x)?;
     f.case(at, v)
 }
 
 /// What stands before the first semicolon of a `for` (C11 6.8.5.3p1).
-fn start_of(w: &mut Walker, s: &ForStart) -> Result<Vec<TypedStmt>, WalkStop> {
+fn start_of(w: &mut Walker<'_>, s: &ForStart) -> Result<Vec<TypedStmt>, WalkStop> {
     let mut out = Vec::new(w.alloc);
     match s {
         ForStart::Expr(None) => {}
@@ -132,7 +137,7 @@ struct Controls {
 
 /// The condition and the step of a `for`.
 fn controls_of(
-    w: &mut Walker,
+    w: &mut Walker<'_>,
     condition: &Option<Expr>,
     step: &Option<Expr>,
 ) -> Result<Controls, WalkStop> {
@@ -144,7 +149,7 @@ fn controls_of(
 /// The items of a block (C11 6.8.2), behind others.
 #[cycle(statements)]
 pub(crate) fn items(
-    w: &mut Walker,
+    w: &mut Walker<'_>,
     f: &mut Body,
     around: Around,
     list: &[BlockItem],
@@ -159,7 +164,7 @@ pub(crate) fn items(
 /// An item of a block.
 #[cycle(statements)]
 fn item(
-    w: &mut Walker,
+    w: &mut Walker<'_>,
     f: &mut Body,
     around: Around,
     i: &BlockItem,
@@ -174,7 +179,7 @@ fn item(
 /// A substatement of a selection or iteration statement, which is a block (C11 6.8.4p3, 6.8.5p5).
 #[cycle(statements)]
 fn substatement(
-    w: &mut Walker,
+    w: &mut Walker<'_>,
     f: &mut Body,
     around: Around,
     s: &Stmt,
@@ -189,7 +194,7 @@ fn substatement(
 /// A compound statement (C11 6.8.2).
 #[cycle(statements)]
 fn compound(
-    w: &mut Walker,
+    w: &mut Walker<'_>,
     f: &mut Body,
     around: Around,
     list: &[BlockItem],
@@ -204,7 +209,7 @@ fn compound(
 /// A statement (C11 6.8), behind others. An empty one adds nothing.
 #[cycle(statements)]
 fn statement(
-    w: &mut Walker,
+    w: &mut Walker<'_>,
     f: &mut Body,
     around: Around,
     s: &Stmt,
@@ -235,7 +240,12 @@ fn statement(
 }
 
 /// The label of a labelled statement (C11 6.8.1), without its statement.
-fn label(w: &mut Walker, f: &mut Body, s: &Stmt, out: &mut Vec<TypedStmt>) -> Result<(), WalkStop> {
+fn label(
+    w: &mut Walker<'_>,
+    f: &mut Body,
+    s: &Stmt,
+    out: &mut Vec<TypedStmt>,
+) -> Result<(), WalkStop> {
     match s {
         Stmt::Labelled(at, n, _) => {
             let set = f.labels.set(*at, *n)?;
@@ -260,7 +270,7 @@ fn label(w: &mut Walker, f: &mut Body, s: &Stmt, out: &mut Vec<TypedStmt>) -> Re
 /// A selection statement, which is a block (C11 6.8.4).
 #[cycle(statements)]
 fn selection(
-    w: &mut Walker,
+    w: &mut Walker<'_>,
     f: &mut Body,
     around: Around,
     s: &Stmt,
@@ -295,7 +305,7 @@ fn selection(
 /// An iteration statement, which is a block (C11 6.8.5).
 #[cycle(statements)]
 fn iteration(
-    w: &mut Walker,
+    w: &mut Walker<'_>,
     f: &mut Body,
     s: &Stmt,
     out: &mut Vec<TypedStmt>,
@@ -326,7 +336,7 @@ fn iteration(
 
 /// A jump statement (C11 6.8.6).
 fn jump(
-    w: &mut Walker,
+    w: &mut Walker<'_>,
     f: &mut Body,
     around: Around,
     s: &Stmt,

@@ -6,7 +6,7 @@ use crate::functions::definition;
 use c_lexer::TokenList;
 use c_tree::{ExtDecl, Unit};
 use cil_base::{Code, Memory, Place};
-use decl_types::{Declarations, DeclaredEntity, LateFault};
+use decl_types::{Declarations, DeclaredEntity, LateFault, MadeNames};
 use std::alloc::Global;
 use typed_parts::{Site, WalkStop, Walker, impossible, violated};
 use typed_tree::{
@@ -15,7 +15,7 @@ use typed_tree::{
 use unit_types::Types;
 
 /// An external declaration (C11 6.9).
-fn external(w: &mut Walker, d: &ExtDecl) -> Result<(), WalkStop> {
+fn external(w: &mut Walker<'_>, d: &ExtDecl) -> Result<(), WalkStop> {
     match d {
         ExtDecl::Definition(f) => definition(w, f),
         ExtDecl::Declaration(d) => {
@@ -26,7 +26,7 @@ fn external(w: &mut Walker, d: &ExtDecl) -> Result<(), WalkStop> {
 }
 
 /// The external declarations of a unit, in order.
-pub(crate) fn externals(w: &mut Walker, u: &Unit) -> Result<(), WalkStop> {
+pub(crate) fn externals(w: &mut Walker<'_>, u: &Unit) -> Result<(), WalkStop> {
     for d in &u.declarations {
         external(w, d)?;
     }
@@ -34,7 +34,7 @@ pub(crate) fn externals(w: &mut Walker, u: &Unit) -> Result<(), WalkStop> {
 }
 
 /// The token at which a fault stands that the unit's end shows: the first tentative definition, or the first declaration.
-fn late_at(w: &Walker, fault: LateFault) -> Option<u32> {
+fn late_at(w: &Walker<'_>, fault: LateFault) -> Option<u32> {
     let site = w.sites.get(fault.entity.0 as usize)?;
     if fault.code == Code::Incomplete {
         site.defined
@@ -44,7 +44,7 @@ fn late_at(w: &Walker, fault: LateFault) -> Option<u32> {
 }
 
 /// The first of the faults that the unit's end shows, by their places (C11 6.9p3, 6.9.2p2).
-fn first_late(w: &Walker, faults: &[LateFault]) -> Result<(), WalkStop> {
+fn first_late(w: &Walker<'_>, faults: &[LateFault]) -> Result<(), WalkStop> {
     let mut first: Option<(u32, Code)> = None;
     for fault in faults {
         let Some(at) = late_at(w, *fault) else {
@@ -62,7 +62,7 @@ fn first_late(w: &Walker, faults: &[LateFault]) -> Result<(), WalkStop> {
 }
 
 /// What the unit's end shows: tentative definitions are completed (C11 6.9.2p2), and nothing that is used may lack its definition.
-pub(crate) fn ended(w: &mut Walker) -> Result<(), WalkStop> {
+pub(crate) fn ended(w: &mut Walker<'_>) -> Result<(), WalkStop> {
     let Ok(faults) = w.declarer.finish(&mut w.types) else {
         return Err(impossible());
     };
@@ -164,11 +164,15 @@ fn ordinary_of(
 }
 
 /// The typed unit at the end of its walk.
-pub(crate) fn unit_of<L: TokenList>(t: &L, w: Walker) -> Result<TypedUnit, Memory> {
+pub(crate) fn unit_of<L: TokenList>(
+    t: &L,
+    w: Walker<'_>,
+) -> Result<(TypedUnit, MadeNames), Memory> {
     let alloc = w.alloc;
+    let made = w.made;
     let Declarations { entities, ordinary } = w.declarer.into_declarations();
     let types = w.types;
     let entities = entities_of(alloc, t, &types, &entities, w.sites)?;
     let ordinary = ordinary_of(alloc, &entities, &ordinary)?;
-    Ok(translation_unit(types, entities, ordinary))
+    Ok((translation_unit(types, entities, ordinary), made))
 }

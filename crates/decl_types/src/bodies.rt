@@ -3,7 +3,7 @@ ghost use Rattle.cil_base.specs.declared.faults.Fault.TheVariants.{Constraint};
 ghost use Rattle.decl_types.specs.Refusals.{IsRefusal, of_anonymous, of_body, of_member};
 
 use crate::declared::MemberAt;
-use crate::made_names::name_anonymous;
+use crate::made_names::{MadeNames, name_anonymous};
 use crate::new_names::NewName;
 use crate::stops::{bad, impossible, laid, narrow, never};
 use crate::types::{is_function, is_unbounded};
@@ -264,7 +264,8 @@ impl Bodies {
     pub(crate) fn close(
         &mut self,
         a: AggId,
-        names: &mut NamePool,
+        names: &NamePool,
+        made: &mut MadeNames,
         t: &mut Types,
     ) -> Result<QualType, RuleStop>
         ensures { IfErr result (IsRefusal of_body) }
@@ -275,7 +276,7 @@ impl Bodies {
         }
         let (tagged, quals) = (b.tagged, b.quals);
         self.closed = None;
-        let members = name_anonymous(self.alloc, b.members, names)?;
+        let members = name_anonymous(self.alloc, b.members, names, made)?;
         laid(t.complete(a, Members::new(members)))?;
         if !tagged {
             self.closed = Some(ClosedBody {

@@ -1,4 +1,5 @@
 ghost use Rattle.std.specs.Prelude.{◌≡◌, [], ◌∷◌, ◌++◌, OnOk, IfErr};
+ghost use Rattle.cil_base.specs.NamePool.{Stays};
 ghost use Rattle.name_scopes.specs.Scopes.{found};
 ghost use Rattle.decl_types.specs.Scopes.{Leaves};
 ghost use Rattle.decl_types.specs.Refusals.{IsRefusal, of_local};
@@ -46,7 +47,10 @@ fn memset_type(alloc: Global, t: &mut Types) -> Result<QualType, RuleStop> {
 
 impl Declarer {
     /// The declaration of `__builtin_memset`, which stands in front of every unit, with number 0.
-    pub fn new(alloc: Global, names: &mut NamePool, t: &mut Types) -> Result<Declarer, RuleStop> {
+    #[tactic(auto, using(cil_base::proofs::PoolLemmas::stays_then))]
+    pub fn new(alloc: Global, names: &mut NamePool, t: &mut Types) -> Result<Declarer, RuleStop>
+        ensures stays { Stays names.old names.new }
+    {
         let memset = names.intern(b"__builtin_memset")?;
         let literal = names.bases()?.literal;
         let mut d = Declarer {

@@ -29,6 +29,7 @@ pub use declared::{Behind, BodyForm, Declared, Declaring, Form, Linkage, MemberA
 pub use declarer::Declarer;
 pub use entities::{Declarations, DeclaredEntity, Defined, LateFault};
 pub use headings::{Heading, Inline, Position, heading_of};
+pub use made_names::MadeNames;
 pub use new_names::{NewName, is_reserved};
 pub use numbers::FunctionLocals;
 pub use spelled::qualifiers;

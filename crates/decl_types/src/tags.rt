@@ -5,6 +5,7 @@ use crate::basics::BasicMeaning;
 use crate::bodies::{NewMember, Opening};
 use crate::declared::{Behind, Declared, Declaring, Linkage, MemberAt, Tag, TagBody};
 use crate::declarer::Declarer;
+use crate::made_names::MadeNames;
 use crate::new_names::NewName;
 use crate::spelled::{Meaning, Named, spelled_by};
 use crate::stops::{bad, laid, never};
@@ -312,11 +313,12 @@ impl Declarer {
     pub fn close_body(
         &mut self,
         a: AggId,
-        names: &mut NamePool,
+        names: &NamePool,
+        made: &mut MadeNames,
         t: &mut Types,
     ) -> Result<QualType, RuleStop>
         ensures { IfErr result (IsRefusal of_body) }
     {
-        self.bodies.close(a, names, t)
+        self.bodies.close(a, names, made, t)
     }
 }

@@ -135,7 +135,7 @@ fn key_of(of: u32, step: Step) -> PartKey {
 /// Puts a part of the innermost object on the way. A union of which another member was initialised before becomes zero (C11 6.2.6.1p7,
 /// 6.7.9p19, own).
 pub fn choose(
-    w: &Walker,
+    w: &Walker<'_>,
     filling: &mut Filling,
     levels: &mut Levels,
     base: &Path,
@@ -269,7 +269,7 @@ pub fn not_flexible(t: &Types, ty: QualType, item: u32) -> Result<(), WalkStop> 
 
 /// The next part for an item without designators, which begins with a token (C11 6.7.9p2, p17).
 pub fn next_chosen(
-    w: &Walker,
+    w: &Walker<'_>,
     filling: &mut Filling,
     levels: &mut Levels,
     base: &Path,
@@ -286,7 +286,7 @@ pub fn next_chosen(
 
 /// The first part of the part on the way (C11 6.7.9p20).
 fn first_chosen(
-    w: &Walker,
+    w: &Walker<'_>,
     filling: &mut Filling,
     levels: &mut Levels,
     base: &Path,
@@ -305,7 +305,7 @@ fn first_chosen(
 /// Goes down from the part on the way, whose type is given, to the first part of it that takes an item without braces (C11 6.7.9p13, p14,
 /// p20). The type of that part.
 pub fn settle(
-    w: &Walker,
+    w: &Walker<'_>,
     filling: &mut Filling,
     levels: &mut Levels,
     base: &Path,

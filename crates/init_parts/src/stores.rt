@@ -44,7 +44,7 @@ fn is_record(t: &Types, ty: QualType) -> bool {
 
 /// Gives a value of its type to a part; its expression begins with a token.
 fn put(
-    w: &Walker,
+    w: &Walker<'_>,
     filling: &mut Filling,
     path: Path,
     ty: QualType,
@@ -69,7 +69,7 @@ fn put(
 
 /// Gives an expression to a part, converted as by assignment (C11 6.7.9p11, p13).
 pub fn put_converted(
-    w: &mut Walker,
+    w: &mut Walker<'_>,
     filling: &mut Filling,
     path: Path,
     ty: QualType,
@@ -82,7 +82,7 @@ pub fn put_converted(
 
 /// Gives an object an expression without braces (C11 6.7.9p11, p13): an array has none.
 pub fn put_whole(
-    w: &mut Walker,
+    w: &mut Walker<'_>,
     filling: &mut Filling,
     ty: QualType,
     source: &Expr,
@@ -119,7 +119,7 @@ fn fitted(mut bytes: Vec<u8>, bound: Option<u64>, item: u32) -> Result<Vec<u8>, 
 
 /// Gives an array of characters the bytes of a string, its zero byte included (C11 6.7.9p14).
 pub fn put_string(
-    w: &Walker,
+    w: &Walker<'_>,
     filling: &mut Filling,
     path: &Path,
     ty: QualType,
@@ -138,7 +138,7 @@ pub fn put_string(
 
 /// Gives an array of characters string literals as they are written.
 pub fn put_literals(
-    w: &Walker,
+    w: &Walker<'_>,
     filling: &mut Filling,
     path: &Path,
     ty: QualType,
@@ -151,7 +151,7 @@ pub fn put_literals(
 
 /// The part that an item initialises before braces that are left out count.
 pub fn chosen(
-    w: &Walker,
+    w: &Walker<'_>,
     filling: &mut Filling,
     levels: &mut Levels,
     place: Place,
@@ -164,7 +164,7 @@ pub fn chosen(
 
 /// Puts an item that is an expression (C11 6.7.9p13, p20).
 pub fn put_item(
-    w: &mut Walker,
+    w: &mut Walker<'_>,
     filling: &mut Filling,
     levels: &mut Levels,
     place: Place,
@@ -189,7 +189,7 @@ pub fn renew(filling: &mut Filling, levels: &Levels) -> Result<u32, WalkStop> {
 
 /// Puts an item that is a string literal: an array of characters takes its bytes (C11 6.7.9p14), a scalar its address.
 pub fn put_string_item(
-    w: &mut Walker,
+    w: &mut Walker<'_>,
     filling: &mut Filling,
     levels: &mut Levels,
     place: Place,
@@ -247,7 +247,7 @@ pub fn literals(e: &Expr) -> Option<(u32, &[Bytes])> {
 
 /// Goes down into the part on the way, where a designator stands behind the one that named it (C11 6.7.9p7).
 pub fn enter_designated(
-    w: &Walker,
+    w: &Walker<'_>,
     filling: &mut Filling,
     levels: &mut Levels,
     place: Place,
@@ -265,7 +265,7 @@ pub fn enter_designated(
 
 /// The element of an array that a designator names (C11 6.7.9p6).
 pub fn choose_element(
-    w: &Walker,
+    w: &Walker<'_>,
     filling: &mut Filling,
     levels: &mut Levels,
     base: &Path,
@@ -286,7 +286,7 @@ pub fn choose_element(
 
 /// The path to the member that a designator names (C11 6.7.9p7).
 fn designated_path(
-    w: &Walker,
+    w: &Walker<'_>,
     levels: &Levels,
     at: u32,
     n: NameId,
@@ -304,7 +304,7 @@ fn designated_path(
 
 /// A member on a path: the anonymous one before it is gone down into.
 fn choose_member(
-    w: &Walker,
+    w: &Walker<'_>,
     filling: &mut Filling,
     levels: &mut Levels,
     base: &Path,
@@ -329,7 +329,7 @@ fn choose_member(
 
 /// The member of a struct or union that a designator names (C11 6.7.9p7).
 pub fn choose_named(
-    w: &Walker,
+    w: &Walker<'_>,
     filling: &mut Filling,
     levels: &mut Levels,
     base: &Path,
@@ -348,7 +348,7 @@ pub fn choose_named(
 }
 
 /// Refuses a compound literal of a function type or an incomplete type, but for an array of unknown bound (C11 6.5.2.5p1).
-pub fn literal_type(w: &Walker, at: u32, ty: QualType) -> Result<(), WalkStop> {
+pub fn literal_type(w: &Walker<'_>, at: u32, ty: QualType) -> Result<(), WalkStop> {
     let fits = match w.types.class(ty.of) {
         Class::Array(of, None) => w.types.is_complete(of.of),
         Class::Array(_, Some(_))
@@ -366,7 +366,12 @@ pub fn literal_type(w: &Walker, at: u32, ty: QualType) -> Result<(), WalkStop> {
 }
 
 /// The type of an object whose initialiser is known: an array of unknown bound gets its bound (C11 6.7.9p22).
-fn completed(w: &mut Walker, at: u32, ty: QualType, reached: u64) -> Result<QualType, WalkStop> {
+fn completed(
+    w: &mut Walker<'_>,
+    at: u32,
+    ty: QualType,
+    reached: u64,
+) -> Result<QualType, WalkStop> {
     match w.types.class(ty.of) {
         Class::Array(of, None) => {
             let array = sized(at, w.types.array(of, Some(reached)))?;
@@ -393,7 +398,7 @@ pub fn list_at(items: &[InitItem]) -> Result<u32, WalkStop> {
 }
 
 /// The storage duration of a compound literal (C11 6.5.2.5p5).
-pub fn literal_storage(w: &Walker) -> Storage {
+pub fn literal_storage(w: &Walker<'_>) -> Storage {
     match w.within {
         Within::File => Storage::Static,
         Within::Function => Storage::Automatic,
@@ -402,7 +407,7 @@ pub fn literal_storage(w: &Walker) -> Storage {
 
 /// The place of a compound literal with its initialiser (C11 6.5.2.5p4, p5).
 pub fn literal_place(
-    w: &mut Walker,
+    w: &mut Walker<'_>,
     at: u32,
     ty: QualType,
     filled: Filled,

@@ -41,18 +41,21 @@ fn placed_in<T>(ss: &[Specifier], r: Result<T, RuleStop>) -> Result<T, WalkStop>
 }
 
 /// The type of specifiers without a body (C11 6.7.2).
-pub fn worded(w: &mut Walker, ss: &[Specifier], behind: Behind) -> Result<QualType, WalkStop> {
-    placed_in(ss, w.declarer.words(ss, behind, &w.names, &mut w.types))
+pub fn worded(w: &mut Walker<'_>, ss: &[Specifier], behind: Behind) -> Result<QualType, WalkStop> {
+    placed_in(ss, w.declarer.words(ss, behind, w.names, &mut w.types))
 }
 
 /// The struct, union or enum of specifiers with a body, before its body (C11 6.7.2.1, 6.7.2.2).
-pub fn opened(w: &mut Walker, ss: &[Specifier]) -> Result<AggId, WalkStop> {
-    placed_in(ss, w.declarer.open_body(ss, &w.names, &mut w.types))
+pub fn opened(w: &mut Walker<'_>, ss: &[Specifier]) -> Result<AggId, WalkStop> {
+    placed_in(ss, w.declarer.open_body(ss, w.names, &mut w.types))
 }
 
 /// The type of a struct, union or enum behind its body, whose specifier begins with a token.
-pub fn closed(w: &mut Walker, at: u32, a: AggId) -> Result<QualType, WalkStop> {
-    placed(at, w.declarer.close_body(a, &mut w.names, &mut w.types))
+pub fn closed(w: &mut Walker<'_>, at: u32, a: AggId) -> Result<QualType, WalkStop> {
+    placed(
+        at,
+        w.declarer.close_body(a, w.names, &mut w.made, &mut w.types),
+    )
 }
 
 /// The token of the last name that the declarators of a member declaration declare.
@@ -76,7 +79,7 @@ pub fn last_member(ms: &[MemberDeclaration]) -> Option<u32> {
 
 /// Adds a member to a struct or union.
 pub fn add_member(
-    w: &mut Walker,
+    w: &mut Walker<'_>,
     a: AggId,
     last: Option<u32>,
     n: DeclaredName,
@@ -87,7 +90,7 @@ pub fn add_member(
     } else {
         MemberAt::Inner
     };
-    let name = NewName::of(n.name, &w.names);
+    let name = NewName::of(n.name, w.names);
     placed(n.at, w.declarer.member(a, name, ty, at, &w.types))
 }
 
@@ -147,7 +150,7 @@ fn offered(m: &MemberDeclaration, n: NameId) -> Option<u32> {
 
 /// A member declaration without a declarator: an anonymous struct or union (C11 6.7.2.1p13).
 pub fn add_anonymous(
-    w: &mut Walker,
+    w: &mut Walker<'_>,
     a: AggId,
     ss: &[Specifier],
     ty: QualType,
@@ -165,7 +168,7 @@ pub fn add_anonymous(
 }
 
 /// The token of the name that an anonymous member offers again.
-fn repeated_at(w: &Walker, ms: &[MemberDeclaration], first: u32) -> u32 {
+fn repeated_at(w: &Walker<'_>, ms: &[MemberDeclaration], first: u32) -> u32 {
     match w.declarer.repeated() {
         Some(n) => match offered_in(ms, n) {
             Some(at) => at,
@@ -204,14 +207,14 @@ fn placed_among<T>(places: Places, r: Result<T, RuleStop>) -> Result<T, WalkStop
 
 /// Declares a name (C11 6.7).
 pub fn declare(
-    w: &mut Walker,
+    w: &mut Walker<'_>,
     places: Places,
     n: NameId,
     ty: QualType,
     heading: Heading,
     form: Form,
 ) -> Result<Declared, WalkStop> {
-    let n = NewName::of(n, &w.names);
+    let n = NewName::of(n, w.names);
     placed_among(
         places,
         w.declarer.declare(n, ty, heading, form, &mut w.types),
@@ -235,7 +238,7 @@ fn bracketed(ds: &[Derivation]) -> Quals {
 
 /// Whether a parameter without a name is the `void` of an empty list (C11 6.7.6.3p10).
 fn is_nothing(
-    w: &Walker,
+    w: &Walker<'_>,
     base: QualType,
     ds: &[Derivation],
     heading: Heading,
@@ -255,7 +258,7 @@ fn is_nothing(
 
 /// The adjusted type of a parameter (C11 6.7.6.3p7, p8), which is declared where it has a name. None for the `void` of an empty list.
 pub fn declared_parameter(
-    w: &mut Walker,
+    w: &mut Walker<'_>,
     p: &Parameter,
     base: QualType,
     ds: &[Derivation],

@@ -117,7 +117,7 @@ pub fn star(bracket: u32, qs: &[Qualifier]) -> WalkStop {
 
 /// The value of an array's bound, whose first token is known: an integer constant expression (C11 6.7.6.2p1). Another expression of
 /// integer type that is not made of constants alone makes a variable length array.
-pub fn bound_value(w: &Walker, at: u32, e: &TypedExp) -> Result<i128, WalkStop> {
+pub fn bound_value(w: &Walker<'_>, at: u32, e: &TypedExp) -> Result<i128, WalkStop> {
     if let Some(v) = integer_constant(&w.types, e) {
         return Ok(v);
     }
@@ -129,7 +129,7 @@ pub fn bound_value(w: &Walker, at: u32, e: &TypedExp) -> Result<i128, WalkStop> 
 }
 
 /// The value of an integer constant expression whose first token is known (C11 6.6p6).
-pub fn constant_value(w: &Walker, at: u32, e: &TypedExp) -> Result<i128, WalkStop> {
+pub fn constant_value(w: &Walker<'_>, at: u32, e: &TypedExp) -> Result<i128, WalkStop> {
     match integer_constant(&w.types, e) {
         Some(v) => Ok(v),
         None => Err(violated(at, Code::NotConstant)),
@@ -137,7 +137,12 @@ pub fn constant_value(w: &Walker, at: u32, e: &TypedExp) -> Result<i128, WalkSto
 }
 
 /// The type that a derivation makes of a type.
-fn derived(w: &mut Walker, at: u32, of: QualType, d: &Derivation) -> Result<QualType, WalkStop> {
+fn derived(
+    w: &mut Walker<'_>,
+    at: u32,
+    of: QualType,
+    d: &Derivation,
+) -> Result<QualType, WalkStop> {
     match d {
         Derivation::Pointer(quals) => { placed(at, decl_types::pointer(of, *quals, &mut w.types)) }
         Derivation::Array(brackets) => {
@@ -158,7 +163,7 @@ fn derived(w: &mut Walker, at: u32, of: QualType, d: &Derivation) -> Result<Qual
 /// The type that a declarator gives to the type of its specifiers: its derivations, of which the innermost comes first, are applied from
 /// the outermost on (C11 6.7.6). Faults stand at the given token.
 pub fn built(
-    w: &mut Walker,
+    w: &mut Walker<'_>,
     at: u32,
     base: QualType,
     derivations: &[Derivation],

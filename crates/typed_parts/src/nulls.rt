@@ -67,7 +67,7 @@ fn is_zero(t: &Types, e: &TypedExp) -> bool {
 }
 
 /// Whether an expression is a null pointer constant (C11 6.3.2.3p3): 0, or 0 cast to `void *`.
-pub fn is_null(w: &Walker, source: &Expr, e: &TypedExp) -> bool {
+pub fn is_null(w: &Walker<'_>, source: &Expr, e: &TypedExp) -> bool {
     if is_integer(&w.types, e.ty().of) {
         return is_zero(&w.types, e);
     }
@@ -81,12 +81,12 @@ pub fn is_null(w: &Walker, source: &Expr, e: &TypedExp) -> bool {
 
 /// Whether an expression is a null pointer constant that stands beside an expression of another type. It is only asked beside
 /// pointers.
-pub fn is_null_beside(w: &Walker, source: &Expr, e: &TypedExp, other: TypeId) -> bool {
+pub fn is_null_beside(w: &Walker<'_>, source: &Expr, e: &TypedExp, other: TypeId) -> bool {
     is_pointer(&w.types, other) && is_null(w, source, e)
 }
 
 /// Whether a local is declared `register` (C11 6.7.1p6).
-fn is_register_local(w: &Walker, l: LocalId) -> bool {
+fn is_register_local(w: &Walker<'_>, l: LocalId) -> bool {
     let Some(local) = w.declarer.locals().get(l.0 as usize) else {
         return false;
     };
@@ -101,7 +101,7 @@ fn is_register_local(w: &Walker, l: LocalId) -> bool {
 
 /// Whether an expression is the array that decays to it, and that array is an object declared `register`, or a part of one.
 #[cycle(registers)]
-fn is_register_array(w: &Walker, e: &TypedExp) -> bool {
+fn is_register_array(w: &Walker<'_>, e: &TypedExp) -> bool {
     match e.node() {
         TypedNode::Decay(array) => is_register(w, array),
         _ => false,
@@ -110,7 +110,7 @@ fn is_register_array(w: &Walker, e: &TypedExp) -> bool {
 
 /// Whether an expression is an object declared `register`, or a part of one (C11 6.5.3.2p1).
 #[cycle(registers)]
-pub fn is_register(w: &Walker, e: &TypedExp) -> bool {
+pub fn is_register(w: &Walker<'_>, e: &TypedExp) -> bool {
     match e.node() {
         TypedNode::Local(l) => is_register_local(w, *l),
         TypedNode::Member(of, _, _) => is_register(w, of),
@@ -120,7 +120,7 @@ pub fn is_register(w: &Walker, e: &TypedExp) -> bool {
 }
 
 /// An operand that stands beside an expression of another type.
-pub fn beside(w: &Walker, source: &Expr, exp: TypedExp, other: TypeId) -> Operand {
+pub fn beside(w: &Walker<'_>, source: &Expr, exp: TypedExp, other: TypeId) -> Operand {
     let null = is_null_beside(w, source, &exp, other);
     Operand {
         exp,

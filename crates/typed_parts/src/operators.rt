@@ -26,7 +26,7 @@ fn placed_at_operand<T>(at: u32, operand: u32, r: Result<T, RuleStop>) -> Result
 
 /// `left [ right ]` (C11 6.5.2.1).
 pub fn subscript(
-    w: &mut Walker,
+    w: &mut Walker<'_>,
     at: u32,
     left: TypedExp,
     right: TypedExp,
@@ -43,7 +43,13 @@ pub fn subscript(
 }
 
 /// The token of the argument that may not be assigned to its parameter, or else that of the call (C11 6.5.2.2p2).
-fn argument_at(w: &Walker, at: u32, callee: &Operand, arguments: &[Operand], es: &[Expr]) -> u32 {
+fn argument_at(
+    w: &Walker<'_>,
+    at: u32,
+    callee: &Operand,
+    arguments: &[Operand],
+    es: &[Expr],
+) -> u32 {
     match cast_rules::first_unassignable(callee, arguments, &w.types) {
         Some(i) => match es.get(i) {
             Some(e) => expr_at(e),
@@ -55,7 +61,7 @@ fn argument_at(w: &Walker, at: u32, callee: &Operand, arguments: &[Operand], es:
 
 /// `callee ( arguments )` (C11 6.5.2.2).
 pub fn call(
-    w: &mut Walker,
+    w: &mut Walker<'_>,
     at: u32,
     callee: TypedExp,
     arguments: Vec<Operand>,
@@ -72,7 +78,7 @@ pub fn call(
 }
 
 /// The path to a member that a struct or union type offers (C11 6.5.2.3p1).
-fn member_path(w: &Walker, at: u32, of: TypeId, n: NameId) -> Result<MemberPath, WalkStop> {
+fn member_path(w: &Walker<'_>, at: u32, of: TypeId, n: NameId) -> Result<MemberPath, WalkStop> {
     match w.types.class(of) {
         Class::Agg(AggKind::Struct, a) | Class::Agg(AggKind::Union, a) => {
             match w.declarer.member_path(a, n, &w.types)? {
@@ -90,7 +96,12 @@ fn member_path(w: &Walker, at: u32, of: TypeId, n: NameId) -> Result<MemberPath,
 }
 
 /// The member at the end of a path (C11 6.7.2.1p13).
-fn along(w: &mut Walker, at: u32, of: TypedExp, path: &MemberPath) -> Result<TypedExp, WalkStop> {
+fn along(
+    w: &mut Walker<'_>,
+    at: u32,
+    of: TypedExp,
+    path: &MemberPath,
+) -> Result<TypedExp, WalkStop> {
     let mut e = of;
     for step in path.as_slice() {
         e = placed(
@@ -108,13 +119,13 @@ fn along(w: &mut Walker, at: u32, of: TypedExp, path: &MemberPath) -> Result<Typ
 }
 
 /// `e . name` (C11 6.5.2.3).
-pub fn member(w: &mut Walker, at: u32, of: TypedExp, n: NameId) -> Result<TypedExp, WalkStop> {
+pub fn member(w: &mut Walker<'_>, at: u32, of: TypedExp, n: NameId) -> Result<TypedExp, WalkStop> {
     let path = member_path(w, at, of.ty().of, n)?;
     along(w, at, of, &path)
 }
 
 /// What the value of an expression of a type points to.
-fn pointee(w: &Walker, of: TypeId) -> Option<QualType> {
+fn pointee(w: &Walker<'_>, of: TypeId) -> Option<QualType> {
     match w.types.class(of) {
         Class::Ptr(to) => Some(to),
         Class::Array(element, _) => Some(element),
@@ -123,7 +134,7 @@ fn pointee(w: &Walker, of: TypeId) -> Option<QualType> {
 }
 
 /// Why a type whose value is no pointer has no member: where it is incomplete, there is no value (C11 6.3.2.1p2).
-fn no_pointer(w: &Walker, of: TypeId) -> Code {
+fn no_pointer(w: &Walker<'_>, of: TypeId) -> Code {
     match w.types.class(of) {
         Class::Agg(..) if !w.types.is_complete(of) => Code::Incomplete,
         _ => Code::Member,
@@ -131,7 +142,12 @@ fn no_pointer(w: &Walker, of: TypeId) -> Code {
 }
 
 /// `e -> name` (C11 6.5.2.3).
-pub fn arrow(w: &mut Walker, at: u32, pointer: TypedExp, n: NameId) -> Result<TypedExp, WalkStop> {
+pub fn arrow(
+    w: &mut Walker<'_>,
+    at: u32,
+    pointer: TypedExp,
+    n: NameId,
+) -> Result<TypedExp, WalkStop> {
     let Some(to) = pointee(w, pointer.ty().of) else {
         return Err(violated(at, no_pointer(w, pointer.ty().of)));
     };
@@ -161,7 +177,7 @@ pub fn postfix_form(op: StepOp) -> StepForm {
 
 /// An increment or decrement (C11 6.5.2.4, 6.5.3.1) of an operand whose first token is known.
 pub fn step(
-    w: &mut Walker,
+    w: &mut Walker<'_>,
     at: u32,
     operand: u32,
     form: StepForm,
@@ -175,7 +191,7 @@ pub fn step(
 }
 
 /// `& e` (C11 6.5.3.2).
-fn address(w: &mut Walker, at: u32, operand: u32, exp: TypedExp) -> Result<TypedExp, WalkStop> {
+fn address(w: &mut Walker<'_>, at: u32, operand: u32, exp: TypedExp) -> Result<TypedExp, WalkStop> {
     let register = is_register(w, &exp);
     let e = Operand {
         exp,
@@ -187,7 +203,7 @@ fn address(w: &mut Walker, at: u32, operand: u32, exp: TypedExp) -> Result<Typed
 
 /// A unary operator before its operand (C11 6.5.3.2, 6.5.3.3), whose first token is known.
 pub fn unary(
-    w: &mut Walker,
+    w: &mut Walker<'_>,
     at: u32,
     operand: u32,
     op: UnaryOp,
@@ -218,12 +234,22 @@ pub fn unary(
 }
 
 /// `sizeof` of a type (C11 6.5.3.4), whose operand begins with a token.
-pub fn size_of(w: &mut Walker, at: u32, operand: u32, of: TypeId) -> Result<TypedExp, WalkStop> {
+pub fn size_of(
+    w: &mut Walker<'_>,
+    at: u32,
+    operand: u32,
+    of: TypeId,
+) -> Result<TypedExp, WalkStop> {
     placed_at_type(at, operand, cast_rules::size_of(w.alloc, of, &mut w.types))
 }
 
 /// `_Alignof` of a type (C11 6.5.3.4).
-pub fn align_of(w: &mut Walker, at: u32, operand: u32, of: TypeId) -> Result<TypedExp, WalkStop> {
+pub fn align_of(
+    w: &mut Walker<'_>,
+    at: u32,
+    operand: u32,
+    of: TypeId,
+) -> Result<TypedExp, WalkStop> {
     placed_at_type(at, operand, cast_rules::align_of(w.alloc, of, &mut w.types))
 }
 
@@ -238,7 +264,7 @@ fn placed_at_type<T>(at: u32, operand: u32, r: Result<T, RuleStop>) -> Result<T,
 }
 
 /// `( type ) e` (C11 6.5.4).
-pub fn cast(w: &mut Walker, at: u32, to: TypeId, e: TypedExp) -> Result<TypedExp, WalkStop> {
+pub fn cast(w: &mut Walker<'_>, at: u32, to: TypeId, e: TypedExp) -> Result<TypedExp, WalkStop> {
     if is_void_pointer(&w.types, to) && is_integer(&w.types, e.ty().of) {
         w.void_casts.insert(at)?;
     }
@@ -255,7 +281,7 @@ fn takes_null(op: BinOp) -> bool {
 
 /// A binary operator between its operands (C11 6.5.5 to 6.5.12).
 pub fn binary(
-    w: &mut Walker,
+    w: &mut Walker<'_>,
     at: u32,
     op: BinOp,
     a: TypedExp,
@@ -280,7 +306,7 @@ pub fn binary(
 
 /// `a && b`, `a || b` (C11 6.5.13, 6.5.14).
 pub fn logical(
-    w: &mut Walker,
+    w: &mut Walker<'_>,
     at: u32,
     op: LogicalOp,
     a: TypedExp,
@@ -304,7 +330,7 @@ pub fn logical(
 
 /// `test ? a : b` (C11 6.5.15).
 pub fn conditional(
-    w: &mut Walker,
+    w: &mut Walker<'_>,
     at: u32,
     test: TypedExp,
     a: TypedExp,
@@ -331,7 +357,7 @@ pub fn conditional(
 
 /// `place = value`, `place op= value` (C11 6.5.16).
 pub fn assign(
-    w: &mut Walker,
+    w: &mut Walker<'_>,
     at: u32,
     op: Option<BinOp>,
     place: TypedExp,
@@ -346,7 +372,7 @@ pub fn assign(
 }
 
 /// `a , b` (C11 6.5.17).
-pub fn comma(w: &mut Walker, at: u32, a: TypedExp, b: TypedExp) -> Result<TypedExp, WalkStop> {
+pub fn comma(w: &mut Walker<'_>, at: u32, a: TypedExp, b: TypedExp) -> Result<TypedExp, WalkStop> {
     placed(
         at,
         cast_rules::comma(w.alloc, Operand::plain(a), Operand::plain(b), &mut w.types),
@@ -355,7 +381,7 @@ pub fn comma(w: &mut Walker, at: u32, a: TypedExp, b: TypedExp) -> Result<TypedE
 
 /// A value converted as by assignment (C11 6.5.16.1), whose faults stand at its first token.
 pub fn convert(
-    w: &mut Walker,
+    w: &mut Walker<'_>,
     to: TypeId,
     source: &Expr,
     exp: TypedExp,

@@ -1,6 +1,6 @@
 use crate::stops::{WalkStop, impossible};
 use cil_base::{EntityId, NamePool};
-use decl_types::Declarer;
+use decl_types::{Declarer, MadeNames};
 use indexmap::IndexSet;
 use std::alloc::Global;
 use type_graph::QualType;
@@ -35,9 +35,11 @@ pub struct Site {
 
 /// The walk of a unit: what it has declared and made so far.
 #[derive(Drop)]
-pub struct Walker {
+pub struct Walker<'a> {
     pub alloc: Global,
-    pub names: NamePool,
+    /// The names that the pool had before the walk.
+    pub names: &'a NamePool,
+    pub made: MadeNames,
     pub types: Types,
     pub declarer: Declarer,
     /// By the number of its entity.
@@ -62,12 +64,13 @@ impl Site {
     }
 }
 
-impl Walker {
+impl<'a> Walker<'a> {
     /// The walk before the first external declaration. It holds the names of the unit.
-    pub fn new(alloc: Global, names: NamePool, types: Types, declarer: Declarer) -> Self {
+    pub fn new(alloc: Global, names: &'a NamePool, types: Types, declarer: Declarer) -> Self {
         Walker {
             alloc,
             names,
+            made: MadeNames::new(alloc, names),
             types,
             declarer,
             sites: Vec::new(alloc),
