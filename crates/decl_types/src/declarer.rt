@@ -45,14 +45,22 @@ fn memset_type(alloc: Global, t: &mut Types) -> Result<QualType, RuleStop> {
     function(alloc, address, &params, Prototype::Fixed, t)
 }
 
+/// The numbers of `__builtin_memset` and of the base of the names of literals.
+#[tactic(auto, using(cil_base::proofs::PoolLemmas::stays_then))]
+fn memset_and_base(names: &mut NamePool) -> Result<(NameId, NameId), Memory>
+    ensures { Stays names.old names.new }
+{
+    let memset = names.intern(b"__builtin_memset")?;
+    let bases = names.bases()?;
+    Ok((memset, bases.literal))
+}
+
 impl Declarer {
     /// The declaration of `__builtin_memset`, which stands in front of every unit, with number 0.
-    #[tactic(auto, using(cil_base::proofs::PoolLemmas::stays_then))]
     pub fn new(alloc: Global, names: &mut NamePool, t: &mut Types) -> Result<Declarer, RuleStop>
         ensures stays { Stays names.old names.new }
     {
-        let memset = names.intern(b"__builtin_memset")?;
-        let literal = names.bases()?.literal;
+        let (memset, literal) = memset_and_base(names)?;
         let mut d = Declarer {
             names: Scopes::new(alloc),
             tags: Scopes::new(alloc),

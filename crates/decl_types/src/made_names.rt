@@ -51,9 +51,8 @@ impl MadeNames {
         }
     }
 
-    /// The name of the next k.
-    fn make(&mut self, names: &NamePool) -> Result<NameId, Memory> {
-        let k = self.known.len() as u32;
+    /// The name of k, for which none was asked before.
+    fn make(&mut self, k: u32, names: &NamePool) -> Result<NameId, Memory> {
         let text = made_text(self.alloc, k)?;
         match names.find(&text) {
             Some(name) => {
@@ -77,7 +76,7 @@ impl MadeNames {
     fn number(&mut self, k: u32, names: &NamePool) -> Result<NameId, Memory> {
         match self.known.get(k as usize) {
             Some(name) => Ok(*name),
-            None => self.make(names),
+            None => self.make(k, names),
         }
     }
 
