@@ -37,7 +37,7 @@ use std::marker::Model;
 use type_graph::{AggKind, Member, Members, Node, TypeGraph};
 
 /// What a type is that may have a value of its own in an image.
-#[derive(Clone, Copy, Debug, PartialEq, Eq)]
+#[derive(Clone, Copy)]
 pub(crate) enum Scalar {
     /// A value of an integer type; that of an enumerated type is one of `int`.
     Int(IntKind),
