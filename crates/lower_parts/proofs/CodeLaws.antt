@@ -21,10 +21,11 @@ use Rattle.cil_tree.specs.declared.statements.Stmt.{Stmt, Instr as Do}
 use Rattle.cil_tree.specs.Tree as plain
 use Rattle.cil_tree.specs.View.{exp_of, lval_of, host_of, offsets_of}
 use Rattle.cil_nodes.specs.Built.{IsConst, IsValue, IsBin, IsAddress, IsCast, IsAt, IsIf, IsField, IsElement, part_of, joined}
+use Rattle.cil_nodes.proofs.Made.{field_is, element_is}
 use Rattle.lower_parts.specs.declared.places.Kept.{Kept}
 use Rattle.lower_parts.specs.declared.places.Kept.TheVariants.{Global as ToGlobal, Local as ToLocal, Behind}
 use Rattle.lower_parts.specs.declared.results.Computing.{Computing}
-use Rattle.lower_parts.specs.Code.{Extends, IsVariable, Saves, Reads, IsLeft, any_effect, before_last, IsCallee, CallsFor, is_variable, address, IsAddressOf, kept_place, Names, PutsAddress, Keeps, IsLeftPlace, IsConverted, Computes, Chooses, IsTruth, Decides, step_before, offsets_on, IsStep, IsPart, Clears}
+use Rattle.lower_parts.specs.Code.{Extends, IsVariable, Saves, Reads, IsLeft, any_effect, before_last, IsCallee, CallsFor, is_variable, address, IsAddressOf, kept_place, Names, PutsAddress, Keeps, IsLeftPlace, IsConverted, Computes, Chooses, IsTruth, Decides, step_before, offsets_on, IsStep, IsPart, StoresPart, Clears}
 use Rattle.lower_parts.specs.Hosts.{IsHostAddress, IsWhole, is_behind}
 
 pub extends_none : (old new : List Stmt) → new ≡ old → Extends old new
@@ -255,6 +256,12 @@ field_step l m i f = record { at = λ nodes more. ap (λ p. part_of p more) (f.a
 pub element_step : (l m : Lval) (i : ℕ) (e : Exp) → IsConst int i e → IsElement l e m → IsStep l (ToIndex i) m
 element_step l m i e c f = record { at = λ nodes more. ap (λ p. part_of p more) (f.at nodes) ∙ part_twice (lval_of nodes l) (plain.Index (exp_of nodes e) plain.Here) more ∙ ap (λ x. part_of (lval_of nodes l) (plain.Index x more)) (c.at nodes) }
 
+pub field_put : (l m : Lval) (i : ℕ) → m.host ≡ l.host → m.offsets.items ≡ l.offsets.items ++ Field i ∷ [] → IsStep l (ToField i) m
+field_put l m i host is = field_step l m i (field_is l m i host is)
+
+pub element_put : (l m : Lval) (i : ℕ) (e : Exp) (x : Offset) → IsConst int i e → ((nodes : List Node) → offsets_of nodes (x ∷ []) ≡ plain.Index (exp_of nodes e) plain.Here) → m.host ≡ l.host → m.offsets.items ≡ l.offsets.items ++ x ∷ [] → IsStep l (ToIndex i) m
+element_put l m i e x c step host is = element_step l m i e c (element_is l m e x step host is)
+
 -- the offsets from one on
 on_next : (path : List Step) (i : ℕ) (d : Step) → i < length path → offsets_on (drop i path) ≡ step_before (get_or path i d) (offsets_on (drop (suc i) path))
 on_next [] i d h = absurd (omega arith)
@@ -288,6 +295,9 @@ steps n path i d l m h step way nodes =
 
 pub arrives : (n : LocalId) (path : List Step) (i : ℕ) (l : Lval) → length path ≤ i → ((nodes : List Node) → part_of (lval_of nodes l) (offsets_on (drop i path)) ≡ plain.Place (plain.Var n.0) (offsets_on path)) → IsPart n path l
 arrives n path i l h way = record { at = λ nodes. sym (part_end (lval_of nodes l)) ∙ sym (ap (part_of (lval_of nodes l)) (on_end path i h)) ∙ way nodes }
+
+pub stores_part : (n : LocalId) (path : List Step) (x : Exp) (place : Lval) (old new : List Stmt) → IsPart n path place → new ≡ old ++ Do (Set place x) ∷ [] → StoresPart n path x old new
+stores_part n path x place old new part is = record { place = place; part = part; is = is }
 
 pub clears_part : (n : LocalId) (path : List Step) (place : Lval) (old new : List Stmt) → IsPart n path place → new ≡ old ++ Do (Zero place) ∷ [] → Clears n path old new
 clears_part n path place old new part is = record { place = place; part = part; is = is }

@@ -175,6 +175,12 @@ pub record IsStep (l : Lval) (step : Step) (m : Lval) : Type 0 where
 pub record IsPart (n : LocalId) (path : List Step) (place : Lval) : Type 0 where
   pub at : (nodes : List Node) → lval_of nodes place ≡ plain.Place (plain.Var n.0) (offsets_on path)
 
+-- a value is stored in the part of a local to which a path leads, behind code
+pub record StoresPart (n : LocalId) (path : List Step) (x : Exp) (old new : List Stmt) : Type 0 where
+  pub place : Lval
+  pub part : IsPart n path place
+  pub is : new ≡ old ++ Do (Set place x) ∷ []
+
 -- the part of a local to which a path leads is made zero, behind code
 pub record Clears (n : LocalId) (path : List Step) (old new : List Stmt) : Type 0 where
   pub place : Lval

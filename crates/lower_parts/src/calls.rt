@@ -8,7 +8,7 @@ use crate::output::FunctionOut;
 use crate::places::{saved, value_of, variable};
 use cil_base::{EntityId, LocalId, Memory, TypeId};
 use cil_nodes::direct;
-use cil_tree::{Callee, Exp, Instr, Stmt};
+use cil_tree::{Callee, Exp, Instr, Lval, Stmt};
 use typed_tree::{TypedExp, TypedNode};
 
 /// The place of an argument that has an effect, or that of the one before it which has.
@@ -93,8 +93,24 @@ pub fn by_pointer(
     Ok(Callee::Through(value_of(f.alloc, n)))
 }
 
+/// Puts a call behind code, with the place for its result.
+#[tactic(auto, using(crate::proofs::CodeLaws::extends_one))]
+fn put_call(
+    place: Option<Lval>,
+    callee: Callee,
+    arguments: Vec<Exp>,
+    out: &mut Vec<Stmt>,
+) -> Result<(), Memory>
+    ensures calls { OnOk result (out.new.items ≡ out.old.items ++ stmt.Instr (instr.Call place callee arguments) ∷ []) }
+    ensures grows { OnOk result (Extends out.old.items out.new.items) }
+{
+    out.reserve(1)?;
+    out.push_reserved(Stmt::Instr(Instr::Call(place, callee, arguments)));
+    Ok(())
+}
+
 /// Calls, and stores the result in a new temporary of its type.
-#[tactic(auto, using(crate::proofs::CodeLaws::calls_for, crate::proofs::CodeLaws::extends_one))]
+#[tactic(auto, using(crate::proofs::CodeLaws::calls_for))]
 pub fn call_for_value(
     f: &mut FunctionOut,
     t: TypeId,
@@ -107,12 +123,11 @@ pub fn call_for_value(
 {
     let n = f.add_unnamed(t)?;
     let place = variable(f.alloc, n);
-    out.push(Stmt::Instr(Instr::Call(Some(place), callee, arguments)))?;
+    put_call(Some(place), callee, arguments, out)?;
     Ok(n)
 }
 
 /// Calls, and drops the result.
-#[tactic(auto, using(crate::proofs::CodeLaws::extends_one))]
 pub fn call_for_effect(
     callee: Callee,
     arguments: Vec<Exp>,
@@ -121,8 +136,7 @@ pub fn call_for_effect(
     ensures calls { OnOk result (out.new.items ≡ out.old.items ++ stmt.Instr (instr.Call None callee arguments) ∷ []) }
     ensures grows { OnOk result (Extends out.old.items out.new.items) }
 {
-    out.push(Stmt::Instr(Instr::Call(None, callee, arguments)))?;
-    Ok(())
+    put_call(None, callee, arguments, out)
 }
 
 /// The value of an argument, saved where one behind it has an effect.

@@ -19,11 +19,12 @@ pub use calls::{
 pub use output::{FunctionOut, UnitOut};
 pub use places::{
     Kept, address_of, clear, decayed, element, element_at, is_part, keep, left_place, left_value,
-    member, member_of_value, named, part, part_type, read, saved, store, value_of, variable,
+    member, member_of_value, named, part, part_type, read, saved, store, store_part, value_of,
+    variable,
 };
 pub use results::{
-    Computing, choose, compute, computes, constant_of, converted, converted_from,
-    converted_operand, decide, old_value, short_circuit, short_circuit_effects, step, step_op,
-    stepped, value_at,
+    Computing, binary_operand, choose, compute, computes, constant_of, constant_operand, converted,
+    converted_from, converted_operand, decide, old_value, short_circuit, short_circuit_effects,
+    step, step_op, stepped, value_at,
 };
 pub use shapes::{element_of, impossible, is_void, param_of, result_of};

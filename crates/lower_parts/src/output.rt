@@ -90,10 +90,9 @@ impl FunctionOut {
         if number >= u32::MAX as usize {
             return Err(Memory);
         }
-        self.locals.push(Local {
-            name: self.unit.bases.temporary,
-            ty,
-        })?;
+        let name = self.unit.bases.temporary;
+        self.locals.reserve(1)?;
+        self.locals.push_reserved(Local { name, ty });
         Ok(LocalId(number as u32))
     }
 
@@ -139,6 +138,13 @@ impl FunctionOut {
         Ok(whole(self.alloc, at(it)))
     }
 
+    /// The value of an object, printed with one type, at another, in its box.
+    #[inline(never)]
+    fn retyped_operand(&mut self, host: Host, to: TypeId) -> Result<Box<Exp>, Memory> {
+        let place = self.retyped(host, to)?;
+        boxed(self.alloc, value(place))
+    }
+
     /// The place of a parameter or a declared object, at the type that it has in an expression.
     pub fn local_place(&mut self, n: LocalId, t: TypeId) -> Result<Lval, Memory> {
         if self.local_type(n)? == t {
@@ -160,13 +166,20 @@ impl FunctionOut {
 
     /// The value of a parameter or a declared object, at the type that it has in an expression, in its box.
     pub fn local_operand(&mut self, n: LocalId, t: TypeId) -> Result<Box<Exp>, Memory> {
-        let place = self.local_place(n, t)?;
-        boxed(self.alloc, value(place))
+        if self.local_type(n)? == t {
+            boxed(self.alloc, value(whole(self.alloc, Host::Var(n))))
+        } else {
+            self.retyped_operand(Host::Var(n), t)
+        }
     }
 
     /// The value of an object with static storage duration, at the type that it has in an expression, in its box.
     pub fn global_operand(&mut self, n: EntityId, t: TypeId) -> Result<Box<Exp>, Memory> {
-        let place = self.global_place(n, t)?;
-        boxed(self.alloc, value(place))
+        let host = Host::Global(self.unit.number(n)?);
+        if self.unit.printed(n)? == t {
+            boxed(self.alloc, value(whole(self.alloc, host)))
+        } else {
+            self.retyped_operand(host, t)
+        }
     }
 }

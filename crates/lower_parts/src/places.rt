@@ -4,7 +4,7 @@ ghost use Rattle.cil_tree.specs.View.{lval_of};
 ghost use Rattle.cil_tree.specs.declared.statements.Instr.TheVariants as instr;
 ghost use Rattle.cil_tree.specs.declared.statements.Stmt.TheVariants as stmt;
 ghost use Rattle.cil_nodes.specs.Built.{IsValue, IsField, IsElement};
-ghost use Rattle.lower_parts.specs.Code.{Extends, IsVariable, Saves, Reads, IsLeft, IsLeftPlace, IsAddressOf, is_variable, Names, Keeps, IsStep, IsPart, Clears};
+ghost use Rattle.lower_parts.specs.Code.{Extends, IsVariable, Saves, Reads, IsLeft, IsLeftPlace, IsAddressOf, is_variable, Names, Keeps, IsStep, IsPart, StoresPart, Clears};
 ghost use Rattle.lower_parts.specs.Hosts.{IsHostAddress, IsWhole};
 
 use crate::output::FunctionOut;
@@ -13,7 +13,7 @@ use cil_base::{BinOp, EntityId, IntKind, LocalId, Memory, TypeId};
 use cil_nodes::{
     add_element, add_field, address, at, binary, boxed, constant, start, value, whole, zero,
 };
-use cil_tree::{Exp, Host, Instr, Lval, Stmt};
+use cil_tree::{Exp, Host, Instr, Lval, Offset, Stmt};
 use std::alloc::Global;
 use typed_tree::{Path, Step, TypedExp, TypedNode};
 
@@ -71,7 +71,8 @@ pub fn store(place: Lval, x: Exp, out: &mut Vec<Stmt>) -> Result<(), Memory>
     ensures stores { OnOk result (out.new.items ≡ out.old.items ++ stmt.Instr (instr.Set place x) ∷ []) }
     ensures grows { OnOk result (Extends out.old.items out.new.items) }
 {
-    out.push(Stmt::Instr(Instr::Set(place, x)))?;
+    out.reserve(1)?;
+    out.push_reserved(Stmt::Instr(Instr::Set(place, x)));
     Ok(())
 }
 
@@ -256,16 +257,26 @@ pub fn is_part(e: &TypedExp) -> bool {
     }
 }
 
+/// Puts a step behind those of a place.
+fn put_offset(place: &mut Lval, step: Offset) -> Result<(), Memory>
+    ensures host { OnOk result (place.new.host ≡ place.old.host) }
+    ensures offsets { OnOk result (place.new.offsets.items ≡ place.old.offsets.items ++ step ∷ []) }
+{
+    place.offsets.reserve(1)?;
+    place.offsets.push_reserved(step);
+    Ok(())
+}
+
 /// Steps from a place into a part of it.
-#[tactic(auto, using(crate::proofs::CodeLaws::field_step, crate::proofs::CodeLaws::element_step))]
+#[tactic(auto, using(crate::proofs::CodeLaws::field_put, crate::proofs::CodeLaws::element_put))]
 fn step_into(alloc: Global, place: &mut Lval, step: Step) -> Result<(), Memory>
     ensures { OnOk result (IsStep place.old step place.new) }
 {
     match step {
-        Step::Field(i) => add_field(place, i),
+        Step::Field(i) => put_offset(place, Offset::Field(i)),
         Step::Index(i) => {
             let index = boxed(alloc, constant(IntKind::Int, i))?;
-            add_element(place, index)
+            put_offset(place, Offset::Index(index))
         }
     }
 }
@@ -292,13 +303,30 @@ pub fn part(alloc: Global, n: LocalId, path: &[Step]) -> Result<Lval, Memory>
     Ok(place)
 }
 
+/// Stores a value in the part of a local to which a path leads.
+#[tactic(auto, using(crate::proofs::CodeLaws::stores_part))]
+pub fn store_part(
+    alloc: Global,
+    n: LocalId,
+    path: &[Step],
+    x: Exp,
+    out: &mut Vec<Stmt>,
+) -> Result<(), Memory>
+    ensures stores { OnOk result (StoresPart n path.now x out.old.items out.new.items) }
+    ensures grows { OnOk result (Extends out.old.items out.new.items) }
+{
+    let place = part(alloc, n, path)?;
+    store(place, x, out)
+}
+
 /// Makes each byte of a place zero.
 #[tactic(auto, using(crate::proofs::CodeLaws::extends_one))]
 fn fill(place: Lval, out: &mut Vec<Stmt>) -> Result<(), Memory>
     ensures fills { OnOk result (out.new.items ≡ out.old.items ++ stmt.Instr (instr.Zero place) ∷ []) }
     ensures grows { OnOk result (Extends out.old.items out.new.items) }
 {
-    out.push(Stmt::Instr(zero(place)))?;
+    out.reserve(1)?;
+    out.push_reserved(Stmt::Instr(zero(place)));
     Ok(())
 }
 

@@ -1,7 +1,8 @@
 ghost use Rattle.std.specs.Prelude.{IfOk, OnOk};
+ghost use Rattle.cil_nodes.specs.Built.{IsBin};
 ghost use Rattle.lower_parts.specs.Code.{Extends, IsConverted, Computes, Chooses, IsTruth, Decides, IsShort, IsShortEffect};
 
-use crate::constants::integer;
+use crate::constants::{integer, integer_operand};
 use crate::output::FunctionOut;
 use crate::places::{Kept, named, read, saved, store, value_of, variable};
 use crate::shapes::{impossible, kind_of};
@@ -15,6 +16,26 @@ use typed_tree::{Logic, StepForm, TypedExp};
 pub fn constant_of(f: &FunctionOut, t: TypeId, n: i128) -> Result<Exp, Memory> {
     match kind_of(&f.unit.graph, t) {
         Some(kind) => integer(f.alloc, kind, t, n),
+        None => Err(impossible()),
+    }
+}
+
+/// A binary operator between operands, in its box.
+pub fn binary_operand(
+    alloc: Global,
+    op: BinOp,
+    left: Box<Exp>,
+    right: Box<Exp>,
+) -> Result<Box<Exp>, Memory>
+    ensures { IfOk result (λ b. IsBin op left.value right.value b.value) }
+{
+    Ok(Box::new(alloc, binary(op, left, right))?)
+}
+
+/// A constant of an integer type, in its box.
+pub fn constant_operand(f: &FunctionOut, t: TypeId, n: i128) -> Result<Box<Exp>, Memory> {
+    match kind_of(&f.unit.graph, t) {
+        Some(kind) => integer_operand(f.alloc, kind, t, n),
         None => Err(impossible()),
     }
 }
@@ -205,7 +226,8 @@ pub fn choose(
     ensures chooses { OnOk result (Chooses test holds.items fails.items out.old.items out.new.items) }
     ensures grows { OnOk result (Extends out.old.items out.new.items) }
 {
-    out.push(Stmt::If(test, holds, fails))?;
+    out.reserve(1)?;
+    out.push_reserved(Stmt::If(test, holds, fails));
     Ok(())
 }
 
