@@ -5,12 +5,12 @@ use cil_base::{BinOp, Bytes, IntKind, LocalId, Memory, TypeId};
 use cil_nodes::{at, binary, boxed, cast, constant, unary, whole};
 use cil_tree::{Callee, Exp, Lval, Stmt};
 use lower_parts::{
-    Computing, FunctionOut, Kept, address_of, argument, before_effects, by_name, by_pointer,
-    call_for_effect, call_for_value, called_by_name, choose, clear, compute, computes, constant_of,
-    converted_from, converted_operand, decayed, decide, element, element_at, element_of,
-    impossible, is_part, is_void, keep, left_place, left_value, member, member_of_value, named,
-    old_value, part, part_type, read, saved, short_circuit, short_circuit_effects, step, step_op,
-    stepped, store, value_at, value_of, variable,
+    Computing, FunctionOut, Kept, address_of, argument, before_effects, binary_operand, by_name,
+    by_pointer, call_for_effect, call_for_value, called_by_name, choose, clear, compute, computes,
+    constant_of, constant_operand, converted_from, converted_operand, decayed, decide, element,
+    element_at, element_of, impossible, is_part, is_void, keep, left_place, left_value, member,
+    member_of_value, named, old_value, part, part_type, read, saved, short_circuit,
+    short_circuit_effects, step, step_op, stepped, store, store_part, value_at, value_of, variable,
 };
 use typed_tree::{InitStep, Path, StepForm, TypedExp, TypedInit, TypedNode};
 
@@ -150,8 +150,8 @@ fn conversion(
 /// The value of an integer constant, in its box.
 #[inline(never)]
 fn integer_operand(f: &FunctionOut, e: &TypedExp, n: i128) -> Result<Box<Exp>, Memory> {
-    let x = integer(f, e, n)?;
-    boxed(f.alloc, x)
+    let t = f.type_of(e)?;
+    constant_operand(f, t, n)
 }
 
 /// The value of an operand, in its box. What stands most often in one is made there at once.
@@ -170,7 +170,7 @@ fn operand(f: &mut FunctionOut, e: &TypedExp, out: &mut Vec<Stmt>) -> Result<Box
         TypedNode::Binary(op, a, b) => {
             let x = left(f, a, b, out)?;
             let y = operand(f, b, out)?;
-            boxed(f.alloc, binary(*op, x, y))
+            binary_operand(f.alloc, *op, x, y)
         }
         TypedNode::Convert(a) => {
             let t = f.type_of(e)?;
@@ -231,6 +231,7 @@ fn operand_at(f: &mut FunctionOut, p: &TypedExp, out: &mut Vec<Stmt>) -> Result<
 }
 
 /// The value of a left operand, saved where the other operand has an effect.
+#[inline(always)]
 #[cycle(lower)]
 #[tactic(auto, using(lower_parts::proofs::CodeLaws::extends_twice, lower_parts::proofs::CodeLaws::extends_none))]
 fn left(
@@ -413,9 +414,10 @@ fn values(
     let count = before_effects(arguments);
     let mut done = Vec::with_capacity(f.alloc, arguments.len())?;
     for i in 0..arguments.len() {
+        done.reserve(1)?;
         let x = value(f, &arguments[i], out)?;
         let x = argument(f, &arguments[i], x, i < count, out)?;
-        done.push(x)?;
+        done.push_reserved(x);
     }
     Ok(done)
 }
@@ -652,8 +654,7 @@ pub fn initialise(
             InitStep::Zero(path) => clear(f.alloc, n, path.as_slice(), out)?,
             InitStep::Scalar(path, e) | InitStep::Aggregate(path, e) => {
                 let x = value(f, e, out)?;
-                let place = part(f.alloc, n, path.as_slice())?;
-                store(place, x, out)?;
+                store_part(f.alloc, n, path.as_slice(), x, out)?;
             }
             InitStep::Bytes(path, bytes) => store_bytes(f, n, path, bytes, out)?,
             InitStep::Constant(..) => return Err(impossible()),

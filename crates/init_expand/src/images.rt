@@ -153,11 +153,12 @@ fn numbered(numbers: &[Option<EntityId>], value: Constant) -> Result<Constant, M
     }
 }
 
-/// The steps of a path, with room for one more.
-fn path_of(alloc: Global, path: &[typed_tree::Step]) -> Result<Vec<Step>, Memory> {
-    let mut steps = Vec::with_capacity(alloc, path.len().saturating_add(1))?;
+/// The steps of a path, with room for so many more.
+fn path_of(alloc: Global, path: &[typed_tree::Step], more: usize) -> Result<Vec<Step>, Memory> {
+    let mut steps = Vec::with_capacity(alloc, path.len().saturating_add(more))?;
     for step in path {
-        steps.push(plain_step(*step))?;
+        steps.reserve(1)?;
+        steps.push_reserved(plain_step(*step));
     }
     Ok(steps)
 }
@@ -192,11 +193,14 @@ fn part(steps: &[InitStep], number: usize) -> Result<&Path, Memory> {
 /// The path of a scalar that is given a value.
 fn scalar_path(alloc: Global, steps: &[InitStep], given: Given) -> Result<Vec<Step>, Memory> {
     let part = part(steps, given.step)?;
-    let mut path = path_of(alloc, part.as_slice())?;
-    if let Some(i) = given.element {
-        path.push(Step::Index(i))?;
+    match given.element {
+        Some(i) => {
+            let mut path = path_of(alloc, part.as_slice(), 1)?;
+            path.push(Step::Index(i))?;
+            Ok(path)
+        }
+        None => path_of(alloc, part.as_slice(), 0),
     }
-    Ok(path)
 }
 
 /// A scalar of an image, from what a step gives it.

@@ -23,7 +23,8 @@ pub(crate) struct Frame {
 fn put(s: Stmt, out: &mut Vec<Stmt>) -> Result<(), Memory>
     ensures { OnOk result (out.new.items ≡ out.old.items ++ s ∷ []) }
 {
-    out.push(s)?;
+    out.reserve(1)?;
+    out.push_reserved(s);
     Ok(())
 }
 
