@@ -1,4 +1,5 @@
 ghost use Rattle.std.specs.Prelude.{◌≡◌, Bool, List, None, map, OnOk, IfOk, IfErr};
+ghost use Rattle.cil_base.specs.NamePool.{Stays};
 ghost use Rattle.link_names.specs.Linked.{AreLinks};
 ghost use Rattle.link_names.specs.Linking.{Linked, declared_from, grouped, first_twice};
 ghost use Rattle.cil_merge.specs.Listing.{mark};
@@ -90,7 +91,8 @@ fn merged(
     names: &mut NamePool,
     mode: Mode,
 ) -> Result<CilUnit, Memory>
-    ensures { IfOk result (IsNamedAndJoined (map (λ l. l.name) links.now.names.items) names.new classes.now units.items) }
+    ensures stays { Stays names.old names.new }
+    ensures merged { IfOk result (IsNamedAndJoined (map (λ l. l.name) links.now.names.items) names.new classes.now units.items) }
 {
     let mut units = units;
     rename(alloc, &mut units, links, classes, names)?;
@@ -126,6 +128,7 @@ pub fn merge(
     names: &mut NamePool,
     mode: Mode,
 ) -> Result<CilUnit, Stop>
+    ensures stays { Stays names.old names.new }
     ensures once { OnOk result (first_twice mode.common (grouped (declared_from 0 units.items)) ≡ None) }
     ensures correspond { OnOk result (Correspond names.old (graphs_of units.items) (grouped (declared_from 0 units.items))) }
     ensures merged { IfOk result (IsMerged mode.common names.old names.new units.items) }

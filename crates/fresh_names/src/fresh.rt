@@ -22,7 +22,7 @@ fn suffixed(
     base: NameId,
     number: u32,
 ) -> Result<NameId, Memory>
-    ensures stays { OnOk result (Stays names.old names.new) }
+    ensures stays { Stays names.old names.new }
     ensures text { IfOk result (λ n. IsSuffixed names.new base n number) }
 {
     if base.0 >= names.len() {
@@ -124,7 +124,7 @@ impl Fresh {
         base: NameId,
         from: u32,
     ) -> Result<(NameId, u32), Memory>
-        ensures stays { OnOk result (Stays names.old names.new) }
+        ensures stays { Stays names.old names.new }
         ensures least { IfOk result (λ r. IsLeastFrom self.now.taken.keys names.new base from r.0 r.1) }
     {
         for number in from..u32::MAX {
@@ -152,7 +152,8 @@ impl Fresh {
     #[tactic(auto, using(crate::proofs::NamingLaws::made_given))]
     fn make(&mut self, names: &mut NamePool, base: NameId) -> Result<NameId, Memory>
         requires ready { IsReady self.old names.old }
-        ensures { IfOk result (Gives self.old.taken.keys self.new.taken.keys self.new.next.entries names.old names.new (Made base)) }
+        ensures stays { Stays names.old names.new }
+        ensures gives { IfOk result (Gives self.old.taken.keys self.new.taken.keys self.new.next.entries names.old names.new (Made base)) }
     {
         let from = self.start(base);
         let (name, number) = self.free_from(names, base, from)?;
@@ -164,7 +165,8 @@ impl Fresh {
     #[tactic(auto, using(crate::proofs::NamingLaws::kept_given, crate::proofs::NamingLaws::again_given))]
     pub fn give(&mut self, names: &mut NamePool, wish: Wish) -> Result<NameId, Memory>
         requires ready { IsReady self.old names.old }
-        ensures { IfOk result (Gives self.old.taken.keys self.new.taken.keys self.new.next.entries names.old names.new wish) }
+        ensures stays { Stays names.old names.new }
+        ensures gives { IfOk result (Gives self.old.taken.keys self.new.taken.keys self.new.next.entries names.old names.new wish) }
     {
         match wish {
             Wish::Made(base) => self.make(names, base),
@@ -182,7 +184,8 @@ impl Fresh {
     #[tactic(auto, using(crate::proofs::NamingLaws::all_start, crate::proofs::NamingLaws::all_next))]
     pub fn give_all(&mut self, names: &mut NamePool, wishes: &[Wish]) -> Result<Vec<NameId>, Memory>
         requires ready { IsReady self.old names.old }
-        ensures { IfOk result (λ r. GivesAll self.old.taken.keys self.new.taken.keys self.new.next.entries names.old names.new wishes.now r.items) }
+        ensures stays { Stays names.old names.new }
+        ensures gives { IfOk result (λ r. GivesAll self.old.taken.keys self.new.taken.keys self.new.next.entries names.old names.new wishes.now r.items) }
     {
         let mut given = Vec::new(self.alloc);
         for i in 0..wishes.len() {

@@ -138,7 +138,7 @@ fn name_labels(
     base: NameId,
     labels: &mut Vec<NameId>,
 ) -> Result<(), Memory>
-    ensures stays { OnOk result (Stays names.old names.new) }
+    ensures stays { Stays names.old names.new }
     ensures named { OnOk result (AreNamedLabels names.new base labels.old.items labels.new.items) }
 {
     let order = label_order(alloc, base, labels)?;
@@ -158,7 +158,7 @@ fn name_locals(
 ) -> Result<(), Memory>
     requires table { IsTable file.old names.old }
     ensures kept { OnOk result (file.new.names.taken.keys ≡ file.old.names.taken.keys) }
-    ensures stays { OnOk result (Stays names.old names.new) }
+    ensures stays { Stays names.old names.new }
     ensures table { OnOk result (IsTable file.new names.new) }
     ensures named { OnOk result (AreNamedLocals file.old.names.taken.keys names.new base body.old body.new) }
 {
@@ -179,7 +179,7 @@ fn name_body(
 ) -> Result<(), Memory>
     requires table { IsTable file.old names.old }
     ensures kept { OnOk result (file.new.names.taken.keys ≡ file.old.names.taken.keys) }
-    ensures stays { OnOk result (Stays names.old names.new) }
+    ensures stays { Stays names.old names.new }
     ensures table { OnOk result (IsTable file.new names.new) }
     ensures named { OnOk result (IsNamedBody file.old.names.taken.keys names.new bases body.old body.new) }
 {
@@ -197,7 +197,7 @@ fn name_within(
 ) -> Result<(), Memory>
     requires table { IsTable file.old names.old }
     ensures kept { OnOk result (file.new.names.taken.keys ≡ file.old.names.taken.keys) }
-    ensures stays { OnOk result (Stays names.old names.new) }
+    ensures stays { Stays names.old names.new }
     ensures table { OnOk result (IsTable file.new names.new) }
     ensures named { OnOk result (IsNamedWithin file.old.names.taken.keys names.new bases global.old global.new) }
 {
@@ -218,7 +218,7 @@ pub(crate) fn name_bodies(
 ) -> Result<(), Memory>
     requires table { IsTable file.old names.old }
     ensures kept { OnOk result (file.new.names.taken.keys ≡ file.old.names.taken.keys) }
-    ensures stays { OnOk result (Stays names.old names.new) }
+    ensures stays { Stays names.old names.new }
     ensures table { OnOk result (IsTable file.new names.new) }
     ensures named { OnOk result (Each (IsNamedWithin file.old.names.taken.keys names.new bases) globals.old.items globals.new.items) }
 {

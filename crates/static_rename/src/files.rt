@@ -1,5 +1,6 @@
 ghost use Rattle.std.specs.Prelude.{◌≡◌, [], ◌∷◌, ◌++◌, filter, length, map, OnOk, IfOk};
 ghost use Rattle.std.specs.List.{list_any};
+ghost use Rattle.cil_base.specs.NamePool.{Stays};
 ghost use Rattle.fresh_names.specs.Giving.{IsReady};
 ghost use Rattle.static_rename.specs.Files.{is_internal, is_named, unlinked_at, unlinked_from, named_in, global_wish, enumerator_wish, member_wish, wish_at, renamed_at, with_given};
 ghost use Rattle.static_rename.specs.Filing.{same_entity, Links, AreLinked, Files, FilesAll};
@@ -206,7 +207,8 @@ fn file_unit(
     f: &Fronted,
 ) -> Result<Filed, Memory>
     requires ready { IsReady fresh.old names.old }
-    ensures { IfOk result (Files bases stands.now f.now fresh.old.taken.keys fresh.new.taken.keys fresh.new.next.entries names.old names.new) }
+    ensures stays { Stays names.old names.new }
+    ensures filed { IfOk result (Files bases stands.now f.now fresh.old.taken.keys fresh.new.taken.keys fresh.new.next.entries names.old names.new) }
 {
     let things = named_in(fresh.alloc, stands, f)?;
     let wishes = wishes(fresh.alloc, bases, f, &things)?;
@@ -224,6 +226,7 @@ pub(crate) fn file_units(
     units: &[Fronted],
 ) -> Result<Vec<Filed>, Memory>
     requires ready { IsReady fresh.old names.old }
+    ensures stays { Stays names.old names.new }
     ensures many { OnOk result (length stands.now ≡ length units.now) }
     ensures filed { IfOk result (λ v. FilesAll bases (map (λ s. s.items) stands.now) units.now fresh.old.taken.keys fresh.new.taken.keys fresh.new.next.entries names.old names.new v.items) }
 {

@@ -21,7 +21,7 @@ fn external_names(alloc: Global, linked: &[LinkedName]) -> Result<Vec<NameId>, M
 
 /// The numbers of texts as names.
 fn interned(alloc: Global, names: &mut NamePool, texts: &[&str]) -> Result<Vec<NameId>, Memory>
-    ensures stays { OnOk result (Stays names.old names.new) }
+    ensures stays { Stays names.old names.new }
     ensures texts { IfOk result (λ v. HaveTexts names.new v.items (map (λ s. s.now) texts.now)) }
 {
     let mut all = Vec::new(alloc);
@@ -38,7 +38,7 @@ pub(crate) fn kept_names(
     links: &Links,
     names: &mut NamePool,
 ) -> Result<Fresh, Memory>
-    ensures stays { OnOk result (Stays names.old names.new) }
+    ensures stays { Stays names.old names.new }
     ensures ready { IfOk result (λ f. IsReady f names.new) }
     ensures kept { IfOk result (λ f. AreKept (map (λ l. l.name) links.now.names.items) names.new f.taken.keys) }
 {

@@ -48,7 +48,7 @@ impl FileNames {
         requires table { IsTable self.old names.old }
         requires found { IsLeastFrom self.old.names.taken.keys names.old start.base start.from name number }
         ensures kept { OnOk result (self.new.names.taken.keys ≡ self.old.names.taken.keys) }
-        ensures stays { OnOk result (names.new ≡ names.old) }
+        ensures stays { names.new ≡ names.old }
         ensures table { OnOk result (IsTable self.new names.new) }
     {
         self.free.insert(start, (name, number))?;
@@ -65,7 +65,7 @@ impl FileNames {
     ) -> Result<(NameId, u32), Memory>
         requires table { IsTable self.old names.old }
         ensures kept { OnOk result (self.new.names.taken.keys ≡ self.old.names.taken.keys) }
-        ensures stays { OnOk result (Stays names.old names.new) }
+        ensures stays { Stays names.old names.new }
         ensures table { OnOk result (IsTable self.new names.new) }
         ensures least { IfOk result (λ r. IsLeastFrom self.old.names.taken.keys names.new base from r.0 r.1) }
     {
@@ -97,7 +97,7 @@ impl FunctionNames {
         requires table { IsTable file.old names.old }
         requires ready { AreTakenBelow (file.old.names.taken.keys ++ self.now.given.taken.keys) names.old self.now.given.next.entries }
         ensures kept { OnOk result (file.new.names.taken.keys ≡ file.old.names.taken.keys) }
-        ensures stays { OnOk result (Stays names.old names.new) }
+        ensures stays { Stays names.old names.new }
         ensures table { OnOk result (IsTable file.new names.new) }
         ensures least { IfOk result (λ r. IsLeast (file.old.names.taken.keys ++ self.now.given.taken.keys) names.new base r.0 r.1) }
     {
@@ -125,6 +125,7 @@ impl FunctionNames {
         requires table { IsTable file.old names.old }
         requires ready { AreTakenBelow (file.old.names.taken.keys ++ self.old.given.taken.keys) names.old self.old.given.next.entries }
         ensures kept { OnOk result (file.new.names.taken.keys ≡ file.old.names.taken.keys) }
+        ensures stays { Stays names.old names.new }
         ensures table { OnOk result (IsTable file.new names.new) }
         ensures gives { IfOk result (Gives (file.old.names.taken.keys ++ self.old.given.taken.keys) (file.old.names.taken.keys ++ self.new.given.taken.keys) self.new.given.next.entries names.old names.new (Made base)) }
     {
@@ -151,6 +152,7 @@ impl FunctionNames {
         requires table { IsTable file.old names.old }
         requires ready { AreTakenBelow (file.old.names.taken.keys ++ self.old.given.taken.keys) names.old self.old.given.next.entries }
         ensures kept { OnOk result (file.new.names.taken.keys ≡ file.old.names.taken.keys) }
+        ensures stays { Stays names.old names.new }
         ensures table { OnOk result (IsTable file.new names.new) }
         ensures gives { IfOk result (Gives (file.old.names.taken.keys ++ self.old.given.taken.keys) (file.old.names.taken.keys ++ self.new.given.taken.keys) self.new.given.next.entries names.old names.new wish) }
     {
@@ -177,7 +179,7 @@ pub(crate) fn local_names(
 ) -> Result<Vec<NameId>, Memory>
     requires table { IsTable file.old names.old }
     ensures kept { OnOk result (file.new.names.taken.keys ≡ file.old.names.taken.keys) }
-    ensures stays { OnOk result (Stays names.old names.new) }
+    ensures stays { Stays names.old names.new }
     ensures table { OnOk result (IsTable file.new names.new) }
     ensures named { IfOk result (λ r. AreNamed file.old.names.taken.keys names.new wishes.now r.items) }
 {

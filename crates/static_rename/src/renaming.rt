@@ -30,7 +30,7 @@ fn name_unit(
 ) -> Result<(), Memory>
     requires table { IsTable file.old names.old }
     ensures kept { OnOk result (file.new.names.taken.keys ≡ file.old.names.taken.keys) }
-    ensures stays { OnOk result (Stays names.old names.new) }
+    ensures stays { Stays names.old names.new }
     ensures table { OnOk result (IsTable file.new names.new) }
     ensures named { OnOk result (IsNamedUnit (named_by types.now) u.0 file.old.names.taken.keys names.new types.now.bases filed.now.things.items filed.now.names.items unit.old unit.new) }
 {
@@ -49,7 +49,7 @@ fn name_units(
     units: &mut Vec<Fronted>,
 ) -> Result<(), Memory>
     requires table { IsTable file.old names.old }
-    ensures stays { OnOk result (Stays names.old names.new) }
+    ensures stays { Stays names.old names.new }
     ensures named { OnOk result (AreUnits (named_by types.now) 0 file.old.names.taken.keys names.new types.now.bases filed.now units.old.items units.new.items) }
 {
     if filed.len() != units.len() {
@@ -84,7 +84,8 @@ pub fn rename(
     classes: &Classes,
     names: &mut NamePool,
 ) -> Result<(), Memory>
-    ensures { OnOk result (AreRenamed classes.now (map (λ l. l.name) links.now.names.items) names.new units.old.items units.new.items) }
+    ensures stays { Stays names.old names.new }
+    ensures renamed { OnOk result (AreRenamed classes.now (map (λ l. l.name) links.now.names.items) names.new units.old.items units.new.items) }
 {
     let bases = names.bases()?;
     let mut fresh = kept_names(alloc, links, names)?;

@@ -57,7 +57,7 @@ pub(crate) fn name_tags(
     units: &[Fronted],
     stands: &[(UnitNo, AggId)],
 ) -> Result<Vec<NameId>, Memory>
-    ensures stays { OnOk result (Stays names.old names.new) }
+    ensures stays { Stays names.old names.new }
     ensures named { IfOk result (λ v. AreNamed [] names.new (map (class_wish bases units.now) stands.now) v.items) }
 {
     let wishes = class_wishes(alloc, bases, units, stands)?;

@@ -3,8 +3,8 @@ use Rattle.static_rename.specs.Tagging.{lists}
 use Rattle.static_rename.proofs.UnitLaws.{renamed_read}
 use Rattle.static_rename.proofs.renaming.rename.Goals as goal
 
-pub returns : goal.returns
-returns c =
+pub returns-clause-renamed : goal.returns-clause-renamed
+returns-clause-renamed c =
     renamed_read c.args.classes.now (map (λ l. l.name) c.args.links.now.names.items) c.bases.new.self c.kept_names.new.names c.file_units.new.names c.name_tags.new.names c.name_units.new.names c.in_ok-bases.bases c.in_ok-fresh.fresh.taken.keys c.file_units.new.fresh.taken.keys c.new-file.result.names.taken.keys c.file_units.new.fresh.next.entries
     c.in_ok-stands.stands.items c.deref-2.result.now c.in_ok-filed.filed.items c.deref-6.result.now c.deref-9.result.now c.in_ok-standing.standing.items c.deref-5.result.now c.deref-8.result.now c.in_ok-tags.tags.items (lists c.in_ok-enumerators.enumerators.items) c.args.units.now.items c.deref.result.now c.deref-3.result.now c.deref-4.result.now c.deref-7.result.now c.name_units.new.units.items
     c.deref.ensures.value c.deref-3.ensures.value c.deref-4.ensures.value c.deref-7.ensures.value c.deref-2.ensures.value c.deref-6.ensures.value c.deref-9.ensures.value c.deref-5.ensures.value c.deref-8.ensures.value
