@@ -9,7 +9,10 @@ use Rattle.cil_words.specs.Command.{steps_asked}
 use Rattle.cil_commands.specs.Grammatical.{IsGrammatical}
 use Rattle.cil_commands.specs.Merge.{unit_asked, IsMergeAnswer, IsMergedTo, IsNoGrammar, IsRefused, IsRefusedLike, IfRefused}
 use Rattle.cil_lines.specs.Messages.{line_of}
-use Rattle.cil_commands.specs.Messages.{AreNames, names_asked}
+use Rattle.cil_commands.specs.Messages.{AreNames, SaysWith, names_asked}
+use Rattle.cil_commands.specs.Several.{SaysOfUnits, SaysOfLinks, common_asked}
+use Rattle.cil_sources.specs.Files.{all_under}
+use Rattle.cil_sources.specs.Units.{kept}
 use Rattle.cil_commands.proofs.Units.{not_both, not_grammar, like_refusal}
 use Rattle.cil_lines.specs.declared.status.Status.{Status}
 use Rattle.cil_lines.specs.declared.status.Status.TheVariants.{Done, Exited, StillRunning, WentUndefined, Usage, Refused, NotCil, ReadFault, WriteFault, Memory}
@@ -79,10 +82,11 @@ refused_by (Some unit) status names refused = some_names status unit names refus
 pub record IsLine (told : Option Told) (words names : List (List ℕ)) (given : ℕ) (status : Status) : Type 0 where
   pub known : List (List ℕ)
   pub are : AreNames told words status known
+  pub says : SaysWith told words status known
   pub line : line_of names given status ≡ line_of known (steps_asked words) status
 
-line_at : (told : Option Told) (words names : List (List ℕ)) (given : ℕ) (status : Status) → AreNames told words status names → given ≡ steps_asked words → IsLine told words names given status
-line_at told words names given status are equal = record { known = names; are = are; line = ap (λ k. line_of names k status) equal }
+line_at : (told : Option Told) (words names : List (List ℕ)) (given : ℕ) (status : Status) → AreNames told words status names → SaysWith told words status names → given ≡ steps_asked words → IsLine told words names given status
+line_at told words names given status are says equal = record { known = names; are = are; says = says; line = ap (λ k. line_of names k status) equal }
 
 no_refusal : (asked : Option SourceFile) (names : List (List ℕ)) → IfSome asked (λ unit. IfRefused Memory (λ refusal. IsRefused unit refusal names))
 no_refusal None names = tt
@@ -92,14 +96,25 @@ no_refusal (Some unit) names = tt
 memory_names : (told : Option Told) (words : List (List ℕ)) → AreNames told words Memory (names_asked words)
 memory_names told words = record { begin = record { more = []; is = sym (append-nil _) }; files = tt; refused = no_refusal (unit_asked told words) (names_asked words) }
 
-pub line_by : (told : Option Told) (words names : List (List ℕ)) (given : ℕ) (status : Status) → (status ≢ Memory → AreNames told words status names) → given ≡ steps_asked words → IsLine told words names given status
-line_by told words names given Memory are equal = record { known = names_asked words; are = memory_names told words; line = refl }
-line_by told words names given Done are equal = line_at told words names given Done (are (λ e. let is : Done ≡ Memory = e in cc)) equal
-line_by told words names given (Exited s) are equal = line_at told words names given (Exited s) (are (λ e. let is : Exited s ≡ Memory = e in cc)) equal
-line_by told words names given StillRunning are equal = line_at told words names given StillRunning (are (λ e. let is : StillRunning ≡ Memory = e in cc)) equal
-line_by told words names given WentUndefined are equal = line_at told words names given WentUndefined (are (λ e. let is : WentUndefined ≡ Memory = e in cc)) equal
-line_by told words names given Usage are equal = line_at told words names given Usage (are (λ e. let is : Usage ≡ Memory = e in cc)) equal
-line_by told words names given (Refused r) are equal = line_at told words names given (Refused r) (are (λ e. let is : Refused r ≡ Memory = e in cc)) equal
-line_by told words names given (NotCil k) are equal = line_at told words names given (NotCil k) (are (λ e. let is : NotCil k ≡ Memory = e in cc)) equal
-line_by told words names given ReadFault are equal = line_at told words names given ReadFault (are (λ e. let is : ReadFault ≡ Memory = e in cc)) equal
-line_by told words names given WriteFault are equal = line_at told words names given WriteFault (are (λ e. let is : WriteFault ≡ Memory = e in cc)) equal
+memory_says : (told : Option Told) (words names : List (List ℕ)) → SaysWith told words Memory names
+memory_says told words names = record { units = λ none. units (all_under told (merged_files words)); links = λ several. links (all_under told (merged_files words)) }
+  where
+    units : (asked : Option (List (List ℕ))) → IfSome asked (λ units. SaysOfUnits units (merged_files words) names Memory)
+    units None = tt
+    units (Some us) = tt
+
+    links : (asked : Option (List (List ℕ))) → IfSome asked (λ units. SaysOfLinks (common_asked words) (kept 0 units).units (merged_files words) names Memory)
+    links None = tt
+    links (Some us) = tt
+
+pub line_by : (told : Option Told) (words names : List (List ℕ)) (given : ℕ) (status : Status) → (status ≢ Memory → AreNames told words status names) → SaysWith told words status names → given ≡ steps_asked words → IsLine told words names given status
+line_by told words names given Memory are says equal = record { known = names_asked words; are = memory_names told words; says = memory_says told words (names_asked words); line = refl }
+line_by told words names given Done are says equal = line_at told words names given Done (are (λ e. let is : Done ≡ Memory = e in cc)) says equal
+line_by told words names given (Exited s) are says equal = line_at told words names given (Exited s) (are (λ e. let is : Exited s ≡ Memory = e in cc)) says equal
+line_by told words names given StillRunning are says equal = line_at told words names given StillRunning (are (λ e. let is : StillRunning ≡ Memory = e in cc)) says equal
+line_by told words names given WentUndefined are says equal = line_at told words names given WentUndefined (are (λ e. let is : WentUndefined ≡ Memory = e in cc)) says equal
+line_by told words names given Usage are says equal = line_at told words names given Usage (are (λ e. let is : Usage ≡ Memory = e in cc)) says equal
+line_by told words names given (Refused r) are says equal = line_at told words names given (Refused r) (are (λ e. let is : Refused r ≡ Memory = e in cc)) says equal
+line_by told words names given (NotCil k) are says equal = line_at told words names given (NotCil k) (are (λ e. let is : NotCil k ≡ Memory = e in cc)) says equal
+line_by told words names given ReadFault are says equal = line_at told words names given ReadFault (are (λ e. let is : ReadFault ≡ Memory = e in cc)) says equal
+line_by told words names given WriteFault are says equal = line_at told words names given WriteFault (are (λ e. let is : WriteFault ≡ Memory = e in cc)) says equal

@@ -14,7 +14,7 @@ use Rattle.c_meaning.specs.SourceFile.{SourceFile, IsLexed}
 use Rattle.c_parser.specs.UnitAnswers.{IsSyntaxFault}
 use Rattle.cast_insert.specs.Refusals.{IsCheckedRefusal}
 use Rattle.unit_front.specs.Refusals.{Source, HasTokens, IsGrammatical as IsGrammaticalSource, IsFrontRefusal, OfToken as AtToken, OfTokens, IsTokensRefusal, OfGrammar as AtGrammar, OfCheck as AtCheck}
-use Rattle.unit_merger.specs.Units.{IsUnitOf, IsGrammaticalAt, AreGrammatical, AreMerged, IsLateFault, IsRefusedAmong, InUnit, Over, Behind, IsUnitCause, OfCheck, OfLength}
+use Rattle.unit_merger.specs.Units.{IsUnitOf, IsGrammaticalAt, AreGrammatical, AreMerged, IsRefusedAmong, InUnit, Over, Behind, IsUnitCause, OfCheck, OfLength}
 use Rattle.unit_merger.proofs.InOrder.{none_yet}
 use Rattle.outside.specs.Named.{Told, find_file}
 use Rattle.cil_sources.specs.Files.{all_under}
@@ -28,6 +28,14 @@ use Rattle.cil_commands.specs.Execute.{IsRunAnswer}
 use Rattle.cil_commands.specs.Grammatical.{AreTokens, IsGrammatical}
 use Rattle.cil_commands.specs.Merge.{file_under, too_large, IsNoGrammar, Large, OfToken, OfGrammar, IsRefused, NoGrammar, OfUnit, IfRefused}
 use Rattle.cil_commands.specs.Several.{SaysOfKept, SaysOfUnits, SaysOfLinks, LinksSay}
+use Rattle.cil_lines.specs.Messages.{HasFiles}
+use Rattle.cil_commands.specs.Messages.{Begins}
+use Rattle.unit_front.specs.Refusals.{KeepsFile, KeepsFiles}
+use Rattle.unit_front.proofs.Files.{kept as kept_file}
+use Rattle.unit_merger.specs.Units.{IsPlaceAmong, ArePlacesAmong}
+use Rattle.merge_refusals.specs.Refusals.{IsLateFault}
+use Rattle.std.specs.Option.{ForSome}
+use Rattle.cil_base.specs.declared.faults.Place.{Place}
 
 -- one unit is kept where it is small enough
 
@@ -66,107 +74,120 @@ first unit g = record { source = only unit; number = refl; stands = stands unit;
 all : (unit : SourceFile) → IsGrammatical unit → AreGrammatical (unit.bytes ∷ []) (unit.name ∷ []) 1
 all unit g i below = let same : 0 ≡ i = omega (arith, below) in subst (IsGrammaticalAt (unit.bytes ∷ []) (unit.name ∷ [])) same (first unit g)
 
-abbrev Among : SourceFile → Kept → Refusal → Type 0
-Among unit k refusal = IsRefusedAmong k.units k.over (unit.name ∷ []) refusal
+abbrev Among : SourceFile → Kept → List (List ℕ) → Refusal → Type 0
+Among unit k names refusal = IsRefusedAmong k.units k.over (unit.name ∷ []) names refusal
 
-in_unit : (unit : SourceFile) (refusal : Refusal) → length unit.bytes ≤ 4194304 → IsFrontRefusal (only unit) refusal → Among unit (kept 0 (unit.bytes ∷ [])) refusal
+in_unit : (unit : SourceFile) (names : List (List ℕ)) (refusal : Refusal) → length unit.bytes ≤ 4194304 → IsFrontRefusal (only unit) names refusal → Among unit (kept 0 (unit.bytes ∷ [])) names refusal
 unfolding only
-in_unit unit refusal small is =
-    subst (λ k. Among unit k refusal) (sym (small_kept unit.bytes small)) (InUnit refusal (only unit) (stands unit) (none_yet (unit.bytes ∷ []) (unit.name ∷ [])) is)
+in_unit unit names refusal small is =
+    subst (λ k. Among unit k names refusal) (sym (small_kept unit.bytes small)) (InUnit refusal (only unit) (stands unit) (none_yet (unit.bytes ∷ []) (unit.name ∷ [])) is)
 
-no_grammar : (unit : SourceFile) (refusal : Refusal) (names : List (List ℕ)) → IsNoGrammar unit refusal names → Among unit (kept 0 (unit.bytes ∷ [])) refusal
-unfolding only
-no_grammar unit _ _ (Large names large) =
-    subst (λ k. Among unit k too_large) (sym (large_kept unit.bytes large)) (Over UnitBytes (record { 0 = 0 }) refl (none_yet [] (unit.name ∷ [])))
-no_grammar unit _ _ (OfToken refusal names small is) = in_unit unit refusal small (AtToken refusal names small is)
-no_grammar unit _ _ (OfGrammar refusal names t are is) = in_unit unit refusal are.small (OfTokens refusal t (has_tokens unit t names are) (AtGrammar refusal is))
+-- the files of a refusal's places are names
+keeps : (names : List (List ℕ)) (refusal : Refusal) → HasFiles (length names) (Refused refusal) → KeepsFiles names names refusal
+keeps names refusal files = record { at = kept_file names names refusal.at files.0 (λ i text is. is); other = by refusal.other files.1 }
+  where
+    by : (o : Option Place) → ForSome o (λ place. place.file.0 < length names) → IfSome o (KeepsFile names names)
+    by None within = tt
+    by (Some place) within = kept_file names names place (within place refl) (λ i text is. is)
 
-of_unit : (unit : SourceFile) (refusal : Refusal) (g : IsGrammatical unit) → IsUnitCause g.tokens refusal → Among unit (kept 0 (unit.bytes ∷ [])) refusal
-of_unit unit _ g (OfCheck refusal is) = in_unit unit refusal g.are.small (OfTokens refusal g.tokens (has_tokens unit g.tokens g.names g.are) (AtCheck refusal (g.tree, g.reads) is))
-of_unit unit _ g (OfLength refusal fault long other) =
-    subst (λ k. Among unit k refusal) (sym (small_kept unit.bytes g.are.small)) (Behind refusal refl (all unit g) (subst IsLateFault (sym fault) tt))
+no_grammar : (unit : SourceFile) (refusal : Refusal) (names : List (List ℕ)) → slice_get names 0 ≡ Some unit.name → HasFiles (length names) (Refused refusal) → IsNoGrammar unit refusal names → Among unit (kept 0 (unit.bytes ∷ [])) names refusal
+unfolding only has_tokens
+no_grammar unit _ _ named files (Large names large) =
+    subst (λ k. Among unit k names too_large) (sym (large_kept unit.bytes large)) (Over UnitBytes (record { 0 = 0 }) unit.name refl (none_yet [] (unit.name ∷ [])) refl named)
+no_grammar unit _ _ named files (OfToken refusal names small is) = in_unit unit names refusal small (AtToken refusal names small is (keeps names refusal files))
+no_grammar unit _ _ named files (OfGrammar refusal names t are is) = in_unit unit names refusal are.small (OfTokens refusal t (has_tokens unit t names are) (AtGrammar refusal is) (keeps names refusal files))
 
-refused : (unit : SourceFile) (refusal : Refusal) (names : List (List ℕ)) → IsRefused unit refusal names → Among unit (kept 0 (unit.bytes ∷ [])) refusal
-refused unit _ _ (NoGrammar refusal names is) = no_grammar unit refusal names is
-refused unit _ _ (OfUnit refusal names g none is) = of_unit unit refusal g is
+of_unit : (unit : SourceFile) (refusal : Refusal) (names : List (List ℕ)) (g : IsGrammatical unit) → KeepsFiles g.names names refusal → IsUnitCause g.tokens refusal → Among unit (kept 0 (unit.bytes ∷ [])) names refusal
+unfolding only has_tokens
+of_unit unit _ names g keeps (OfCheck refusal is) = in_unit unit names refusal g.are.small (OfTokens refusal g.tokens (has_tokens unit g.tokens g.names g.are) (AtCheck refusal (g.tree, g.reads) is) keeps)
+of_unit unit _ names g keeps (OfLength refusal fault long at other) =
+    let place : IsPlaceAmong (unit.bytes ∷ []) (unit.name ∷ []) names refusal.at = record { source = only unit; stands = stands unit; tokens = g.tokens; are = has_tokens unit g.tokens g.names g.are; at = (0, at); file = keeps.at } in
+    let places : ArePlacesAmong (unit.bytes ∷ []) (unit.name ∷ []) names refusal = record { at = place; other = subst (λ o. IfSome o (IsPlaceAmong (unit.bytes ∷ []) (unit.name ∷ []) names)) (sym other) tt } in
+    subst (λ k. Among unit k names refusal) (sym (small_kept unit.bytes g.are.small)) (Behind refusal refl (all unit g) (subst IsLateFault (sym fault) tt) places)
+
+refused : (unit : SourceFile) (refusal : Refusal) (names : List (List ℕ)) → slice_get names 0 ≡ Some unit.name → HasFiles (length names) (Refused refusal) → IsRefused unit refusal names → Among unit (kept 0 (unit.bytes ∷ [])) names refusal
+refused unit _ _ named files (NoGrammar refusal names is) = no_grammar unit refusal names named files is
+refused unit _ _ named files (OfUnit refusal names g none is keeps) = of_unit unit refusal names g keeps is
 
 merged : (unit : SourceFile) → IsGrammatical unit → AreMerged (kept 0 (unit.bytes ∷ [])).units (kept 0 (unit.bytes ∷ [])).over (unit.name ∷ [])
 merged unit g =
     subst (λ (k : Kept). AreMerged k.units k.over (unit.name ∷ [])) (sym (small_kept unit.bytes g.are.small)) (record { none = refl; grammatical = all unit g })
 
-says_one : (unit : SourceFile) (status : Status) (names : List (List ℕ)) → (status ≡ Done → IsGrammatical unit) → (status ≡ WriteFault → IsGrammatical unit) → IfRefused status (λ refusal. IsRefused unit refusal names)
-    → SaysOfUnits (unit.bytes ∷ []) (unit.name ∷ []) status
-says_one unit Done names done part is = merged unit (done refl)
-says_one unit (Exited s) names done part is = tt
-says_one unit StillRunning names done part is = tt
-says_one unit WentUndefined names done part is = tt
-says_one unit Usage names done part is = tt
-says_one unit (Refused refusal) names done part is = refused unit refusal names is
-says_one unit (NotCil k) names done part is = tt
-says_one unit ReadFault names done part is = tt
-says_one unit WriteFault names done part is = merged unit (part refl)
-says_one unit Memory names done part is = tt
+says_one : (unit : SourceFile) (status : Status) (names : List (List ℕ)) → (status ≢ Memory → Begins (unit.name ∷ []) names) → HasFiles (length names) status → (status ≡ Done → IsGrammatical unit) → (status ≡ WriteFault → IsGrammatical unit) → IfRefused status (λ refusal. IsRefused unit refusal names)
+    → SaysOfUnits (unit.bytes ∷ []) (unit.name ∷ []) names status
+says_one unit Done names begin files done part is = merged unit (done refl)
+says_one unit (Exited s) names begin files done part is = tt
+says_one unit StillRunning names begin files done part is = tt
+says_one unit WentUndefined names begin files done part is = tt
+says_one unit Usage names begin files done part is = tt
+says_one unit (Refused refusal) names begin files done part is =
+    let first = begin (λ same. (let clash : Refused refusal ≡ Memory = same in cc)) in
+    refused unit refusal names (ap (λ (ns : List (List ℕ)). slice_get ns 0) first.is) files is
+says_one unit (NotCil k) names begin files done part is = tt
+says_one unit ReadFault names begin files done part is = tt
+says_one unit WriteFault names begin files done part is = merged unit (part refl)
+says_one unit Memory names begin files done part is = tt
 
 -- one file of those that are told
-pub says_alone : (told : Option Told) (name : List ℕ) (files : List (List ℕ)) (status : Status) (names : List (List ℕ)) → files ≡ name ∷ []
+pub says_alone : (told : Option Told) (name : List ℕ) (files : List (List ℕ)) (status : Status) (names : List (List ℕ)) → files ≡ name ∷ [] → (status ≢ Memory → Begins (name ∷ []) names) → HasFiles (length names) status
     → (status ≡ Done → IfSome (file_under told name) (λ unit. IsGrammatical unit)) → (status ≡ WriteFault → IfSome (file_under told name) (λ unit. IsGrammatical unit))
     → IfSome (file_under told name) (λ unit. IfRefused status (λ refusal. IsRefused unit refusal names))
-    → IfSome (all_under told files) (λ units. SaysOfUnits units files status)
-says_alone told name files status names alone done part is =
-    subst (λ fs. IfSome (all_under told fs) (λ units. SaysOfUnits units fs status)) (sym alone) (by told done part is)
+    → IfSome (all_under told files) (λ units. SaysOfUnits units files names status)
+says_alone told name files status names alone begin within done part is =
+    subst (λ fs. IfSome (all_under told fs) (λ units. SaysOfUnits units fs names status)) (sym alone) (by told done part is)
   where
     found : (bytes : Option (List ℕ))
         → (status ≡ Done → IfSome (option_map (λ b. let f : SourceFile = record { name = name; bytes = b } in f) bytes) (λ unit. IsGrammatical unit))
         → (status ≡ WriteFault → IfSome (option_map (λ b. let f : SourceFile = record { name = name; bytes = b } in f) bytes) (λ unit. IsGrammatical unit))
         → IfSome (option_map (λ b. let f : SourceFile = record { name = name; bytes = b } in f) bytes) (λ unit. IfRefused status (λ refusal. IsRefused unit refusal names))
-        → IfSome (option_and_then (λ b. option_map (λ more. b ∷ more) (let last : Option (List (List ℕ)) = Some [] in last)) bytes) (λ units. SaysOfUnits units (name ∷ []) status)
+        → IfSome (option_and_then (λ b. option_map (λ more. b ∷ more) (let last : Option (List (List ℕ)) = Some [] in last)) bytes) (λ units. SaysOfUnits units (name ∷ []) names status)
     found None done part is = tt
-    found (Some b) done part is = says_one (record { name = name; bytes = b }) status names done part is
+    found (Some b) done part is = says_one (record { name = name; bytes = b }) status names begin within done part is
 
     by : (told : Option Told) → (status ≡ Done → IfSome (file_under told name) (λ unit. IsGrammatical unit)) → (status ≡ WriteFault → IfSome (file_under told name) (λ unit. IsGrammatical unit))
-        → IfSome (file_under told name) (λ unit. IfRefused status (λ refusal. IsRefused unit refusal names)) → IfSome (all_under told (name ∷ [])) (λ units. SaysOfUnits units (name ∷ []) status)
+        → IfSome (file_under told name) (λ unit. IfRefused status (λ refusal. IsRefused unit refusal names)) → IfSome (all_under told (name ∷ [])) (λ units. SaysOfUnits units (name ∷ []) names status)
     by None done part is = tt
     by (Some t) done part is = found (find_file name t.names) done part is
 
 -- several files
 
-kept_by_read : (units : List (List ℕ)) (kept_units : List (List ℕ)) (over : Option What) (files : List (List ℕ)) (status : Status) → kept_units ≡ (kept 0 units).units → over ≡ (kept 0 units).over → SaysOfKept kept_units over files status → SaysOfUnits units files status
-kept_by_read units kept_units over files status same limit says = subst (λ o. SaysOfKept (kept 0 units).units o files status) limit (subst (λ us. SaysOfKept us over files status) same says)
+kept_by_read : (units : List (List ℕ)) (kept_units : List (List ℕ)) (over : Option What) (files names : List (List ℕ)) (status : Status) → kept_units ≡ (kept 0 units).units → over ≡ (kept 0 units).over → SaysOfKept kept_units over files names status → SaysOfUnits units files names status
+kept_by_read units kept_units over files names status same limit says = subst (λ o. SaysOfKept (kept 0 units).units o files names status) limit (subst (λ us. SaysOfKept us over files names status) same says)
 
-pub says_read : (asked : Option (List (List ℕ))) (kept_units : List (List ℕ)) (over : Option What) (files : List (List ℕ)) (status : Status) → IfSome asked (λ units. (kept_units ≡ (kept 0 units).units) × (over ≡ (kept 0 units).over)) → SaysOfKept kept_units over files status
-    → IfSome asked (λ units. SaysOfUnits units files status)
-says_read None kept_units over files status read says = tt
-says_read (Some units) kept_units over files status read says = kept_by_read units kept_units over files status read.0 read.1 says
+pub says_read : (asked : Option (List (List ℕ))) (kept_units : List (List ℕ)) (over : Option What) (files names : List (List ℕ)) (status : Status) → IfSome asked (λ units. (kept_units ≡ (kept 0 units).units) × (over ≡ (kept 0 units).over)) → SaysOfKept kept_units over files names status
+    → IfSome asked (λ units. SaysOfUnits units files names status)
+says_read None kept_units over files names status read says = tt
+says_read (Some units) kept_units over files names status read says = kept_by_read units kept_units over files names status read.0 read.1 says
 
 -- the same of their links
-pub links_read : (asked : Option (List (List ℕ))) (kept_units : List (List ℕ)) (over : Option What) (common : Bool) (status : Status) → IfSome asked (λ units. (kept_units ≡ (kept 0 units).units) × (over ≡ (kept 0 units).over)) → SaysOfLinks common kept_units status
-    → IfSome asked (λ units. SaysOfLinks common (kept 0 units).units status)
-links_read None kept_units over common status read says = tt
-links_read (Some units) kept_units over common status read says = subst (λ us. SaysOfLinks common us status) read.0 says
+pub links_read : (asked : Option (List (List ℕ))) (kept_units : List (List ℕ)) (over : Option What) (common : Bool) (files names : List (List ℕ)) (status : Status) → IfSome asked (λ units. (kept_units ≡ (kept 0 units).units) × (over ≡ (kept 0 units).over)) → SaysOfLinks common kept_units files names status
+    → IfSome asked (λ units. SaysOfLinks common (kept 0 units).units files names status)
+links_read None kept_units over common files names status read says = tt
+links_read (Some units) kept_units over common files names status read says = subst (λ us. SaysOfLinks common us files names status) read.0 says
 
 -- fewer than two files have no links
-pub few_links : (told : Option Told) (words files : List (List ℕ)) (status : Status) → merged_files words ≡ files → length files ≤ 1 → LinksSay told words status
-few_links told words files status are few several = let none : ⊥ = omega (arith, few, subst (λ (fs : List (List ℕ)). 1 < length fs) are several) in absurd none
+pub few_links : (told : Option Told) (words files names : List (List ℕ)) (status : Status) → merged_files words ≡ files → length files ≤ 1 → LinksSay told words names status
+few_links told words files names status are few several = let none : ⊥ = omega (arith, few, subst (λ (fs : List (List ℕ)). 1 < length fs) are several) in absurd none
 
 -- a command that merges nothing
-says_none : (status : Status) → IfRefused status (λ refusal. ⊥) → SaysOfUnits [] [] status
-says_none Done is = record { none = refl; grammatical = none_yet [] [] }
-says_none (Exited s) is = tt
-says_none StillRunning is = tt
-says_none WentUndefined is = tt
-says_none Usage is = tt
-says_none (Refused refusal) is = absurd is
-says_none (NotCil k) is = tt
-says_none ReadFault is = tt
-says_none WriteFault is = record { none = refl; grammatical = none_yet [] [] }
-says_none Memory is = tt
+says_none : (names : List (List ℕ)) (status : Status) → IfRefused status (λ refusal. ⊥) → SaysOfUnits [] [] names status
+says_none names Done is = record { none = refl; grammatical = none_yet [] [] }
+says_none names (Exited s) is = tt
+says_none names StillRunning is = tt
+says_none names WentUndefined is = tt
+says_none names Usage is = tt
+says_none names (Refused refusal) is = absurd is
+says_none names (NotCil k) is = tt
+says_none names ReadFault is = tt
+says_none names WriteFault is = record { none = refl; grammatical = none_yet [] [] }
+says_none names Memory is = tt
 
-pub says_other : (told : Option Told) (words : List (List ℕ)) (status : Status) → merged_files words ≡ [] → IfRefused status (λ refusal. ⊥) → IfSome (all_under told (merged_files words)) (λ units. SaysOfUnits units (merged_files words) status)
-says_other told words status none is = subst (λ fs. IfSome (all_under told fs) (λ units. SaysOfUnits units fs status)) (sym none) (by told)
+pub says_other : (told : Option Told) (words names : List (List ℕ)) (status : Status) → merged_files words ≡ [] → IfRefused status (λ refusal. ⊥) → IfSome (all_under told (merged_files words)) (λ units. SaysOfUnits units (merged_files words) names status)
+says_other told words names status none is = subst (λ fs. IfSome (all_under told fs) (λ units. SaysOfUnits units fs names status)) (sym none) (by told)
   where
-    by : (told : Option Told) → IfSome (all_under told []) (λ units. SaysOfUnits units [] status)
+    by : (told : Option Told) → IfSome (all_under told []) (λ units. SaysOfUnits units [] names status)
     by None = tt
-    by (Some t) = says_none status is
+    by (Some t) = says_none names status is
 
 -- no run is refused
 pub run_not_refused : (status : Status) → IsRunAnswer status → IfRefused status (λ refusal. ⊥)

@@ -33,8 +33,12 @@ use Rattle.cil_base.specs.declared.faults.Fault.TheVariants.{Lexical, Excluded, 
 use Rattle.cil_commands.specs.Grammatical.{AreTokens, IsGrammatical}
 use Rattle.cil_sources.specs.Files.{IsFrontOf}
 use Rattle.cil_commands.specs.Merge.{IsRefused, NoGrammar, OfUnit, IsNoGrammar, Large, OfToken, OfGrammar, IsNoUnit, IsMergedTo, IsLike, IfRefused, too_large}
-use Rattle.unit_merger.specs.Refusals.{IsUnitFault, IsUnitRefusal, IsMergeFault, HasOther, IsMergeRefusal, KeepsFirst}
-use Rattle.unit_merger.specs.Units.{IsUnitCause}
+use Rattle.merge_refusals.specs.Refusals.{IsUnitFault, IsUnitRefusal, IsMergeFault, HasOther, IsMergeRefusal}
+use Rattle.cil_base.specs.NamePool.{Stays}
+use Rattle.cast_insert.specs.Refusals.{IsCheckedRefusal}
+use Rattle.unit_front.specs.Refusals.{KeepsFile, KeepsFiles}
+use Rattle.unit_front.proofs.Files.{kept}
+use Rattle.unit_merger.specs.Units.{IsUnitCause, OfCheck, OfLength}
 use Rattle.cil_commands.specs.Merged.{file_in, IsAlone}
 use Rattle.cil_commands.proofs.SmallUnits.{small_is_grammatical}
 use Rattle.cil_lines.specs.declared.status.Status.{Status}
@@ -63,7 +67,7 @@ grammar_file name bytes file _ _ front (OfGrammar refusal names tokens are fault
 
 refused_file : (name bytes file : List ℕ) (names : List (List ℕ)) (refusal : Refusal) → IsFrontOf 4194305 bytes file → IsRefused (record { name = name; bytes = bytes }) refusal names → IsRefused (record { name = name; bytes = file }) refusal names
 refused_file name bytes file _ _ front (NoGrammar refusal names wrong) = NoGrammar refusal names (grammar_file name bytes file names refusal front wrong)
-refused_file name bytes file _ _ front (OfUnit refusal names reads none fault) = same_file name bytes file (λ f. IsRefused f refusal names) front reads.are.small (OfUnit refusal names reads none fault)
+refused_file name bytes file _ _ front (OfUnit refusal names reads none fault files) = same_file name bytes file (λ f. IsRefused f refusal names) front reads.are.small (OfUnit refusal names reads none fault files)
 
 -- of a file that may not be told
 pub merges_asked : (asked : Option (List ℕ)) (name bytes : List ℕ) (p : Program) → IfSome asked (IsFrontOf 4194305 bytes) → IsMergedTo (record { name = name; bytes = bytes }) p
@@ -308,36 +312,29 @@ unit_refusal (Err stops.Memory) count is = tt
 abbrev pub stopped : (A : Type 0) → Stop → Result A Stop
 stopped A stop = Err stop
 
-pub unit_refused : (A B : Type 0) (stop : Stop) (file : SourceFile) (names : List (List ℕ)) (g : IsGrammatical file) → IsNoUnit file → IfStopped (stopped A stop) (IsUnitCause g.tokens) → IfStopped (stopped B stop) (λ refusal. IsRefused file refusal names)
-unit_refused A B (stops.Refused refusal) file names g none is = OfUnit refusal names g none is
-unit_refused A B stops.Memory file names g none is = tt
+-- the files of the places keep their texts
+alone_kept : (t : Lexed) (i : ℕ) (names pool : List (List ℕ)) (refusal : Refusal) → PlacesWithin (length names) t → Stays names pool → place_at t i ≡ Some refusal.at → refusal.other ≡ None → KeepsFiles names pool refusal
+alone_kept t i names pool refusal within stays at other = record { at = kept names pool refusal.at (within i refusal.at at) stays; other = subst (λ o. IfSome o (KeepsFile names pool)) (sym other) tt }
 
--- the first name stays
+cause_kept : (t : Lexed) (names pool : List (List ℕ)) (refusal : Refusal) → PlacesWithin (length names) t → Stays names pool → IsUnitCause t refusal → KeepsFiles names pool refusal
+cause_kept t names pool _ within stays (OfCheck refusal is) = alone_kept t is.at.0 names pool refusal within stays is.at.1 is.other
+cause_kept t names pool _ within stays (OfLength refusal fault long at other) = alone_kept t 0 names pool refusal within stays at other
 
-pub first_stays : {A : Type 0} (r : Result A Stop) (names : List (List ℕ)) → KeepsFirst r names names
-first_stays r names = λ known name more is. (more, is)
-
-pub stopped_first : (A B : Type 0) (stop : Stop) (old new : List (List ℕ)) → KeepsFirst (stopped A stop) old new → KeepsFirst (stopped B stop) old new
-stopped_first A B (stops.Refused refusal) old new keeps = λ known. keeps (λ same. (let clash : stopped A (stops.Refused refusal) ≡ stopped A stops.Memory = same in cc))
-stopped_first A B stops.Memory old new keeps = λ known. absurd (known refl)
-
-pub first_grown : {A : Type 0} (r : Result A Stop) (old middle new : List (List ℕ)) → IsAlone old → Grows old middle → KeepsFirst r middle new → KeepsFirst r old new
-first_grown r [] middle new alone grows keeps = absurd alone
-first_grown r (first ∷ []) middle new alone grows keeps = λ known name more is.
-    (let begun = grows_begins first middle grows in
-    let kept = keeps known first begun.more begun.is in
-    let same : first ≡ name = cc in
-    (kept.0, kept.1 ∙ ap (λ n. n ∷ kept.0) same))
-first_grown r (first ∷ other ∷ more) middle new alone grows keeps = absurd alone
+pub unit_refused : (A B : Type 0) (stop : Stop) (file : SourceFile) (pool : List (List ℕ)) (g : IsGrammatical file) → PlacesWithin (length g.names) g.tokens → Stays g.names pool → IsNoUnit file → IfStopped (stopped A stop) (IsUnitCause g.tokens) → IfStopped (stopped B stop) (λ refusal. IsRefused file refusal pool)
+unit_refused A B (stops.Refused refusal) file pool g within stays none is = OfUnit refusal pool g none is (cause_kept g.tokens g.names pool refusal within stays is)
+unit_refused A B stops.Memory file pool g within stays none is = tt
 
 -- the pool of a file's name alone
 interned_first : (old middle : List (List ℕ)) (name text : List ℕ) (n : ℕ) → old ≡ [] → text ≡ name → Interns old middle text n → middle ≡ name ∷ []
 interned_first old middle name text n none same interns = interns.after ∙ (ap (λ ns. interned ns text) none ∙ ap (λ t. t ∷ []) same)
 
-pub begun_names : (old middle new : List (List ℕ)) (name text : List ℕ) (n : ℕ) → old ≡ [] → text ≡ name → Interns old middle text n → ((first : List ℕ) (more : List (List ℕ)) → middle ≡ first ∷ more → (rest : List (List ℕ)) × (new ≡ first ∷ rest)) → Begins (name ∷ []) new
-begun_names old middle new name text n none same interns keeps =
-    let kept = keeps name [] (interned_first old middle name text n none same interns) in
-    record { more = kept.0; is = kept.1 }
+begins_at : (name : List ℕ) (new : List (List ℕ)) → slice_get new 0 ≡ Some name → Begins (name ∷ []) new
+begins_at name [] is = cc
+begins_at name (first ∷ rest) is = record { more = rest; is = ap (λ (n : List ℕ). n ∷ rest) (same_Some first name is) }
+
+pub begun_names : (old middle new : List (List ℕ)) (name text : List ℕ) (n : ℕ) → old ≡ [] → text ≡ name → Interns old middle text n → Stays middle new → Begins (name ∷ []) new
+begun_names old middle new name text n none same interns stays =
+    begins_at name new (stays 0 name (ap (λ (ns : List (List ℕ)). slice_get ns 0) (interned_first old middle name text n none same interns)))
 
 pub merge_refused : (asked : Option (List ℕ)) (old middle names : List (List ℕ)) (name text bytes read : List ℕ) (n : ℕ) (status : Status) → old ≡ [] → text ≡ name → Interns old middle text n → read ≡ bytes → IfSome asked (IsFrontOf 4194305 bytes)
     → IfRefused status (λ refusal. IsRefused (file_in middle read) refusal names)

@@ -12,7 +12,8 @@ use Rattle.c_meaning.specs.Grammar.{Expression, IsUnit}
 use Rattle.c_parser.specs.UnitAnswers.{IsSyntaxFault}
 use Rattle.outside.specs.Named.{Told}
 use Rattle.cil_words.specs.Command.{merged_file}
-use Rattle.unit_merger.specs.Refusals.{IsMergeFault, HasOther}
+use Rattle.merge_refusals.specs.Refusals.{IsMergeFault, HasOther}
+use Rattle.unit_front.specs.Refusals.{KeepsFiles}
 use Rattle.unit_merger.specs.Units.{IsUnitCause}
 use Rattle.cil_sources.specs.Files.{bytes_under}
 use Rattle.cil_tree.specs.Tree.{Program}
@@ -48,10 +49,10 @@ pub data IsNoGrammar (unit : SourceFile) : Refusal → List (List ℕ) → Type 
   OfToken : (refusal : Refusal) (names : List (List ℕ)) → length unit.bytes ≤ 4194304 → IsLexed unit (Refused refusal names) → IsNoGrammar unit refusal names
   OfGrammar : (refusal : Refusal) (names : List (List ℕ)) (tokens : Lexed) → AreTokens unit tokens names → IsSyntaxFault tokens refusal → IsNoGrammar unit refusal names
 
--- why a file is refused: it is no grammatical unit; or it is one that is not of the form, and is refused at a token of it for an excluded form, a constraint of C11 or a limit, or because the text of its program is too long
+-- why a file is refused, with the names that its places' files are numbers in: it is no grammatical unit; or it is one that is not of the form, and is refused at a token of it for an excluded form, a constraint of C11 or a limit, or because the text of its program is too long
 pub data IsRefused (unit : SourceFile) : Refusal → List (List ℕ) → Type 0 where
   NoGrammar : (refusal : Refusal) (names : List (List ℕ)) → IsNoGrammar unit refusal names → IsRefused unit refusal names
-  OfUnit : (refusal : Refusal) (names : List (List ℕ)) (g : IsGrammatical unit) → IsNoUnit unit → IsUnitCause g.tokens refusal → IsRefused unit refusal names
+  OfUnit : (refusal : Refusal) (names : List (List ℕ)) (g : IsGrammatical unit) → IsNoUnit unit → IsUnitCause g.tokens refusal → KeepsFiles g.names names refusal → IsRefused unit refusal names
 
 -- the program that the unit is merged to: the unit is grammatical, the program is the one with its text, and where the unit is of the form its meaning is kept
 pub record IsMergedTo (unit : SourceFile) (p : Program) : Type 0 where

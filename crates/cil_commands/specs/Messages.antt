@@ -5,6 +5,7 @@ use Rattle.outside.specs.Named.{Told}
 use Rattle.cil_words.specs.Command.{file_of}
 use Rattle.cil_lines.specs.declared.status.Status.{Status}
 use Rattle.cil_lines.specs.Messages.{HasFiles}
+use Rattle.cil_commands.specs.Several.{UnitsSay, LinksSay}
 use Rattle.cil_commands.specs.Merge.{unit_asked, IsRefused, IfRefused}
 
 -- the first name: that of the file
@@ -21,3 +22,8 @@ pub record AreNames (told : Option Told) (words : List (List ℕ)) (status : Sta
   pub begin : Begins (names_asked words) names
   pub files : HasFiles (length names) status
   pub refused : IfSome (unit_asked told words) (λ unit. IfRefused status (λ refusal. IsRefused unit refusal names))
+
+-- what a status says of the units with the names whose numbers stand in it: the file of each place is named as the tokens of its unit have it
+pub record SaysWith (told : Option Told) (words : List (List ℕ)) (status : Status) (names : List (List ℕ)) : Type 0 where
+  pub units : UnitsSay told words names status
+  pub links : LinksSay told words names status

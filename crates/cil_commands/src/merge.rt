@@ -10,7 +10,8 @@ ghost use Rattle.cil_tree.specs.Programs.{IsTextOf};
 ghost use Rattle.outside.specs.Counts.{Rose};
 ghost use Rattle.outside.specs.Moves.{Began, Wrote};
 ghost use Rattle.outside.specs.Named.{find_file, names_of};
-ghost use Rattle.unit_merger.specs.Refusals.{IsMergeRefusal, KeepsFirst};
+ghost use Rattle.merge_refusals.specs.Refusals.{IsMergeRefusal};
+ghost use Rattle.cil_base.specs.NamePool.{Stays};
 ghost use Rattle.cil_sources.specs.Files.{bytes_under, all_under, found_all};
 ghost use Rattle.cil_sources.specs.Units.{kept};
 ghost use Rattle.cil_commands.specs.Grammatical.{AreTokens};
@@ -73,9 +74,9 @@ fn form_text(alloc: Global, e: Expr) -> Result<Vec<u8>, Memory>
 // The text of the program that the first unit is merged to, which has these tokens.
 fn tokens_text(alloc: Global, tokens: &Tokens<'_>, names: &mut NamePool) -> Result<Vec<u8>, Stop>
     ensures merged { (file : SourceFile) → AreTokens file tokens.now names.old → IfOk result (λ text. (p : Program) × IsMergedTo file p × (text.items ≡ Text p)) }
-    ensures refused { (file : SourceFile) → AreTokens file tokens.now names.old → IfStopped result (λ refusal. IsRefused file refusal names.new) }
+    ensures refused { (file : SourceFile) → AreTokens file tokens.now names.old → PlacesWithin (length names.old) tokens.now → IfStopped result (λ refusal. IsRefused file refusal names.new) }
     ensures refusal { (file : SourceFile) → AreTokens file tokens.now names.old → PlacesWithin (length names.old) tokens.now → IfStopped result (IsMergeRefusal 1 (length names.new)) }
-    ensures first { KeepsFirst result names.old names.new }
+    ensures stays { Stays names.old names.new }
 {
     let tree = parse(alloc, tokens)?;
     match unit_of(alloc, tokens)? {
@@ -88,6 +89,7 @@ fn tokens_text(alloc: Global, tokens: &Tokens<'_>, names: &mut NamePool) -> Resu
 }
 
 // The text of the program that the first unit is merged to.
+#[tactic(auto, using(unit_front::proofs::Files::grows_stays, cil_base::proofs::PoolLemmas::stays_then))]
 fn merged_text(
     alloc: Global,
     unit: &[u8],
@@ -99,7 +101,7 @@ fn merged_text(
     ensures merged { IfOk result (λ text. (p : Program) × IsMergedTo (file_in names.old unit.now) p × (text.items ≡ Text p)) }
     ensures refused { IfStopped result (λ refusal. IsRefused (file_in names.old unit.now) refusal names.new) }
     ensures refusal { IfStopped result (IsMergeRefusal 1 (length names.new)) }
-    ensures first { KeepsFirst result names.old names.new }
+    ensures stays { Stays names.old names.new }
 {
     let tokens = unit_tokens(alloc, unit, file, names)?;
     tokens_text(alloc, &tokens, names)
@@ -117,7 +119,7 @@ fn merge_unit<O: Sink>(
     requires alone { IsAlone names.old }
     ensures kind { IsMergeAnswer 1 result }
     ensures files { HasFiles (length names.new) result }
-    ensures pool { result ≢ Status.Memory → (first : List ℕ) (more : List (List ℕ)) → names.old ≡ first ∷ more → (rest : List (List ℕ)) × (names.new ≡ first ∷ rest) }
+    ensures stays { Stays names.old names.new }
     ensures done { result ≡ Status.Done → (p : Program) × IsMergedTo (file_in names.old unit.now) p × Wrote (O.taken out.old) (O.taken out.new) (Text p) }
     ensures part { result ≡ Status.WriteFault → (p : Program) × IsMergedTo (file_in names.old unit.now) p × Began (O.taken out.old) (O.taken out.new) (Text p) }
     ensures idle { result ≢ Status.Done → result ≢ Status.WriteFault → out.new ≡ out.old }
@@ -181,9 +183,9 @@ fn merge_sources<O: Sink>(
 ) -> Status
     ensures kind { IsMergeAnswer (length asked.now) result }
     ensures files { HasFiles (length names.new) result }
-    ensures units { SaysOfKept sources.now.units.items sources.now.over (map string_bytes asked.now) result }
-    ensures links { SaysOfLinks common sources.now.units.items result }
-    ensures pool { result ≢ Status.Memory → (first : List ℕ) (more : List (List ℕ)) → names.old ≡ first ∷ more → (rest : List (List ℕ)) × (names.new ≡ first ∷ rest) }
+    ensures units { SaysOfKept sources.now.units.items sources.now.over (map string_bytes asked.now) names.new result }
+    ensures links { SaysOfLinks common sources.now.units.items (map string_bytes asked.now) names.new result }
+    ensures stays { Stays names.old names.new }
     ensures done { result ≡ Status.Done → (p : Program) × IsTextOf (Text p) p × Wrote (O.taken out.old) (O.taken out.new) (Text p) }
     ensures part { result ≡ Status.WriteFault → (p : Program) × IsTextOf (Text p) p × Began (O.taken out.old) (O.taken out.new) (Text p) }
     ensures idle { result ≢ Status.Done → result ≢ Status.WriteFault → out.new ≡ out.old }
@@ -200,7 +202,7 @@ fn merge_sources<O: Sink>(
 }
 
 // Merges the files of these names, of which the first becomes the first name of the pool, and writes the text.
-#[tactic(auto, using(crate::proofs::Several::says_read, crate::proofs::Several::links_read))]
+#[tactic(auto, using(crate::proofs::Several::says_read, crate::proofs::Several::links_read, crate::proofs::Units::begun_names))]
 pub fn merge_all<F: Files, O: Sink>(
     alloc: Global,
     asked: &[String],
@@ -214,8 +216,8 @@ pub fn merge_all<F: Files, O: Sink>(
     ensures kind { IsMergeAnswer (length asked.now) result }
     ensures names { result ≢ Status.Memory → (first : List ℕ) (more : List (List ℕ)) → map string_bytes asked.now ≡ first ∷ more → Begins (first ∷ []) names.new }
     ensures files { HasFiles (length names.new) result }
-    ensures units { IfSome (all_under (F.told files.old) (map string_bytes asked.now)) (λ units. SaysOfUnits units (map string_bytes asked.now) result) }
-    ensures links { IfSome (all_under (F.told files.old) (map string_bytes asked.now)) (λ units. SaysOfLinks common (kept 0 units).units result) }
+    ensures units { IfSome (all_under (F.told files.old) (map string_bytes asked.now)) (λ units. SaysOfUnits units (map string_bytes asked.now) names.new result) }
+    ensures links { IfSome (all_under (F.told files.old) (map string_bytes asked.now)) (λ units. SaysOfLinks common (kept 0 units).units (map string_bytes asked.now) names.new result) }
     ensures done { result ≡ Status.Done → (p : Program) × IsTextOf (Text p) p × Wrote (O.taken out.old) (O.taken out.new) (Text p) }
     ensures part { result ≡ Status.WriteFault → (p : Program) × IsTextOf (Text p) p × Began (O.taken out.old) (O.taken out.new) (Text p) }
     ensures idle { result ≢ Status.Done → result ≢ Status.WriteFault → out.new ≡ out.old }

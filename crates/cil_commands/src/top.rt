@@ -20,9 +20,9 @@ ghost use Rattle.cil_words.specs.Command.{command_of, files_of, merged_files, ru
 ghost use Rattle.cil_commands.specs.Execute.{text_asked, IsRunAnswer, IsEnd, RanAs, RunSays, AnswersAs};
 ghost use Rattle.cil_sources.specs.Files.{bytes_under, all_under, found_all};
 ghost use Rattle.cil_commands.specs.Merge.{unit_asked, IsMergeAnswer, IsMergedTo, IsNoGrammar, IsRefused, IsRefusedLike, IfRefused};
-ghost use Rattle.cil_commands.specs.Several.{SaysOfUnits, LinksSay};
+ghost use Rattle.cil_commands.specs.Several.{SaysOfUnits, UnitsSay, LinksSay};
 ghost use Rattle.cil_lines.specs.Messages.{line_of, IsQuiet, HasFiles};
-ghost use Rattle.cil_commands.specs.Messages.{AreNames};
+ghost use Rattle.cil_commands.specs.Messages.{AreNames, SaysWith};
 ghost use Rattle.cil_lines.specs.Sent.{Sent};
 
 use crate::execute::execute;
@@ -83,8 +83,8 @@ pub fn cil<F: Files, I: Source, O: Sink, E: Sink>(
     ensures accepted { IfSome (unit_asked (F.told files.old) (map string_bytes words.now)) (λ unit. (e : Expression) → IsUnit unit e → ¬ (Rose (F.faults files.old) (F.faults files.new)) → ¬ (Rose (O.faults out.old) (O.faults out.new)) → (result ≡ Status.Done) ⊎ (result ≡ Status.Memory)) }
     ensures refused { IfSome (unit_asked (F.told files.old) (map string_bytes words.now)) (λ unit. IfRefused result (λ refusal. (names : List (List ℕ)) × IsRefused unit refusal names)) }
     ensures refuses { IfSome (unit_asked (F.told files.old) (map string_bytes words.now)) (λ unit. (refusal : Refusal) (names : List (List ℕ)) → IsNoGrammar unit refusal names → ¬ (Rose (F.faults files.old) (F.faults files.new)) → IsRefusedLike result refusal ⊎ (result ≡ Status.Memory)) }
-    ensures units { sample_asked (map string_bytes words.now) ≡ None → IfSome (all_under (F.told files.old) (merged_files (map string_bytes words.now))) (λ units. SaysOfUnits units (merged_files (map string_bytes words.now)) result) }
-    ensures links { LinksSay (F.told files.old) (map string_bytes words.now) result }
+    ensures units { (names : List (List ℕ)) × UnitsSay (F.told files.old) (map string_bytes words.now) names result }
+    ensures links { (names : List (List ℕ)) × LinksSay (F.told files.old) (map string_bytes words.now) names result }
 
     // Where a write failed, out took a front of the text of such a program.
     ensures part { run_file (map string_bytes words.now) ≡ None → sample_asked (map string_bytes words.now) ≡ None → result ≡ Status.WriteFault → (p : Program) × IsTextOf (Text p) p × Began (O.taken out.old) (O.taken out.new) (Text p) × IfSome (unit_asked (F.told files.old) (map string_bytes words.now)) (λ unit. IsMergedTo unit p) }
@@ -114,7 +114,7 @@ pub fn cil<F: Files, I: Source, O: Sink, E: Sink>(
     ensures out_later { O.faults out.old ≤ O.faults out.new }
     ensures strays { IfSome (all_under (F.told files.old) (files_of (map string_bytes words.now))) (λ _. F.strays files.new ≡ F.strays files.old) }
 
-    ensures line { (names : List (List ℕ)) × AreNames (F.told files.old) (map string_bytes words.now) result names × Sent (E.taken err.old) (E.taken err.new) (E.faults err.old) (E.faults err.new) (line_of names (steps_asked (map string_bytes words.now)) result) }
+    ensures line { (names : List (List ℕ)) × AreNames (F.told files.old) (map string_bytes words.now) result names × SaysWith (F.told files.old) (map string_bytes words.now) result names × Sent (E.taken err.old) (E.taken err.new) (E.faults err.old) (E.faults err.new) (line_of names (steps_asked (map string_bytes words.now)) result) }
     ensures quiet { IsQuiet result → err.new ≡ err.old }
     ensures err_later { E.faults err.old ≤ E.faults err.new }
 {
@@ -168,8 +168,8 @@ fn run_command<F: Files, I: Source, O: Sink>(
     ensures input_told { result ≢ Status.ReadFault → I.faults input.new ≡ I.faults input.old }
     ensures write { result ≡ Status.WriteFault → Rose (O.faults out.old) (O.faults out.new) }
     ensures write_told { result ≢ Status.WriteFault → O.faults out.new ≡ O.faults out.old }
-    ensures units { sample_asked (map string_bytes words.now) ≡ None → IfSome (all_under (F.told files.old) (merged_files (map string_bytes words.now))) (λ units. SaysOfUnits units (merged_files (map string_bytes words.now)) result) }
-    ensures links { LinksSay (F.told files.old) (map string_bytes words.now) result }
+    ensures units { UnitsSay (F.told files.old) (map string_bytes words.now) names.new result }
+    ensures links { LinksSay (F.told files.old) (map string_bytes words.now) names.new result }
     ensures part { run_file (map string_bytes words.now) ≡ None → sample_asked (map string_bytes words.now) ≡ None → result ≡ Status.WriteFault → (p : Program) × IsTextOf (Text p) p × Began (O.taken out.old) (O.taken out.new) (Text p) × IfSome (unit_asked (F.told files.old) (map string_bytes words.now)) (λ unit. IsMergedTo unit p) }
     ensures nothing_written { run_file (map string_bytes words.now) ≡ None → result ≢ Status.Done → result ≢ Status.WriteFault → out.new ≡ out.old }
     ensures nothing_read { result ≡ Status.Usage → files.new ≡ files.old }
@@ -216,7 +216,7 @@ fn sample_words<O: Sink>(
     ensures no_run { run_file (map string_bytes _words.now) ≡ None }
     ensures no_text { (told : Option Told) → text_asked told (map string_bytes _words.now) ≡ None }
     ensures no_file { files_of (map string_bytes _words.now) ≡ [] }
-    ensures links { (told : Option Told) → LinksSay told (map string_bytes _words.now) result }
+    ensures links { (told : Option Told) → LinksSay told (map string_bytes _words.now) names.new result }
     ensures no_read { result ≢ Status.ReadFault }
     ensures write { result ≡ Status.WriteFault → Rose (O.faults out.old) (O.faults out.new) }
     ensures write_told { result ≢ Status.WriteFault → O.faults out.new ≡ O.faults out.old }
@@ -246,8 +246,8 @@ fn merge_words<F: Files, O: Sink>(
     ensures accepted { IfSome (unit_asked (F.told files.old) (map string_bytes words.now)) (λ unit. (e : Expression) → IsUnit unit e → ¬ (Rose (F.faults files.old) (F.faults files.new)) → ¬ (Rose (O.faults out.old) (O.faults out.new)) → (result ≡ Status.Done) ⊎ (result ≡ Status.Memory)) }
     ensures refuses { IfSome (unit_asked (F.told files.old) (map string_bytes words.now)) (λ unit. (refusal : Refusal) (names : List (List ℕ)) → IsNoGrammar unit refusal names → ¬ (Rose (F.faults files.old) (F.faults files.new)) → IsRefusedLike result refusal ⊎ (result ≡ Status.Memory)) }
     ensures refused { IfSome (unit_asked (F.told files.old) (map string_bytes words.now)) (λ unit. IfRefused result (λ refusal. (others : List (List ℕ)) × IsRefused unit refusal others)) }
-    ensures units { IfSome (all_under (F.told files.old) (merged_files (map string_bytes words.now))) (λ units. SaysOfUnits units (merged_files (map string_bytes words.now)) result) }
-    ensures links { LinksSay (F.told files.old) (map string_bytes words.now) result }
+    ensures units { IfSome (all_under (F.told files.old) (merged_files (map string_bytes words.now))) (λ units. SaysOfUnits units (merged_files (map string_bytes words.now)) names.new result) }
+    ensures links { LinksSay (F.told files.old) (map string_bytes words.now) names.new result }
     ensures part { result ≡ Status.WriteFault → (p : Program) × IsTextOf (Text p) p × Began (O.taken out.old) (O.taken out.new) (Text p) × IfSome (unit_asked (F.told files.old) (map string_bytes words.now)) (λ unit. IsMergedTo unit p) }
     ensures read { result ≡ Status.ReadFault → Rose (F.faults files.old) (F.faults files.new) }
     ensures read_told { result ≢ Status.ReadFault → F.faults files.new ≡ F.faults files.old }
@@ -288,8 +288,8 @@ fn merge_alone<F: Files, O: Sink>(
     ensures accepted { IfSome (unit_asked (F.told files.old) (map string_bytes words.now)) (λ unit. (e : Expression) → IsUnit unit e → ¬ (Rose (F.faults files.old) (F.faults files.new)) → ¬ (Rose (O.faults out.old) (O.faults out.new)) → (result ≡ Status.Done) ⊎ (result ≡ Status.Memory)) }
     ensures refuses { IfSome (unit_asked (F.told files.old) (map string_bytes words.now)) (λ unit. (refusal : Refusal) (names : List (List ℕ)) → IsNoGrammar unit refusal names → ¬ (Rose (F.faults files.old) (F.faults files.new)) → IsRefusedLike result refusal ⊎ (result ≡ Status.Memory)) }
     ensures refused { IfSome (unit_asked (F.told files.old) (map string_bytes words.now)) (λ unit. IfRefused result (λ refusal. (others : List (List ℕ)) × IsRefused unit refusal others)) }
-    ensures units { IfSome (all_under (F.told files.old) (merged_files (map string_bytes words.now))) (λ units. SaysOfUnits units (merged_files (map string_bytes words.now)) result) }
-    ensures links { LinksSay (F.told files.old) (map string_bytes words.now) result }
+    ensures units { IfSome (all_under (F.told files.old) (merged_files (map string_bytes words.now))) (λ units. SaysOfUnits units (merged_files (map string_bytes words.now)) names.new result) }
+    ensures links { LinksSay (F.told files.old) (map string_bytes words.now) names.new result }
     ensures part { result ≡ Status.WriteFault → (p : Program) × IsTextOf (Text p) p × Began (O.taken out.old) (O.taken out.new) (Text p) × IfSome (unit_asked (F.told files.old) (map string_bytes words.now)) (λ unit. IsMergedTo unit p) }
     ensures read { result ≡ Status.ReadFault → Rose (F.faults files.old) (F.faults files.new) }
     ensures read_told { result ≢ Status.ReadFault → F.faults files.new ≡ F.faults files.old }
@@ -326,8 +326,8 @@ fn merge_several<F: Files, O: Sink>(
     ensures accepted { IfSome (unit_asked (F.told files.old) (map string_bytes words.now)) (λ unit. (e : Expression) → IsUnit unit e → ¬ (Rose (F.faults files.old) (F.faults files.new)) → ¬ (Rose (O.faults out.old) (O.faults out.new)) → (result ≡ Status.Done) ⊎ (result ≡ Status.Memory)) }
     ensures refuses { IfSome (unit_asked (F.told files.old) (map string_bytes words.now)) (λ unit. (refusal : Refusal) (names : List (List ℕ)) → IsNoGrammar unit refusal names → ¬ (Rose (F.faults files.old) (F.faults files.new)) → IsRefusedLike result refusal ⊎ (result ≡ Status.Memory)) }
     ensures refused { IfSome (unit_asked (F.told files.old) (map string_bytes words.now)) (λ unit. IfRefused result (λ refusal. (others : List (List ℕ)) × IsRefused unit refusal others)) }
-    ensures units { IfSome (all_under (F.told files.old) (merged_files (map string_bytes words.now))) (λ units. SaysOfUnits units (merged_files (map string_bytes words.now)) result) }
-    ensures links { LinksSay (F.told files.old) (map string_bytes words.now) result }
+    ensures units { IfSome (all_under (F.told files.old) (merged_files (map string_bytes words.now))) (λ units. SaysOfUnits units (merged_files (map string_bytes words.now)) names.new result) }
+    ensures links { LinksSay (F.told files.old) (map string_bytes words.now) names.new result }
     ensures part { result ≡ Status.WriteFault → (p : Program) × IsTextOf (Text p) p × Began (O.taken out.old) (O.taken out.new) (Text p) × IfSome (unit_asked (F.told files.old) (map string_bytes words.now)) (λ unit. IsMergedTo unit p) }
     ensures read { result ≡ Status.ReadFault → Rose (F.faults files.old) (F.faults files.new) }
     ensures read_told { result ≢ Status.ReadFault → F.faults files.new ≡ F.faults files.old }
@@ -361,8 +361,8 @@ fn run_words<F: Files, I: Source, O: Sink>(
     ensures names { result ≢ Status.Memory → AreNames (F.told files.old) (map string_bytes words.now) result names.new }
     ensures files { HasFiles (length names.new) result }
     ensures named { IsSome (run_file (map string_bytes words.now)) }
-    ensures units { IfSome (all_under (F.told files.old) (merged_files (map string_bytes words.now))) (λ units. SaysOfUnits units (merged_files (map string_bytes words.now)) result) }
-    ensures links { LinksSay (F.told files.old) (map string_bytes words.now) result }
+    ensures units { IfSome (all_under (F.told files.old) (merged_files (map string_bytes words.now))) (λ units. SaysOfUnits units (merged_files (map string_bytes words.now)) names.new result) }
+    ensures links { LinksSay (F.told files.old) (map string_bytes words.now) names.new result }
     ensures ran { IfSome (run_file (map string_bytes words.now)) (λ name. RunSays ((input.new ≡ input.old) × (out.new ≡ out.old)) (Rose (F.faults files.old) (F.faults files.new)) ((F.faults files.new ≡ F.faults files.old) × Rose (I.faults input.old) (I.faults input.new)) (bytes_under (F.told files.old) name) (words_given (map string_bytes words.now)) (steps_asked (map string_bytes words.now)) result (I.left input.old) (I.left input.new) (O.taken out.old) (O.taken out.new)) }
     ensures read { result ≡ Status.ReadFault → Rose (F.faults files.old) (F.faults files.new) ⊎ (IsSome (run_file (map string_bytes words.now)) × Rose (I.faults input.old) (I.faults input.new)) }
     ensures read_told { result ≢ Status.ReadFault → F.faults files.new ≡ F.faults files.old }

@@ -3,7 +3,7 @@ use Rattle.std.specs.Prelude.{ℕ, ◌<◌, List, Option}
 use Rattle.outside.specs.Moves.{Began, Wrote}
 use Rattle.cil_tree.specs.Tree.{Program}
 use Rattle.cil_tree.specs.Programs.{IsProgram}
-use Rattle.unit_merger.specs.Refusals.{IsMergeFault, HasOther, PrintedIfLong}
+use Rattle.merge_refusals.specs.Refusals.{IsMergeFault, HasOther, PrintedIfLong}
 use Rattle.sample_summary.specs.Summary.{IsSummary, StopsSo}
 use Rattle.sample_summary.specs.declared.stop.SampleStop.{SampleStop}
 use Rattle.sample_summary.specs.declared.stop.SampleStop.TheVariants as stop

@@ -4,7 +4,7 @@ ghost use Rattle.c_lexer.specs.Lexed.{IfRefused};
 ghost use Rattle.outside.specs.Counts.{Rose};
 ghost use Rattle.cil_tree.specs.View.{program_of};
 ghost use Rattle.cil_tree.specs.Programs.{IsProgram};
-ghost use Rattle.unit_merger.specs.Refusals.{IsMergeRefusal, PrintedIfLong};
+ghost use Rattle.merge_refusals.specs.Refusals.{IsMergeRefusal, PrintedIfLong};
 ghost use Rattle.cil_lines.specs.Messages.{HasFiles};
 ghost use Rattle.sample_command.specs.Answers.{SampleSays, IsSampleAnswer};
 

@@ -1,2 +1,4 @@
 pub mod Causes
+pub mod Declaring
+pub mod Files
 pub mod Places

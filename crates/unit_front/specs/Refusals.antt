@@ -1,10 +1,11 @@
 -- Definition: what a translation unit is refused for on its way to a CIL program, as the layer that finds it says, and where.
-use Rattle.std.specs.Prelude.{◌≡◌, ℕ, ◌<◌, ◌≤◌, List, length, None}
+use Rattle.std.specs.Prelude.{◌≡◌, ℕ, ◌<◌, ◌≤◌, List, length, Some, None, IfSome, slice_get}
 use Rattle.cil_base.specs.declared.numbers.UnitNo.{UnitNo}
 use Rattle.cil_base.specs.declared.numbers.NameId.{NameId}
 use Rattle.cil_base.specs.declared.faults.Fault.{Fault}
 use Rattle.cil_base.specs.declared.faults.Fault.TheVariants.{Lexical, Excluded, Syntax, Constraint, Limit}
 use Rattle.cil_base.specs.declared.faults.What.TheVariants.{UnitBytes}
+use Rattle.cil_base.specs.declared.faults.Place.{Place}
 use Rattle.cil_base.specs.declared.faults.Refusal.{Refusal}
 use Rattle.c_lexer.specs.Lexed.{Lexed, place_of}
 use Rattle.c_lexer.specs.Tokens.{IsAnswer, Whole, Refused}
@@ -47,11 +48,20 @@ pub data IsTokensRefusal (t : Lexed) : Refusal → Type 0 where
 abbrev pub too_large : UnitNo → NameId → Refusal
 too_large unit file = record { fault = Limit UnitBytes; at = place_of unit 0 file 1; other = None }
 
--- why a unit is refused: it has too many bytes (own), a token of it is refused, or for its tokens
-pub data IsFrontRefusal (s : Source) : Refusal → Type 0 where
-  Large : 4194304 < length s.bytes → IsFrontRefusal s (too_large s.unit s.file)
-  OfToken : (refusal : Refusal) (names : List (List ℕ)) → length s.bytes ≤ 4194304 → IsAnswer s.unit s.file s.names s.bytes (Refused refusal names) → IsFrontRefusal s refusal
-  OfTokens : (refusal : Refusal) (t : Lexed) → HasTokens s t → IsTokensRefusal t refusal → IsFrontRefusal s refusal
+-- the file of a place has the same text in a pool as among the names that the tokens of its unit have
+abbrev pub KeepsFile : List (List ℕ) → List (List ℕ) → Place → Type 0
+KeepsFile names pool place = (text : List ℕ) × (slice_get names place.file.0 ≡ Some text) × (slice_get pool place.file.0 ≡ Some text)
+
+-- so have the files of all places of a refusal
+pub record KeepsFiles (names pool : List (List ℕ)) (refusal : Refusal) : Type 0 where
+  pub at : KeepsFile names pool refusal.at
+  pub other : IfSome refusal.other (KeepsFile names pool)
+
+-- why a unit is refused, with the pool that the files of the places are numbers in then: it has too many bytes (own), a token of it is refused, or for its tokens
+pub data IsFrontRefusal (s : Source) (pool : List (List ℕ)) : Refusal → Type 0 where
+  Large : 4194304 < length s.bytes → KeepsFiles s.names pool (too_large s.unit s.file) → IsFrontRefusal s pool (too_large s.unit s.file)
+  OfToken : (refusal : Refusal) (names : List (List ℕ)) → length s.bytes ≤ 4194304 → IsAnswer s.unit s.file s.names s.bytes (Refused refusal names) → KeepsFiles names pool refusal → IsFrontRefusal s pool refusal
+  OfTokens : (refusal : Refusal) (t : Lexed) (are : HasTokens s t) → IsTokensRefusal t refusal → KeepsFiles are.names pool refusal → IsFrontRefusal s pool refusal
 
 -- the faults of one unit: of its bytes, of its tokens, of its grammar, and behind that
 abbrev pub IsFrontFault : Fault → Type 0

@@ -1,9 +1,12 @@
 ghost use Rattle.std.specs.Prelude.{◌≡◌, ◌<◌, length, IfOk};
 ghost use Rattle.c_lexer.specs.Lexed.{IfRefused};
 ghost use Rattle.cast_insert.specs.Refusals.{IfRefusal, IsCheckedRefusal};
+ghost use Rattle.cil_base.specs.NamePool.{Stays};
+ghost use Rattle.unit_front.specs.Identifiers.{AreDeclared, DeclaresIn};
 ghost use Rattle.unit_front.specs.Refusals.{AreGrammatical, IsGrammatical, IsTokensRefusal, IsFrontRefusal, IsInUnit, too_large as refusal_of_size};
 ghost use Rattle.unit_lower.specs.Externals.{HasExternals};
 
+use crate::identifiers::are_declared;
 use c_lexer::{Tokens, lex};
 use c_parser::parse;
 use c_tree::Unit;
@@ -21,7 +24,7 @@ const UNIT_BYTES: usize = 4_194_304;
 ///
 /// It is refused for a limit on its bytes, then as `lex`, `parse` and `check_unit` say; a unit that becomes a program is grammatical (C11
 /// 6.9).
-#[tactic(auto, using(crate::proofs::Causes::large, crate::proofs::Places::of_tokens))]
+#[tactic(auto, using(crate::proofs::Causes::large, crate::proofs::Places::of_tokens, crate::proofs::Files::grows_stays, cil_base::proofs::PoolLemmas::stays_then))]
 pub fn front(
     alloc: Global,
     bytes: &[u8],
@@ -32,9 +35,11 @@ pub fn front(
 ) -> Result<Fronted, Stop>
     requires named { file.0 < length names.old }
     ensures grammatical { IfOk result (λ _. IsGrammatical (record { bytes = bytes.now; unit = unit; file = file; names = names.old })) }
-    ensures refused { IfRefused result (IsFrontRefusal (record { bytes = bytes.now; unit = unit; file = file; names = names.old })) }
+    ensures refused { IfRefused result (IsFrontRefusal (record { bytes = bytes.now; unit = unit; file = file; names = names.old }) names.new) }
     ensures stands { IfRefused result (IsInUnit unit) }
     ensures externals { IfOk result HasExternals }
+    ensures declared { IfOk result (DeclaresIn (record { bytes = bytes.now; unit = unit; file = file; names = names.old }) names.new) }
+    ensures stays { Stays names.old names.new }
 {
     if bytes.len() > UNIT_BYTES {
         return Err(too_large(unit, file));
@@ -55,12 +60,16 @@ fn tokens_front(
     ensures refused { IfRefused result (IsTokensRefusal tokens.now) }
     ensures stands { IfRefused result (IsInUnit tokens.now.unit) }
     ensures externals { IfOk result HasExternals }
+    ensures declared { IfOk result (AreDeclared tokens.now) }
+    ensures stays { Stays names.old names.new }
 {
     let tree = parse(alloc, tokens)?;
     parsed_front(alloc, &tree, tokens, names, abi)
 }
 
-/// The CIL program that a translation unit of these tokens becomes, with what linking it with others asks for; or its first fault.
+/// The CIL program that a translation unit of these tokens becomes, with what linking it with others asks for; or its first fault. Each
+/// external name is declared at an identifier of the unit.
+#[tactic(auto, using(cil_base::proofs::PoolLemmas::stays_then))]
 pub fn parsed_front(
     alloc: Global,
     tree: &Unit,
@@ -70,10 +79,16 @@ pub fn parsed_front(
 ) -> Result<Fronted, Stop>
     ensures refused { IfRefused result (IsCheckedRefusal tokens.now) }
     ensures externals { IfOk result HasExternals }
+    ensures declared { IfOk result (AreDeclared tokens.now) }
+    ensures stays { Stays names.old names.new }
 {
     let typed = check_unit(alloc, tree, tokens, names, abi)?;
     let bases = names.bases()?;
-    Ok(lower_unit(alloc, &typed, bases)?)
+    let fronted = lower_unit(alloc, &typed, bases)?;
+    if !are_declared(tokens, &fronted) {
+        return Err(impossible());
+    }
+    Ok(fronted)
 }
 
 /// The refusal of a unit that has too many bytes.
@@ -91,4 +106,11 @@ fn too_large(unit: UnitNo, file: NameId) -> Stop
         },
         other: None,
     })
+}
+
+/// What a branch answers that never comes.
+fn impossible() -> Stop
+    ensures { IfRefusal result (λ refusal. ⊥) }
+{
+    Stop::Memory
 }

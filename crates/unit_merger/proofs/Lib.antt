@@ -1,5 +1,5 @@
-pub mod Firsts
 pub mod InOrder
 pub mod Links
+pub mod Named
 pub mod OneUnit
 pub mod Places

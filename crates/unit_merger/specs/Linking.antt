@@ -1,59 +1,88 @@
 -- Definition: what is said of the links of units that become a program, and of their refusals behind all units (C11 6.2.2p2, 6.2.7p2, 6.9p5).
-use Rattle.std.specs.Prelude.{◌≡◌, ℕ, Bool, List, length, Some, None, Result, Ok, Err, slice_get}
+use Rattle.std.specs.Prelude.{◌≡◌, ℕ, Bool, List, length, Some, None, IfSome, Result, Ok, Err, slice_get}
+use Rattle.cil_base.specs.NamePool.{Stays}
+use Rattle.cil_base.specs.declared.numbers.NameId.{NameId}
 use Rattle.cil_base.specs.declared.faults.Fault.{Fault}
 use Rattle.cil_base.specs.declared.faults.Fault.TheVariants.{Limit, Duplicate, Incompatible}
 use Rattle.cil_base.specs.declared.faults.What.TheVariants.{PrintedBytes}
+use Rattle.cil_base.specs.declared.faults.Place.{Place}
 use Rattle.cil_base.specs.declared.faults.Refusal.{Refusal}
 use Rattle.cil_base.specs.declared.faults.Stop.{Stop}
 use Rattle.cil_base.specs.declared.faults.Stop.TheVariants.{Refused, Memory}
 use Rattle.link_names.specs.declared.units.Fronted.{Fronted}
 use Rattle.link_names.specs.Linking.{Linked, declared_from, grouped, first_twice}
 use Rattle.unit_lower.specs.Externals.{HasExternals}
+use Rattle.unit_front.specs.Refusals.{Source}
+use Rattle.unit_front.specs.Identifiers.{IsIdentifier, DeclaresIn}
 use Rattle.cil_merge.specs.Merging.{graphs_of, Correspond, IsRefusal}
+use Rattle.unit_merger.specs.Units.{IsUnitOf, IsPlaceAmong}
 
--- CIL programs of so many units, each with its external names
-pub record AreFronted (count : ℕ) (fs : List Fronted) : Type 0 where
+-- the CIL program of the unit of a number: it has the external names of a program, each declared and defined at identifiers of that unit
+pub record IsFrontedAt (units files pool : List (List ℕ)) (i : ℕ) (f : Fronted) : Type 0 where
+  pub source : Source
+  pub number : source.unit.0 ≡ i
+  pub stands : IsUnitOf units files source
+  pub externals : HasExternals f
+  pub declared : DeclaresIn source pool f
+
+-- the CIL programs of the first units, so many, each of the unit of its number
+pub record AreFronted (units files pool : List (List ℕ)) (count : ℕ) (fs : List Fronted) : Type 0 where
   pub so_many : length fs ≡ count
-  pub externals : (i : ℕ) (f : Fronted) → slice_get fs i ≡ Some f → HasExternals f
+  pub each : (i : ℕ) (f : Fronted) → slice_get fs i ≡ Some f → IsFrontedAt units files pool i f
 
 -- the external names of programs, each with all that is said of it
 abbrev pub names_in : List Fronted → List Linked
 names_in fs = grouped (declared_from 0 fs)
 
--- there are CIL programs of the units of which no name is defined twice, and the declarations of each name correspond; names are the texts of all names then
-pub record AreLinked (common : Bool) (units : List (List ℕ)) : Type 0 where
+-- a place is that of an identifier of one of the units; the names of the unit's tokens stay in the pool
+pub record IsNamedAmong (units files pool : List (List ℕ)) (name : NameId) (place : Place) : Type 0 where
+  pub among : IsPlaceAmong units files pool place
+  pub stays : Stays among.are.names pool
+  pub named : IsIdentifier among.tokens name place
+
+-- all places of a refusal are those of one identifier
+pub record AreNamedAmong (units files pool : List (List ℕ)) (refusal : Refusal) : Type 0 where
+  pub name : NameId
+  pub at : IsNamedAmong units files pool name refusal.at
+  pub other : IfSome refusal.other (IsNamedAmong units files pool name)
+
+-- no name is defined twice in the CIL programs of the units, and the declarations of each name correspond; names are the texts of all names then, which stay in the pool
+pub record AreLinked (common : Bool) (units files pool : List (List ℕ)) : Type 0 where
   pub fronted : List Fronted
-  pub are : AreFronted (length units) fronted
   pub names : List (List ℕ)
+  pub are : AreFronted units files names (length units) fronted
+  pub stays : Stays names pool
   pub once : first_twice common (names_in fronted) ≡ None
   pub correspond : Correspond names (graphs_of fronted) (names_in fronted)
 
--- there are such programs of which the first name is refused that is defined twice; or no name is, and the first link is refused that lets the links up to it correspond in no way
-pub record IsUnlinked (common : Bool) (units : List (List ℕ)) (refusal : Refusal) : Type 0 where
+-- in the CIL programs of the units the first name is refused that is defined twice; or no name is, and the first link is refused that lets the links up to it correspond in no way. Both places are those of one identifier
+pub record IsUnlinked (common : Bool) (units files pool : List (List ℕ)) (refusal : Refusal) : Type 0 where
   pub fronted : List Fronted
-  pub are : AreFronted (length units) fronted
   pub names : List (List ℕ)
+  pub are : AreFronted units files names (length units) fronted
+  pub stays : Stays names pool
   pub refused : IsRefusal (first_twice common (names_in fronted)) names (graphs_of fronted) (names_in fronted) refusal
+  pub named : AreNamedAmong units files pool refusal
 
 -- what a fault that is found in linking says
-abbrev pub LinkSays : Bool → List (List ℕ) → Refusal → Fault → Type 0
-LinkSays common units refusal Duplicate = IsUnlinked common units refusal
-LinkSays common units refusal Incompatible = IsUnlinked common units refusal
-LinkSays common units refusal _ = Unit {0}
+abbrev pub LinkSays : Bool → List (List ℕ) → List (List ℕ) → List (List ℕ) → Refusal → Fault → Type 0
+LinkSays common units files pool refusal Duplicate = IsUnlinked common units files pool refusal
+LinkSays common units files pool refusal Incompatible = IsUnlinked common units files pool refusal
+LinkSays common units files pool refusal _ = Unit {0}
 
 -- the text of a program is too long only where the units are linked
-abbrev pub LateSays : Bool → List (List ℕ) → Refusal → Fault → Type 0
-LateSays common units refusal (Limit PrintedBytes) = AreLinked common units
-LateSays common units refusal fault = LinkSays common units refusal fault
+abbrev pub LateSays : Bool → List (List ℕ) → List (List ℕ) → List (List ℕ) → Refusal → Fault → Type 0
+LateSays common units files pool refusal (Limit PrintedBytes) = AreLinked common units files pool
+LateSays common units files pool refusal fault = LinkSays common units files pool refusal fault
 
 -- what an answer says of the links
-abbrev pub SaysOfLinks : {A : Type 0} → Bool → List (List ℕ) → Result A Stop → Type 0
-SaysOfLinks common units (Ok a) = AreLinked common units
-SaysOfLinks common units (Err (Refused refusal)) = LateSays common units refusal refusal.fault
-SaysOfLinks common units (Err Memory) = Unit {0}
+abbrev pub SaysOfLinks : {A : Type 0} → Bool → List (List ℕ) → List (List ℕ) → List (List ℕ) → Result A Stop → Type 0
+SaysOfLinks common units files pool (Ok a) = AreLinked common units files pool
+SaysOfLinks common units files pool (Err (Refused refusal)) = LateSays common units files pool refusal refusal.fault
+SaysOfLinks common units files pool (Err Memory) = Unit {0}
 
 -- what it says before a program is printed
-abbrev pub SaysFirst : {A : Type 0} → Bool → List (List ℕ) → Result A Stop → Type 0
-SaysFirst common units (Ok a) = AreLinked common units
-SaysFirst common units (Err (Refused refusal)) = LinkSays common units refusal refusal.fault
-SaysFirst common units (Err Memory) = Unit {0}
+abbrev pub SaysFirst : {A : Type 0} → Bool → List (List ℕ) → List (List ℕ) → List (List ℕ) → Result A Stop → Type 0
+SaysFirst common units files pool (Ok a) = AreLinked common units files pool
+SaysFirst common units files pool (Err (Refused refusal)) = LinkSays common units files pool refusal refusal.fault
+SaysFirst common units files pool (Err Memory) = Unit {0}

@@ -1,14 +1,13 @@
 //! The text of the CIL program that translation units become.
 //!
 //! Its public contract says that what it answers is the text of one well-formed CIL program, or that program itself; else the units are
-//! refused, at places that stand in them.
+//! refused, at places of their tokens, and for their links as the CIL programs ask that they become; and that the pool keeps its names.
 //!
 //! The limits are own.
 #![tactic(auto)]
 
 mod merger;
-mod pool;
+mod naming;
 mod printing;
-mod refusals;
 
 pub use merger::{unit_text, units_program, units_text};

@@ -4,15 +4,14 @@ ghost use Rattle.c_lexer.specs.Lexed.{IfRefused};
 ghost use Rattle.cil_tree.specs.Tree.{Program};
 ghost use Rattle.cil_tree.specs.View.{program_of};
 ghost use Rattle.cil_tree.specs.Programs.{IsProgram, IsTextOf};
-ghost use Rattle.unit_merger.specs.Refusals.{IsUnitRefusal, IsMergeRefusal, KeepsFirst, PrintedIfLong, IfRefusal};
+ghost use Rattle.cil_base.specs.NamePool.{Stays};
+ghost use Rattle.merge_refusals.specs.Refusals.{IsUnitRefusal, IsMergeRefusal, PrintedIfLong, IfRefusal};
 ghost use Rattle.unit_merger.specs.Units.{AreGrammatical, AreMerged, IsRefusedAmong, IsUnitCause, over_limit};
 ghost use Rattle.unit_front.specs.Refusals.{IsFrontFault};
 ghost use Rattle.unit_merger.specs.Linking.{AreFronted, SaysFirst, SaysOfLinks};
-ghost use Rattle.unit_merger.specs.Naming.{IsNamed};
 
-use crate::pool::{begins, first_name};
+use crate::naming::named;
 use crate::printing::{unit_printed, units_printed};
-use crate::refusals::{impossible, of_first, of_link, of_units};
 use c_lexer::Tokens;
 use c_tree::Unit;
 use cil_base::{Abi, Bytes, Fault, Mode, NameId, NamePool, Place, Refusal, Stop, UnitNo, What};
@@ -20,11 +19,11 @@ use cil_merge::merge;
 use cil_sources::Sources;
 use cil_tree::CilUnit;
 use link_names::Fronted;
+use merge_refusals::{of_first, of_link, of_units};
 use std::alloc::Global;
 use unit_front::{front, parsed_front};
 
 /// The text of the CIL program that a translation unit, of these tokens, becomes. Own.
-#[tactic(auto, using(crate::proofs::Firsts::keeps_first))]
 pub fn unit_text(
     alloc: Global,
     unit: &Unit,
@@ -35,19 +34,15 @@ pub fn unit_text(
     ensures refused { IfRefused result (IsUnitRefusal (length names.new)) }
     ensures cause { IfRefused result (IsUnitCause tokens.now) }
     ensures printed { IfRefused result PrintedIfLong }
-    ensures first { KeepsFirst result names.old names.new }
+    ensures stays { Stays names.old names.new }
 {
-    let first = first_name(alloc, names)?;
-    let end = text_of_unit(alloc, unit, tokens, names);
-    if !begins(names, &first) {
-        return Err(impossible());
-    }
-    end
+    let program = merged_unit(alloc, unit, tokens, names)?;
+    unit_printed(&program, tokens, names)
 }
 
 /// The text of the CIL program that translation units of these files become, whose tentative definitions of one name are one object
 /// where they are common. Own.
-#[tactic(auto, using(crate::proofs::Firsts::keeps_first))]
+#[tactic(auto, using(crate::proofs::InOrder::late, crate::proofs::Links::of_printing, crate::proofs::Links::linked_later, cil_base::proofs::PoolLemmas::stays_then))]
 pub fn units_text(
     alloc: Global,
     sources: &Sources,
@@ -58,22 +53,19 @@ pub fn units_text(
     ensures text { IfOk result (λ b. (p : Program) × IsTextOf b p) }
     ensures refused { IfRefused result (IsMergeRefusal (length files.now) (length names.new)) }
     ensures merged { IfOk result (λ _. AreMerged sources.now.units.items sources.now.over (map string_bytes files.now)) }
-    ensures cause { IfRefused result (IsRefusedAmong sources.now.units.items sources.now.over (map string_bytes files.now)) }
+    ensures cause { IfRefused result (IsRefusedAmong sources.now.units.items sources.now.over (map string_bytes files.now) names.new) }
     ensures printed { IfRefused result PrintedIfLong }
-    ensures links { SaysOfLinks common sources.now.units.items result }
-    ensures first { KeepsFirst result names.old names.new }
+    ensures links { SaysOfLinks common sources.now.units.items (map string_bytes files.now) names.new result }
+    ensures stays { Stays names.old names.new }
 {
-    let first = first_name(alloc, names)?;
-    let end = text_of_units(alloc, sources, files, common, names);
-    if !begins(names, &first) {
-        return Err(impossible());
-    }
-    end
+    let units = &sources.units;
+    let program = merged(alloc, units, sources.over, files, common, names)?;
+    units_printed(alloc, &program, units, files, names)
 }
 
 /// The CIL program that translation units in memory become, of files of these names; it is refused as the text of `units_text` is.
 /// Own.
-#[tactic(auto, using(crate::proofs::InOrder::late, crate::proofs::Links::of_long))]
+#[tactic(auto, using(crate::proofs::InOrder::late, crate::proofs::Links::of_long, crate::proofs::Links::linked_later, cil_base::proofs::PoolLemmas::stays_then))]
 pub fn units_program(
     alloc: Global,
     units: &[Bytes],
@@ -83,50 +75,14 @@ pub fn units_program(
     ensures program { IfOk result (λ u. IsProgram (program_of names.new u)) }
     ensures refused { IfRefused result (IsMergeRefusal (length files.now) (length names.new)) }
     ensures merged { IfOk result (λ _. AreMerged units.now None (map string_bytes files.now)) }
-    ensures cause { IfRefused result (IsRefusedAmong units.now None (map string_bytes files.now)) }
+    ensures cause { IfRefused result (IsRefusedAmong units.now None (map string_bytes files.now) names.new) }
     ensures printed { IfRefused result PrintedIfLong }
-    ensures links { SaysOfLinks false units.now result }
+    ensures links { SaysOfLinks false units.now (map string_bytes files.now) names.new result }
+    ensures stays { Stays names.old names.new }
 {
     let program = merged(alloc, units, None, files, false, names)?;
     let _ = units_printed(alloc, &program, units, files, names)?;
     Ok(program)
-}
-
-/// The text of the program that one unit becomes.
-fn text_of_unit(
-    alloc: Global,
-    unit: &Unit,
-    tokens: &Tokens<'_>,
-    names: &mut NamePool,
-) -> Result<Bytes, Stop>
-    ensures text { IfOk result (λ b. (p : Program) × IsTextOf b p) }
-    ensures refused { IfRefused result (IsUnitRefusal (length names.new)) }
-    ensures cause { IfRefused result (IsUnitCause tokens.now) }
-    ensures printed { IfRefused result PrintedIfLong }
-{
-    let program = merged_unit(alloc, unit, tokens, names)?;
-    unit_printed(&program, tokens, names)
-}
-
-/// The text of the program that units of these files become.
-#[tactic(auto, using(crate::proofs::InOrder::late, crate::proofs::Links::of_printing))]
-fn text_of_units(
-    alloc: Global,
-    sources: &Sources,
-    files: &[String],
-    common: bool,
-    names: &mut NamePool,
-) -> Result<Bytes, Stop>
-    ensures text { IfOk result (λ b. (p : Program) × IsTextOf b p) }
-    ensures refused { IfRefused result (IsMergeRefusal (length files.now) (length names.new)) }
-    ensures merged { IfOk result (λ _. AreMerged sources.now.units.items sources.now.over (map string_bytes files.now)) }
-    ensures cause { IfRefused result (IsRefusedAmong sources.now.units.items sources.now.over (map string_bytes files.now)) }
-    ensures printed { IfRefused result PrintedIfLong }
-    ensures links { SaysOfLinks common sources.now.units.items result }
-{
-    let units = &sources.units;
-    let program = merged(alloc, units, sources.over, files, common, names)?;
-    units_printed(alloc, &program, units, files, names)
 }
 
 /// The program that one unit becomes.
@@ -139,6 +95,7 @@ fn merged_unit(
     ensures refused { IfRefused result (IsUnitRefusal (length names.new)) }
     ensures cause { IfRefused result (IsUnitCause tokens.now) }
     ensures printed { IfRefused result PrintedIfLong }
+    ensures stays { Stays names.old names.new }
 {
     match program_of_unit(alloc, unit, tokens, names) {
         Ok(program) => Ok(program),
@@ -159,9 +116,10 @@ fn merged(
 ) -> Result<CilUnit, Stop>
     ensures refused { IfRefused result (IsMergeRefusal (length files.now) (length names.new)) }
     ensures merged { IfOk result (λ _. AreMerged units.now over (map string_bytes files.now)) }
-    ensures cause { IfRefused result (IsRefusedAmong units.now over (map string_bytes files.now)) }
+    ensures cause { IfRefused result (IsRefusedAmong units.now over (map string_bytes files.now) names.new) }
     ensures printed { IfRefused result PrintedIfLong }
-    ensures links { SaysOfLinks common units.now result }
+    ensures links { SaysOfLinks common units.now (map string_bytes files.now) names.new result }
+    ensures stays { Stays names.old names.new }
 {
     match program_of_units(alloc, units, over, files, common, names) {
         Ok(program) => Ok(program),
@@ -171,7 +129,7 @@ fn merged(
 }
 
 /// The program that one unit becomes, or its first fault. A unit alone has no links, so that merging refuses it for none.
-#[tactic(auto, using(crate::proofs::InOrder::of_check))]
+#[tactic(auto, using(crate::proofs::InOrder::of_check, cil_base::proofs::PoolLemmas::stays_then))]
 fn program_of_unit(
     alloc: Global,
     unit: &Unit,
@@ -179,6 +137,7 @@ fn program_of_unit(
     names: &mut NamePool,
 ) -> Result<CilUnit, Stop>
     ensures cause { IfRefused result (IsUnitCause tokens.now) }
+    ensures stays { Stays names.old names.new }
 {
     let mode = Mode {
         common: false,
@@ -194,7 +153,7 @@ fn program_of_unit(
 }
 
 /// The program that units of these files become, or their first fault.
-#[tactic(auto, using(crate::proofs::InOrder::late, crate::proofs::Links::linked, crate::proofs::Links::of_merge, crate::proofs::Links::of_front))]
+#[tactic(auto, using(crate::proofs::Links::linked, crate::proofs::Links::of_merge, crate::proofs::Links::merge_cause, crate::proofs::Links::of_front, cil_base::proofs::PoolLemmas::stays_then))]
 fn program_of_units(
     alloc: Global,
     units: &[Bytes],
@@ -204,8 +163,9 @@ fn program_of_units(
     names: &mut NamePool,
 ) -> Result<CilUnit, Stop>
     ensures merged { IfOk result (λ _. AreMerged units.now over (map string_bytes files.now)) }
-    ensures cause { IfRefused result (IsRefusedAmong units.now over (map string_bytes files.now)) }
-    ensures links { SaysFirst common units.now result }
+    ensures cause { IfRefused result (IsRefusedAmong units.now over (map string_bytes files.now) names.new) }
+    ensures links { SaysFirst common units.now (map string_bytes files.now) names.new result }
+    ensures stays { Stays names.old names.new }
 {
     let mode = Mode {
         common,
@@ -220,7 +180,7 @@ fn program_of_units(
 }
 
 /// Each unit as a CIL program; it is refused at the first unit that has a fault.
-#[tactic(auto, using(crate::proofs::InOrder::none_yet, crate::proofs::Links::none_fronted))]
+#[tactic(auto, using(crate::proofs::InOrder::none_yet, crate::proofs::Links::none_fronted, cil_base::proofs::PoolLemmas::stays_then))]
 fn fronted(
     alloc: Global,
     units: &[Bytes],
@@ -230,9 +190,10 @@ fn fronted(
     mode: Mode,
 ) -> Result<Vec<Fronted>, Stop>
     ensures merged { IfOk result (λ _. AreMerged units.now over (map string_bytes files.now)) }
-    ensures cause { IfRefused result (IsRefusedAmong units.now over (map string_bytes files.now)) }
-    ensures fronted { IfOk result (λ fs. AreFronted (length units.now) fs.items) }
+    ensures cause { IfRefused result (IsRefusedAmong units.now over (map string_bytes files.now) names.new) }
+    ensures fronted { IfOk result (λ fs. AreFronted units.now (map string_bytes files.now) names.new (length units.now) fs.items) }
     ensures early { IfRefused result (λ r. IsFrontFault r.fault) }
+    ensures stays { Stays names.old names.new }
 {
     let mut done = Vec::new(alloc);
     for i in 0..units.len() {
@@ -246,6 +207,7 @@ fn fronted(
 }
 
 /// Puts the CIL program of the unit of a number behind those before it.
+#[tactic(auto, using(cil_base::proofs::PoolLemmas::stays_then))]
 fn add_front(
     alloc: Global,
     units: &[Bytes],
@@ -259,27 +221,15 @@ fn add_front(
     requires within { i < length units.now }
     requires before { AreGrammatical units.now (map string_bytes files.now) i }
     ensures grammatical { OnOk result (AreGrammatical units.now (map string_bytes files.now) (i + 1)) }
-    ensures cause { IfRefused result (IsRefusedAmong units.now over (map string_bytes files.now)) }
-    ensures fronted { OnOk result (AreFronted i done.old.items → AreFronted (i + 1) done.new.items) }
+    ensures cause { IfRefused result (IsRefusedAmong units.now over (map string_bytes files.now) names.new) }
+    ensures fronted { OnOk result (AreFronted units.now (map string_bytes files.now) names.old i done.old.items → AreFronted units.now (map string_bytes files.now) names.new (i + 1) done.new.items) }
     ensures early { IfRefused result (λ r. IsFrontFault r.fault) }
+    ensures stays { Stays names.old names.new }
 {
     let (unit, file) = named(i, files, names)?;
     let fronted = front(alloc, units[i].as_slice(), unit, file, names, mode.abi)?;
     done.push(fronted)?;
     Ok(())
-}
-
-/// The number of a unit, and the number of its file's name.
-fn named(i: usize, files: &[String], names: &mut NamePool) -> Result<(UnitNo, NameId), Stop>
-    ensures named { IfOk result (λ at. IsNamed (map string_bytes files.now) i at.0 at.1 names.new) }
-    ensures known { IfOk result (λ at. at.1.0 < length names.new) }
-    ensures refused { IfRefused result (λ refusal. ⊥) }
-{
-    if i >= files.len() || i >= u32::MAX as usize {
-        return Err(impossible());
-    }
-    let file = names.intern(files[i].as_bytes())?;
-    Ok((UnitNo(i as u32), file))
 }
 
 /// The refusal of a unit that passes a limit.

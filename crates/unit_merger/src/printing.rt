@@ -1,20 +1,23 @@
-ghost use Rattle.std.specs.Prelude.{◌≡◌, ◌≤◌, ◌<◌, length, MatchOption, IfOk, OnOk};
+ghost use Rattle.std.specs.Prelude.{◌≡◌, ◌≤◌, ◌<◌, Some, None, length, map, MatchOption, IfOk, OnOk};
+ghost use Rattle.std.specs.String.{string_bytes};
+ghost use Rattle.cil_base.specs.NamePool.{Stays};
 ghost use Rattle.cil_base.specs.declared.faults.Fault.TheVariants.{Limit};
 ghost use Rattle.cil_base.specs.declared.faults.What.TheVariants.{PrintedBytes};
-ghost use Rattle.c_lexer.specs.Lexed.{IfRefused};
+ghost use Rattle.c_lexer.specs.Lexed.{IfRefused, place_at};
 ghost use Rattle.cil_tree.specs.Tree.{Program};
 ghost use Rattle.cil_tree.specs.Text.{Text};
 ghost use Rattle.cil_tree.specs.View.{program_of};
 ghost use Rattle.cil_tree.specs.Programs.{IsProgram, IsTextOf, text_limit};
-ghost use Rattle.unit_merger.specs.Units.{IsLateFault, IsUnitCause};
-ghost use Rattle.unit_merger.specs.Refusals.{IsUnitRefusal, IsMergeRefusal, PrintedIfLong};
+ghost use Rattle.unit_merger.specs.Units.{IsPlaceAmong, IsUnitCause};
+ghost use Rattle.merge_refusals.specs.Refusals.{IsLateFault, IsUnitRefusal, IsMergeRefusal, PrintedIfLong};
 
-use crate::refusals::{impossible, too_long};
+use crate::naming::named;
 use c_lexer::{Tokens, lex};
 use cil_base::{Bytes, NamePool, Place, Stop, UnitNo};
 use cil_check::check;
 use cil_printer::{PrintStop, print};
 use cil_tree::CilUnit;
+use merge_refusals::{impossible, too_long};
 use std::alloc::Global;
 
 /// The greatest number of bytes in a translation unit.
@@ -37,20 +40,21 @@ fn printed(program: &CilUnit, names: &NamePool) -> Result<Option<Bytes>, Stop>
 }
 
 /// The place of the first token of the first unit, which has these tokens.
-fn first_place(tokens: &Tokens<'_>) -> Place
-    ensures unit { result.unit ≡ record { 0 = 0 } }
-    ensures token { result.token ≡ 0 }
+fn first_place(tokens: &Tokens<'_>) -> Result<Place, Stop>
+    ensures at { IfOk result (λ place. place_at tokens.now 0 ≡ Some place) }
+    ensures unit { IfOk result (λ place. place.unit ≡ record { 0 = 0 }) }
+    ensures token { IfOk result (λ place. place.token ≡ 0) }
+    ensures refused { IfRefused result (λ refusal. ⊥) }
 {
     let place = tokens.place(0);
-    Place {
-        unit: UnitNo(0),
-        token: 0,
-        file: place.file,
-        line: place.line,
+    if place.unit != UnitNo(0) || place.token != 0 {
+        return Err(impossible());
     }
+    Ok(place)
 }
 
 /// The text of the program that a unit of these tokens becomes.
+#[tactic(auto, using(crate::proofs::InOrder::of_length))]
 pub(crate) fn unit_printed(
     program: &CilUnit,
     tokens: &Tokens<'_>,
@@ -63,11 +67,12 @@ pub(crate) fn unit_printed(
 {
     match printed(program, names)? {
         Some(text) => Ok(text),
-        None => Err(too_long(first_place(tokens), names)),
+        None => Err(too_long(first_place(tokens)?, names)),
     }
 }
 
 /// The place of the first token of the first of some units, of which the first file has that name.
+#[tactic(auto, using(unit_front::proofs::Files::grows_stays, cil_base::proofs::PoolLemmas::stays_then))]
 fn place_in(
     alloc: Global,
     units: &[Bytes],
@@ -76,20 +81,27 @@ fn place_in(
 ) -> Result<Place, Stop>
     ensures unit { IfOk result (λ place. place.unit ≡ record { 0 = 0 }) }
     ensures token { IfOk result (λ place. place.token ≡ 0) }
+    ensures placed { IfOk result (IsPlaceAmong units.now (map string_bytes files.now) names.new) }
     ensures some { OnOk result (0 < length files.now) }
     ensures refused { IfRefused result (λ refusal. ⊥) }
+    ensures stays { Stays names.old names.new }
 {
-    if units.is_empty() || files.is_empty() || units[0].as_slice().len() > UNIT_BYTES {
+    if units.is_empty() || files.is_empty() {
         return Err(impossible());
     }
-    let file = names.intern(files[0].as_bytes())?;
-    match lex(alloc, units[0].as_slice(), UnitNo(0), file, names) {
-        Ok(tokens) => Ok(first_place(&tokens)),
+    let bytes = units[0].as_slice();
+    if bytes.len() > UNIT_BYTES {
+        return Err(impossible());
+    }
+    let (unit, file) = named(0, files, names)?;
+    match lex(alloc, bytes, unit, file, names) {
+        Ok(tokens) => first_place(&tokens),
         Err(_) => Err(impossible()),
     }
 }
 
 /// The text of the program that units of these files become.
+#[tactic(auto, using(crate::proofs::Places::long_among))]
 pub(crate) fn units_printed(
     alloc: Global,
     program: &CilUnit,
@@ -102,7 +114,10 @@ pub(crate) fn units_printed(
     ensures refused { IfRefused result (IsMergeRefusal (length files.now) (length names.new)) }
     ensures late { IfRefused result (λ r. IsLateFault r.fault) }
     ensures long { IfRefused result (λ r. r.fault ≡ Limit PrintedBytes) }
+    ensures placed { IfRefused result (λ r. IsPlaceAmong units.now (map string_bytes files.now) names.new r.at) }
+    ensures alone { IfRefused result (λ r. r.other ≡ None) }
     ensures printed { IfRefused result PrintedIfLong }
+    ensures stays { Stays names.old names.new }
 {
     match printed(program, names)? {
         Some(text) => Ok(text),

@@ -4,7 +4,7 @@ use Rattle.cil_commands.proofs.merge.merge.Goals as goal
 
 pub returns-in-Ok-read_file-clause-names : goal.returns-in-Ok-read_file-clause-names
 returns-in-Ok-read_file-clause-names g c = λ known.
-    begun_names c.args.names.now c.intern.new.self c.merge_unit.new.names c.args.name.now c.as_bytes.result.now _ c.requires c.as_bytes.ensures.value c.in-Ok.ensures.ok (c.merge_unit.ensures.pool known)
+    begun_names c.args.names.now c.intern.new.self c.merge_unit.new.names c.args.name.now c.as_bytes.result.now _ c.requires c.as_bytes.ensures.value c.in-Ok.ensures.ok c.merge_unit.ensures.stays
 
 pub returns-in-Ok-read_file-clause-refused : goal.returns-in-Ok-read_file-clause-refused
 returns-in-Ok-read_file-clause-refused g c =

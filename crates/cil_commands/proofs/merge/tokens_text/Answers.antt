@@ -8,13 +8,13 @@ use Rattle.cil_tree.specs.Programs.{IsTextOf}
 use Rattle.cil_commands.specs.Small.{small, whole_program}
 use Rattle.cil_commands.proofs.Merging.{small-Merges, small-well_formed}
 use Rattle.cil_commands.proofs.SmallTexts.{same_text}
-use Rattle.cil_commands.proofs.Units.{refused_by_grammar, found_unit, found_none, found_tree, unit_refused, stopped_first}
+use Rattle.cil_commands.proofs.Units.{refused_by_grammar, found_unit, found_none, found_tree, unit_refused}
 use Rattle.cil_commands.proofs.merge.tokens_text.Goals as goal
 
 pub returns-in_err-tree-clause-refused : goal.returns-in_err-tree-clause-refused
 returns-in_err-tree-clause-refused c =
     let says : IfStopped c.from_residual.result (IsSyntaxFault c.args.tokens.now) = search rules in
-    λ file are. refused_by_grammar c.from_residual.result file c.args.tokens.now c.args.names.now are says
+    λ file are within. refused_by_grammar c.from_residual.result file c.args.tokens.now c.args.names.now are says
 
 pub returns-in-Some-clause-merged : goal.returns-in-Some-clause-merged
 returns-in-Some-clause-merged c =
@@ -40,7 +40,4 @@ returns-in-Ok-clause-merged c =
 pub returns-clause-refused : goal.returns-clause-refused
 returns-clause-refused c =
     let none : None ≡ reading (spelled_in c.args.tokens.now.source c.args.tokens.now.entries) = rw c.in-None.is at c.in_ok-e.ensures in
-    λ file are. unit_refused (List ℕ) (Vec ℕ Global) c.in-Err.stop file c.unit_text.new.names (record { tokens = c.args.tokens.now; names = c.args.names.now; are = are; tree = _; reads = c.in_ok-tree.ensures.reads }) (found_none file c.args.tokens.now c.args.names.now are (sym none)) c.in-Err.ensures.cause
-
-pub returns-clause-first : goal.returns-clause-first
-returns-clause-first c = stopped_first _ _ c.in-Err.stop _ _ c.in-Err.ensures.first
+    λ file are within. unit_refused (List ℕ) (Vec ℕ Global) c.in-Err.stop file c.unit_text.new.names (record { tokens = c.args.tokens.now; names = c.args.names.now; are = are; tree = _; reads = c.in_ok-tree.ensures.reads }) within c.unit_text.ensures.stays (found_none file c.args.tokens.now c.args.names.now are (sym none)) c.in-Err.ensures.cause

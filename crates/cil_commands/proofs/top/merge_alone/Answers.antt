@@ -63,11 +63,12 @@ pub returns-clause-units : goal.returns-clause-units
 returns-clause-units g c =
     says_alone (g.F.Files.told c.args.files.now) c.as_str.result.now (merged_files (map string_bytes c.args.words.now)) c.merge.result c.merge.new.names
     (merged_alone c.args.words.now c.args._common c.args.first c.index-words-first.result c.requires.command c.requires.last ∙ ap (λ name. name ∷ []) (sym (c.as_str.ensures.value ∙ ap string_bytes c.index-words-first.is)))
+    c.merge.ensures.names c.merge.ensures.files
     (λ s. unit_of_merged (file_under (g.F.Files.told c.args.files.now) c.as_str.result.now) (c.merge.ensures.done s).0 (c.merge.ensures.done s).3)
     (λ s. unit_of_merged (file_under (g.F.Files.told c.args.files.now) c.as_str.result.now) (c.merge.ensures.part s).0 (c.merge.ensures.part s).3)
     c.merge.ensures.refused
 
 pub returns-clause-links : goal.returns-clause-links
 returns-clause-links g c =
-    few_links (g.F.Files.told c.args.files.now) (map string_bytes c.args.words.now) (string_bytes (get_or c.args.words.now c.args.first c.index-words-first.result) ∷ []) c.merge.result
+    few_links (g.F.Files.told c.args.files.now) (map string_bytes c.args.words.now) (string_bytes (get_or c.args.words.now c.args.first c.index-words-first.result) ∷ []) c.merge.new.names c.merge.result
     (merged_alone c.args.words.now c.args._common c.args.first c.index-words-first.result c.requires.command c.requires.last) (omega arith)

@@ -60,12 +60,12 @@ returns-clause-strays g c =
 
 pub returns-clause-units : goal.returns-clause-units
 returns-clause-units g c =
-    subst (λ ns. IfSome (all_under (g.F.Files.told c.args.files.now) ns) (λ units. SaysOfUnits units ns c.merge_all.result))
+    subst (λ ns. IfSome (all_under (g.F.Files.told c.args.files.now) ns) (λ units. SaysOfUnits units ns c.merge_all.new.names c.merge_all.result))
     (ap (map string_bytes) (take_rest c.args.words.now c.args.first) ∙ sym (merged_several c.args.words.now c.args.common c.args.first c.requires.command)) c.merge_all.ensures.units
 
 pub returns-clause-links : goal.returns-clause-links
 returns-clause-links g c = λ several.
-    (subst (λ common. IfSome (all_under (g.F.Files.told c.args.files.now) (merged_files (map string_bytes c.args.words.now))) (λ units. SaysOfLinks common (kept 0 units).units c.merge_all.result))
+    (subst (λ common. IfSome (all_under (g.F.Files.told c.args.files.now) (merged_files (map string_bytes c.args.words.now))) (λ units. SaysOfLinks common (kept 0 units).units (merged_files (map string_bytes c.args.words.now)) c.merge_all.new.names c.merge_all.result))
     (sym (common_is c.args.words.now c.args.common c.args.first c.requires.command))
-    (subst (λ ns. IfSome (all_under (g.F.Files.told c.args.files.now) ns) (λ units. SaysOfLinks c.args.common (kept 0 units).units c.merge_all.result))
+    (subst (λ ns. IfSome (all_under (g.F.Files.told c.args.files.now) ns) (λ units. SaysOfLinks c.args.common (kept 0 units).units ns c.merge_all.new.names c.merge_all.result))
     (ap (map string_bytes) (take_rest c.args.words.now c.args.first) ∙ sym (merged_several c.args.words.now c.args.common c.args.first c.requires.command)) c.merge_all.ensures.links))

@@ -12,7 +12,7 @@ returns-in-Some-Sample-clause-names g c = λ known. c.sample_words.ensures.names
 pub returns-in-None-clause-units : goal.returns-in-None-clause-units
 returns-in-None-clause-units g c = λ known.
     (let none : command_of (map string_bytes c.args.words.now) ≡ None = sym c.requires.command ∙ c.in-None.is in
-    says_other (g.F.Files.told c.args.files.now) (map string_bytes c.args.words.now) Usage (merged_by_none (map string_bytes c.args.words.now) none) tt)
+    says_other (g.F.Files.told c.args.files.now) (map string_bytes c.args.words.now) c.args.names.now Usage (merged_by_none (map string_bytes c.args.words.now) none) tt)
 
 pub returns-in-Some-Sample-clause-links : goal.returns-in-Some-Sample-clause-links
 returns-in-Some-Sample-clause-links g c = c.sample_words.ensures.links (g.F.Files.told c.args.files.now)
@@ -20,4 +20,4 @@ returns-in-Some-Sample-clause-links g c = c.sample_words.ensures.links (g.F.File
 pub returns-in-None-clause-links : goal.returns-in-None-clause-links
 returns-in-None-clause-links g c =
     let none : command_of (map string_bytes c.args.words.now) ≡ None = sym c.requires.command ∙ c.in-None.is in
-    few_links (g.F.Files.told c.args.files.now) (map string_bytes c.args.words.now) [] Usage (merged_by_none (map string_bytes c.args.words.now) none) (omega arith)
+    few_links (g.F.Files.told c.args.files.now) (map string_bytes c.args.words.now) [] c.args.names.now Usage (merged_by_none (map string_bytes c.args.words.now) none) (omega arith)

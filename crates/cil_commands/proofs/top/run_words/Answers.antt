@@ -57,8 +57,8 @@ bounds-words-file g c = run_within c.args.words.now c.args.steps c.args.file c.r
 
 pub returns-clause-units : goal.returns-clause-units
 returns-clause-units g c =
-    says_other (g.F.Files.told c.args.files.now) (map string_bytes c.args.words.now) c.execute.result (merged_by_run (map string_bytes c.args.words.now) c.args.steps c.args.file c.requires.command) (run_not_refused c.execute.result (returns-clause-kind g c))
+    says_other (g.F.Files.told c.args.files.now) (map string_bytes c.args.words.now) c.execute.new.names c.execute.result (merged_by_run (map string_bytes c.args.words.now) c.args.steps c.args.file c.requires.command) (run_not_refused c.execute.result (returns-clause-kind g c))
 
 pub returns-clause-links : goal.returns-clause-links
 returns-clause-links g c =
-    few_links (g.F.Files.told c.args.files.now) (map string_bytes c.args.words.now) [] c.execute.result (merged_by_run (map string_bytes c.args.words.now) c.args.steps c.args.file c.requires.command) (omega arith)
+    few_links (g.F.Files.told c.args.files.now) (map string_bytes c.args.words.now) [] c.execute.new.names c.execute.result (merged_by_run (map string_bytes c.args.words.now) c.args.steps c.args.file c.requires.command) (omega arith)

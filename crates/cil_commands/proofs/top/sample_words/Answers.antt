@@ -37,4 +37,4 @@ returns-clause-no_read g c = no_read c.args.units c.sample.result _ _ c.sample.e
 
 pub returns-clause-links : goal.returns-clause-links
 returns-clause-links g c = λ told.
-    few_links told (map string_bytes c.args._words.now) [] c.sample.result (merged_by_sample (map string_bytes c.args._words.now) c.args.seed c.args.units c.requires.command) (omega arith)
+    few_links told (map string_bytes c.args._words.now) [] c.sample.new.names c.sample.result (merged_by_sample (map string_bytes c.args._words.now) c.args.seed c.args.units c.requires.command) (omega arith)

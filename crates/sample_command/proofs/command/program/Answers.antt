@@ -1,7 +1,7 @@
 use Rattle.std.proofs.Common.{length, map, ap, subst, ◌∙◌}
 use Rattle.std.specs.String.{string_bytes}
 use Rattle.c_lexer.specs.Lexed.{IfRefused}
-use Rattle.unit_merger.specs.Refusals.{IsMergeRefusal}
+use Rattle.merge_refusals.specs.Refusals.{IsMergeRefusal}
 use Rattle.sample_command.proofs.Files.{as_many}
 use Rattle.sample_command.proofs.command.program.Goals as goal
 

@@ -4,7 +4,7 @@ use Rattle.cil_merge.specs.Merging.{graphs_of}
 use Rattle.unit_merger.proofs.OneUnit.{never_refused}
 use Rattle.unit_merger.proofs.merger.program_of_unit.Goals as goal
 
-pub returns-in-Err : goal.returns-in-Err
-returns-in-Err c =
+pub returns-in-Err-clause-cause : goal.returns-in-Err-clause-cause
+returns-in-Err-clause-cause c =
     let one : c.push.new.self.items ≡ c.in_ok-fronted.fronted ∷ [] = search rules in
-    record { cause = never_refused CilUnit c.in-Err.stop c.args.tokens.now false c.parsed_front.new.names (graphs_of c.push.new.self.items) c.push.new.self.items c.in_ok-fronted.fronted one c.in_ok-fronted.ensures.externals c.in-Err.ensures.refused }
+    never_refused CilUnit c.in-Err.stop c.args.tokens.now false c.parsed_front.new.names (graphs_of c.push.new.self.items) c.push.new.self.items c.in_ok-fronted.fronted one c.in_ok-fronted.ensures.externals c.in-Err.ensures.refused

@@ -1,10 +1,8 @@
-ghost use Rattle.std.specs.Prelude.{◌≡◌, ◌≢◌, ◌<◌, ℕ, length, IsTrue};
+ghost use Rattle.std.specs.Prelude.{◌≡◌, ◌≢◌, ◌<◌, ℕ, None, length, IsTrue};
 ghost use Rattle.std.specs.Option.{ForSome};
 ghost use Rattle.cil_base.specs.declared.faults.Fault.TheVariants.{Limit};
 ghost use Rattle.cil_base.specs.declared.faults.What.TheVariants.{PrintedBytes};
-ghost use Rattle.c_lexer.specs.Lexed.{Lexed};
-ghost use Rattle.unit_merger.specs.Units.{IsLateFault, IsUnitCause};
-ghost use Rattle.unit_merger.specs.Refusals.{IsUnitFault, IsUnitRefusal, IsMergeFault, has_two_places, HasOther, IsMergeRefusal, IfRefusal, IsTooLong, PrintedIfLong};
+ghost use Rattle.merge_refusals.specs.Refusals.{IsLateFault, IsUnitFault, IsUnitRefusal, IsMergeFault, has_two_places, HasOther, IsMergeRefusal, IfRefusal, IsTooLong, PrintedIfLong};
 
 use cil_base::{Fault, NamePool, Place, Refusal, Stop, UnitNo, What};
 
@@ -68,7 +66,7 @@ fn has_other(refusal: &Refusal, units: usize, names: &NamePool) -> bool
 }
 
 /// What is answered where the first unit alone is refused before its program is printed.
-pub(crate) fn of_first(refusal: Refusal, names: &NamePool) -> Stop
+pub fn of_first(refusal: Refusal, names: &NamePool) -> Stop
     ensures printed { IfRefusal result PrintedIfLong }
     ensures refused { IfRefusal result (IsUnitRefusal (length names.now)) }
     ensures same { IfRefusal result (λ r. r ≡ refusal) }
@@ -85,7 +83,7 @@ pub(crate) fn of_first(refusal: Refusal, names: &NamePool) -> Stop
 }
 
 /// What is answered where units are refused before their program is printed.
-pub(crate) fn of_units(refusal: Refusal, units: usize, names: &NamePool) -> Stop
+pub fn of_units(refusal: Refusal, units: usize, names: &NamePool) -> Stop
     ensures printed { IfRefusal result PrintedIfLong }
     ensures refused { IfRefusal result (IsMergeRefusal units (length names.now)) }
     ensures same { IfRefusal result (λ r. r ≡ refusal) }
@@ -116,7 +114,7 @@ fn is_link_fault(fault: &Fault) -> bool
 }
 
 /// What is answered where units cannot be linked.
-pub(crate) fn of_link(refusal: Refusal) -> Stop
+pub fn of_link(refusal: Refusal) -> Stop
     ensures late { IfRefusal result (λ r. IsLateFault r.fault) }
     ensures same { IfRefusal result (λ r. r ≡ refusal) }
 {
@@ -128,12 +126,12 @@ pub(crate) fn of_link(refusal: Refusal) -> Stop
 }
 
 /// What is answered where the text of a program is too long, by the place of the first unit's first token.
-#[tactic(auto, using(crate::proofs::InOrder::of_length))]
-pub(crate) fn too_long(at: Place, names: &NamePool) -> Stop
+pub fn too_long(at: Place, names: &NamePool) -> Stop
     requires { IsTooLong at }
-    ensures cause { (t : Lexed) → IfRefusal result (IsUnitCause t) }
     ensures late { IfRefusal result (λ r. IsLateFault r.fault) }
     ensures long { IfRefusal result (λ r. r.fault ≡ Limit PrintedBytes) }
+    ensures place { IfRefusal result (λ r. r.at ≡ at) }
+    ensures alone { IfRefusal result (λ r. r.other ≡ None) }
     ensures printed { IfRefusal result PrintedIfLong }
     ensures unit { IfRefusal result (IsUnitRefusal (length names.now)) }
     ensures refused { (units : ℕ) → 0 < units → IfRefusal result (IsMergeRefusal units (length names.now)) }
@@ -150,7 +148,7 @@ pub(crate) fn too_long(at: Place, names: &NamePool) -> Stop
 }
 
 /// What a branch answers that never comes.
-pub(crate) fn impossible() -> Stop
+pub fn impossible() -> Stop
     ensures { IfRefusal result (λ refusal. ⊥) }
 {
     Stop::Memory

@@ -1,5 +1,5 @@
 -- Definition: what units are refused for, and where.
-use Rattle.std.specs.Prelude.{◌≡◌, ◌≢◌, ℕ, ◌<◌, Bool, true, false, List, [], ◌∷◌, length, Option, Some, None, Result, Err}
+use Rattle.std.specs.Prelude.{◌≡◌, ℕ, ◌<◌, Bool, true, false, length, Option, Some, None}
 use Rattle.std.specs.Option.{ForSome}
 use Rattle.cil_base.specs.declared.faults.Fault.{Fault}
 use Rattle.cil_base.specs.declared.faults.Fault.TheVariants.{Lexical, Excluded, Syntax, Constraint, Limit, Duplicate, Incompatible}
@@ -36,6 +36,13 @@ IsMergeFault (Limit what) = Unit {0}
 IsMergeFault Duplicate = Unit {0}
 IsMergeFault Incompatible = Unit {0}
 
+-- the faults that are found behind all units: of names with two definitions, of declarations that do not go together (C11 6.2.7p2, 6.9p5), and of a text that is too long
+abbrev pub IsLateFault : Fault → Type 0
+IsLateFault Duplicate = Unit {0}
+IsLateFault Incompatible = Unit {0}
+IsLateFault (Limit PrintedBytes) = Unit {0}
+IsLateFault _ = ⊥
+
 -- the faults that have a second place
 abbrev pub has_two_places : Fault → Bool
 has_two_places Syntax = true
@@ -61,10 +68,6 @@ pub record IsMergeRefusal (units count : ℕ) (refusal : Refusal) : Type 0 where
   pub file : refusal.at.file.0 < count
   pub other : HasOther units refusal.fault refusal.other
   pub other_file : ForSome refusal.other (λ place. place.file.0 < count)
-
--- the first name stays, unless memory is wanting
-abbrev pub KeepsFirst : {A : Type 0} → Result A Stop → List (List ℕ) → List (List ℕ) → Type 0
-KeepsFirst result old new = result ≢ Err Memory → (name : List ℕ) (more : List (List ℕ)) → old ≡ name ∷ more → (rest : List (List ℕ)) × (new ≡ name ∷ rest)
 
 -- what is said of a refusal
 abbrev pub IfRefusal : Stop → (Refusal → Type 0) → Type 0
