@@ -1,4 +1,3 @@
 pub mod Linking
 pub mod Naming
-pub mod Refusals
 pub mod Units

@@ -26,3 +26,9 @@ returns-clause-fronted c = λ before.
     let put : c.push.new.self.items ≡ c.args.done.now.items ++ c.in_ok-fronted.fronted ∷ [] = search rules in
     let at = fronted_at c.args.units.now (map string_bytes c.args.files.now) c.args.i c.as_slice.result.now c.in_ok-unit.unit c.in_ok-unit.file c.named.new.names c.front.new.names c.in_ok-fronted.fronted there c.in_ok-unit.ensures.named c.in_ok-fronted.ensures.externals c.in_ok-fronted.ensures.declared in
     fronted_next c.args.units.now (map string_bytes c.args.files.now) c.args.names.now c.front.new.names c.args.done.now.items c.push.new.self.items c.in_ok-fronted.fronted c.args.i before (stays_then c.args.names.now c.named.new.names c.front.new.names c.named.ensures.stays c.front.ensures.stays) at put)
+
+pub returns-in_err-push-clause-stays : goal.returns-in_err-push-clause-stays
+returns-in_err-push-clause-stays c = stays_then c.args.names.now c.named.new.names c.front.new.names c.in_ok-unit.ensures.stays c.in_ok-fronted.ensures.stays
+
+pub returns-clause-stays : goal.returns-clause-stays
+returns-clause-stays c = stays_then c.args.names.now c.named.new.names c.front.new.names c.in_ok-unit.ensures.stays c.in_ok-fronted.ensures.stays
