@@ -5,7 +5,7 @@ use Rattle.c_meaning.specs.SourceFile.{SourceFile}
 use Rattle.c_meaning.specs.Grammar.{Expression, IsUnit}
 use Rattle.outside.specs.Named.{Told}
 use Rattle.cil_tree.specs.Tree.{Program}
-use Rattle.cil_words.specs.Command.{steps_asked}
+use Rattle.cil_words.specs.Command.{steps_asked, merged_files}
 use Rattle.cil_commands.specs.Grammatical.{IsGrammatical}
 use Rattle.cil_commands.specs.Merge.{unit_asked, IsMergeAnswer, IsMergedTo, IsNoGrammar, IsRefused, IsRefusedLike, IfRefused}
 use Rattle.cil_lines.specs.Messages.{line_of}

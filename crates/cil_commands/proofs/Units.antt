@@ -135,7 +135,7 @@ not_grammar unit refusal names reads wrong = grammar_clash unit refusal names re
 
 pub not_both : (unit : SourceFile) (e : Expression) (refusal : Refusal) (names : List (List ℕ)) → IsUnit unit e → IsRefused unit refusal names → ⊥
 not_both unit e _ _ is (NoGrammar refusal names wrong) = grammar_clash unit refusal names (small_is_grammatical unit e is) wrong
-not_both unit e _ _ is (OfUnit refusal names grammatical none fault) = none e is
+not_both unit e _ _ is (OfUnit refusal names grammatical none fault files) = none e is
 
 like_itself : (one two : Refusal) → one ≡ two → IsLike one two
 like_itself one two same = record { fault = ap (λ (r : Refusal). r.fault) same; at = ap (λ (r : Refusal). r.at) same; other = λ no. ap (λ (r : Refusal). r.other) same }
@@ -163,7 +163,7 @@ like_grammar unit _ _ _ _ (OfGrammar one names tokens are fault) (OfGrammar two 
 
 pub like_refusal : (unit : SourceFile) (one two : Refusal) (names others : List (List ℕ)) → IsRefused unit one names → IsNoGrammar unit two others → IsLike one two
 like_refusal unit _ two _ others (NoGrammar one names first) second = like_grammar unit one two names others first second
-like_refusal unit _ two _ others (OfUnit one names reads none fault) second = absurd (grammar_clash unit two others reads second)
+like_refusal unit _ two _ others (OfUnit one names reads none fault files) second = absurd (grammar_clash unit two others reads second)
 
 -- what the parser says of the first unit
 
@@ -328,9 +328,14 @@ unit_refused A B stops.Memory file pool g within stays none is = tt
 interned_first : (old middle : List (List ℕ)) (name text : List ℕ) (n : ℕ) → old ≡ [] → text ≡ name → Interns old middle text n → middle ≡ name ∷ []
 interned_first old middle name text n none same interns = interns.after ∙ (ap (λ ns. interned ns text) none ∙ ap (λ t. t ∷ []) same)
 
-begins_at : (name : List ℕ) (new : List (List ℕ)) → slice_get new 0 ≡ Some name → Begins (name ∷ []) new
+pub begins_at : (name : List ℕ) (new : List (List ℕ)) → slice_get new 0 ≡ Some name → Begins (name ∷ []) new
 begins_at name [] is = cc
 begins_at name (first ∷ rest) is = record { more = rest; is = ap (λ (n : List ℕ). n ∷ rest) (same_Some first name is) }
+
+pub keeps_first : (old new : List (List ℕ)) → Stays old new → (first : List ℕ) (more : List (List ℕ)) → old ≡ first ∷ more → (rest : List (List ℕ)) × (new ≡ first ∷ rest)
+keeps_first old new stays first more is =
+    let begun = begins_at first new (stays 0 first (ap (λ (ns : List (List ℕ)). slice_get ns 0) is)) in
+    (begun.more, begun.is)
 
 pub begun_names : (old middle new : List (List ℕ)) (name text : List ℕ) (n : ℕ) → old ≡ [] → text ≡ name → Interns old middle text n → Stays middle new → Begins (name ∷ []) new
 begun_names old middle new name text n none same interns stays =

@@ -186,6 +186,7 @@ fn merge_sources<O: Sink>(
     ensures units { SaysOfKept sources.now.units.items sources.now.over (map string_bytes asked.now) names.new result }
     ensures links { SaysOfLinks common sources.now.units.items (map string_bytes asked.now) names.new result }
     ensures stays { Stays names.old names.new }
+    ensures pool { result ≢ Status.Memory → (first : List ℕ) (more : List (List ℕ)) → names.old ≡ first ∷ more → (rest : List (List ℕ)) × (names.new ≡ first ∷ rest) }
     ensures done { result ≡ Status.Done → (p : Program) × IsTextOf (Text p) p × Wrote (O.taken out.old) (O.taken out.new) (Text p) }
     ensures part { result ≡ Status.WriteFault → (p : Program) × IsTextOf (Text p) p × Began (O.taken out.old) (O.taken out.new) (Text p) }
     ensures idle { result ≢ Status.Done → result ≢ Status.WriteFault → out.new ≡ out.old }
@@ -202,7 +203,7 @@ fn merge_sources<O: Sink>(
 }
 
 // Merges the files of these names, of which the first becomes the first name of the pool, and writes the text.
-#[tactic(auto, using(crate::proofs::Several::says_read, crate::proofs::Several::links_read, crate::proofs::Units::begun_names))]
+#[tactic(auto, using(crate::proofs::Several::says_read, crate::proofs::Several::links_read))]
 pub fn merge_all<F: Files, O: Sink>(
     alloc: Global,
     asked: &[String],
