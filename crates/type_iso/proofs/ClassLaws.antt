@@ -1,5 +1,5 @@
 -- Device: the classes that come are those of the units' types.
-use Rattle.std.proofs.Common.{◌≡◌, inl, inr, ℕ, zero, suc, ◌+◌, ◌<◌, ◌≤◌, Bool, true, false, List, [], ◌∷◌, Option, Some, None, map, length, get_or, slice_get, nat_lt, if◌then◌else◌, subst, refl, sym, ap, ◌∙◌, arith}
+use Rattle.std.proofs.Common.{◌≡◌, inl, inr, ℕ, zero, suc, ◌+◌, ◌<◌, ◌≤◌, Bool, true, false, List, [], ◌∷◌, Option, Some, None, map, length, get_or, slice_get, nat_eq, nat_lt, if◌then◌else◌, subst, refl, sym, ap, ◌∙◌, arith}
 use borrow.Author.Tests.{ltb-true, lt-ltb}
 use Rattle.std.specs.Option.{option_map, option_and_then}
 use Rattle.cil_base.specs.declared.numbers.UnitNo.{UnitNo}
@@ -28,7 +28,7 @@ use Rattle.type_partition.specs.Partition.{AreNumbers}
 use Rattle.type_partition.specs.Keys.{num_at}
 use Rattle.type_partition.specs.Gathered.{AreGathered}
 use Rattle.type_iso.specs.Standing.{at_own, AreLeast, AreStanding, AreOrdered, AreClassed}
-use Rattle.type_iso.specs.Classes.{aggregate_number, class_in, representative_in, sides, type_number, IsTypeOf, IsRepresentative, StandsBefore, AreClasses, IsRefused}
+use Rattle.type_iso.specs.Classes.{aggregate_number, class_in, representative_in, sides, type_number, IsTypeOf, IsRepresentative, StandsBefore, AreClasses, IsRefused, is_one}
 use Rattle.type_order.specs.Order.{IsIn}
 use Rattle.type_iso.specs.Places.{ArePlaced, IsTypePlace, IsOver, IsClashAt}
 use Rattle.type_iso.specs.Order.{StandsNext}
@@ -304,3 +304,12 @@ woven_within names gs w woven = (
     let c = map_length (thing_in w.parts.items) w.things.items in
     let d = woven.aggregates in
     omega (arith, a, b, c, d))
+
+pub no_first : (k l : Option ℕ) → None ≡ k → false ≡ is_one k l
+no_first k l e = ap (λ o. is_one o l) e
+
+pub no_second : (a : ℕ) (k l : Option ℕ) → Some a ≡ k → None ≡ l → false ≡ is_one k l
+no_second a k l e f = ap (is_one (Some a)) f ∙ ap (λ o. is_one o l) e
+
+pub both_classes : (a b : ℕ) (k l : Option ℕ) → Some a ≡ k → Some b ≡ l → nat_eq a b ≡ is_one k l
+both_classes a b k l e f = ap (is_one (Some a)) f ∙ ap (λ o. is_one o l) e

@@ -1,5 +1,5 @@
 -- Definition: the classes of the structs, unions and enums of several units, once the declarations of each external name are linked (C11 6.2.7p1, p2).
-use Rattle.std.specs.Prelude.{◌≡◌, ◌⊎◌, ◌↔◌, ℕ, zero, suc, ◌+◌, ◌<◌, ◌≤◌, Bool, true, false, List, [], ◌∷◌, Option, Some, None, Result, Ok, Err, map, length, is_some, nat_lt, slice_get, if◌then◌else◌}
+use Rattle.std.specs.Prelude.{◌≡◌, ◌⊎◌, ◌↔◌, ℕ, zero, suc, ◌+◌, ◌<◌, ◌≤◌, Bool, true, false, List, [], ◌∷◌, Option, Some, None, Result, Ok, Err, map, length, is_some, nat_eq, nat_lt, slice_get, if◌then◌else◌}
 use Rattle.std.specs.Option.{option_map, option_and_then}
 use Rattle.cil_base.specs.declared.numbers.TypeId.{TypeId}
 use Rattle.cil_base.specs.declared.numbers.UnitNo.{UnitNo}
@@ -29,6 +29,12 @@ aggregate_number (g ∷ gs) (suc u) a = option_map (λ n. length g.aggs + n) (ag
 -- the class of an aggregate of a unit
 abbrev pub class_in : Classes → ℕ → ℕ → Option ℕ
 class_in c u a = option_and_then (λ (f : First). slice_get c.of.items (f.aggregate + a)) (slice_get c.firsts.items u)
+
+-- whether two aggregates, given by their classes, are there and in one class
+pub is_one : Option ℕ → Option ℕ → Bool
+is_one (Some k) (Some l) = nat_eq k l
+is_one (Some k) None = false
+is_one None l = false
 
 -- the number of classes
 abbrev pub class_count : Classes → ℕ

@@ -1,5 +1,5 @@
 ghost use Rattle.std.specs.Prelude.{◌≡◌, option_map};
-ghost use Rattle.type_iso.specs.Classes.{class_count, class_in, representative_in};
+ghost use Rattle.type_iso.specs.Classes.{class_count, class_in, is_one, representative_in};
 
 use cil_base::{AggId, UnitNo};
 use type_things::First;
@@ -33,12 +33,18 @@ impl Classes {
         Some(ClassNo(*class))
     }
 
-    /// Whether two aggregates are in one class.
-    pub fn same(&self, x: (UnitNo, AggId), y: (UnitNo, AggId)) -> bool {
-        match (self.class_of(x.0, x.1), self.class_of(y.0, y.1)) {
-            (Some(a), Some(b)) => a == b,
-            _ => false,
-        }
+    /// Whether two aggregates are there and in one class.
+    #[tactic(auto, using(crate::proofs::ClassLaws::no_first, crate::proofs::ClassLaws::no_second, crate::proofs::ClassLaws::both_classes))]
+    pub fn same(&self, x: (UnitNo, AggId), y: (UnitNo, AggId)) -> bool
+        ensures { result ≡ is_one (class_in self.now x.0.0 x.1.0) (class_in self.now y.0.0 y.1.0) }
+    {
+        let Some(a) = self.class_of(x.0, x.1) else {
+            return false;
+        };
+        let Some(b) = self.class_of(y.0, y.1) else {
+            return false;
+        };
+        a.0 == b.0
     }
 
     /// The aggregate that stands for a class, if there is such a class: the first complete one by unit and number, or the first of

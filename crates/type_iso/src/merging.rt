@@ -14,7 +14,7 @@ ghost use Rattle.type_iso.specs.Classes.{Answers};
 use crate::class_table::Classes;
 use crate::ordering::ordered;
 use cil_base::{AggId, Memory, NamePool, TypeId, UnitNo};
-use std::alloc::{AllocError, AllocFailed, Global};
+use std::alloc::Global;
 use type_joins::Joining;
 use type_links::{Failure, Group, join_groups};
 use type_partition::{copied, gather, isomorphic};
@@ -42,18 +42,6 @@ impl From<Memory> for ClassStop {
     ghost from_gives = { λ _ stop. stop ≡ WantOfMemory };
 
     fn from(_want: Memory) -> Self {
-        ClassStop::Memory
-    }
-}
-
-impl From<AllocError> for ClassStop {
-    fn from(_failed: AllocError) -> Self {
-        ClassStop::Memory
-    }
-}
-
-impl<T: Drop> From<AllocFailed<T>> for ClassStop {
-    fn from(_failed: AllocFailed<T>) -> Self {
         ClassStop::Memory
     }
 }

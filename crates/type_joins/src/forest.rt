@@ -16,6 +16,7 @@ impl Forest {
     /// Each number is a class of its own.
     pub fn new(alloc: Global, count: u32) -> Result<Self, Memory>
         ensures forest { IfOk result (λ f. IsForest f.parents.items) }
+        ensures length { IfOk result (λ f. length f.parents.items ≡ count) }
         ensures own { IfOk result (λ f. (x : ℕ) → root f.parents.items x ≡ x) }
     {
         Ok(Forest {

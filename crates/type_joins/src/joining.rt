@@ -1,4 +1,4 @@
-ghost use Rattle.std.specs.Prelude.{◌≡◌, ℕ, ◌<◌, List, [], ◌∷◌, ◌++◌, IsTrue, MatchBool, MatchOption, IfOk, OnOk};
+ghost use Rattle.std.specs.Prelude.{◌≡◌, ℕ, ◌<◌, List, [], ◌∷◌, ◌++◌, length, IsTrue, MatchBool, MatchOption, IfOk, OnOk};
 ghost use Rattle.type_things.specs.Things.{labels, Agree, IsClash};
 ghost use Rattle.type_joins.specs.Forests.{root, IsForest, joined};
 ghost use Rattle.type_joins.specs.Joined.{zipped, chosen, carried, IsJoining};
@@ -89,6 +89,7 @@ impl Joining {
     /// Each thing is a class of its own.
     pub fn new(alloc: Global, web: &Web) -> Result<Self, Memory>
         ensures forest { IfOk result (λ j. IsForest j.forest.parents.items) }
+        ensures length { IfOk result (λ j. length j.forest.parents.items ≡ length web.now.things.items) }
         ensures joining { IfOk result (λ j. IsJoining (things_of web.now) [] (root j.forest.parents.items) j.stand.items []) }
         ensures empty { IfOk result (λ j. j.work.items ≡ []) }
     {
