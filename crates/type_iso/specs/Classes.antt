@@ -31,7 +31,7 @@ abbrev pub class_in : Classes → ℕ → ℕ → Option ℕ
 class_in c u a = option_and_then (λ (f : First). slice_get c.of.items (f.aggregate + a)) (slice_get c.firsts.items u)
 
 -- whether two aggregates, given by their classes, are there and in one class
-pub is_one : Option ℕ → Option ℕ → Bool
+abbrev pub is_one : Option ℕ → Option ℕ → Bool
 is_one (Some k) (Some l) = nat_eq k l
 is_one (Some k) None = false
 is_one None l = false
