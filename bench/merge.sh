@@ -9,17 +9,24 @@ trap 'rm -rf "$folder"' EXIT
 cd "$folder" || exit 1
 status=0
 
-# The least seconds of three runs of a command, and its greatest memory in bytes.
+# The least seconds of three runs of a command, to the microsecond, and the greatest memory of another one in bytes.
 measured() {
-    for run in 1 2 3; do
-        /usr/bin/time -a -o times -f '%U %S %M' "$@" >/dev/null 2>errors || {
-            echo "merge.sh: $1 fails: $(head -n 1 errors)" >&2
-            return 1
-        }
-    done
-    awk '{ s = $1 + $2; if (NR == 1 || s < least) least = s; if ($3 > most) most = $3 }
-        END { printf "%.3f %.0f\n", least, most * 1024 }' times
-    rm -f times
+    /usr/bin/time -o memory -f %M "$@" >/dev/null 2>&1 || {
+        echo "merge.sh: $1 fails" >&2
+        return 1
+    }
+    python3 - "$@" <<'PY'
+import os, subprocess, sys
+seconds = []
+for run in range(3):
+    child = subprocess.Popen(sys.argv[1:], stdout=subprocess.DEVNULL, stderr=subprocess.DEVNULL)
+    _, status, used = os.wait4(child.pid, 0)
+    if status:
+        sys.exit(f"merge.sh: {sys.argv[1]} fails")
+    seconds.append(used.ru_utime + used.ru_stime)
+with open("memory") as file:
+    print(f"{min(seconds):.4f} {1024 * int(file.read())}")
+PY
 }
 
 complain() {
