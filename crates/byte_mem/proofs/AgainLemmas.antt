@@ -9,9 +9,9 @@ use Rattle.std.proofs.lemmas.Bool.Decides.{nat_tests}
 use Rattle.std.proofs.lemmas.Option.{none-some}
 use Rattle.std.proofs.lemmas.List.{length-append, length-take, length-drop, take_at, drop_at}
 use Rattle.cil_base.specs.declared.kinds.Abi.{Abi}
-use Rattle.cil_base.specs.declared.kinds.Abi.TheVariants.{Lp64}
+use Rattle.cil_base.specs.declared.kinds.Abi.TheVariants.{Lp64, Ilp32}
 use Rattle.cil_base.specs.declared.kinds.IntKind.{IntKind}
-use Rattle.cil_base.specs.declared.kinds.IntKind.TheVariants.{Bool as Boolean, Char, SChar, UChar, Short, UShort, Int as Int', UInt, Long, ULong, LLong, ULLong}
+use Rattle.cil_base.specs.declared.kinds.IntKind.TheVariants.{Bool as Boolean, Char, SChar, UChar, Short, UShort, Int as Int', UInt, Long, ULong, LLong, ULLong, Long4, ULong4}
 use Rattle.cil_base.specs.Integer.{IsOf, size_of, wrapped, reduced, balanced, pointer_size_of}
 use Rattle.cil_base.specs.Arithmetic.{bits_of}
 use Rattle.cil_base.proofs.IntegerLaws.{wrapped_value, wrapped-IsOf}
@@ -70,6 +70,8 @@ digits Long v = digits_low 8 (bits_of Long v) (reduced_below (2 ^ 64) v (lit< tt
 digits ULong v = digits_low 8 (bits_of ULong v) (reduced_below (2 ^ 64) v (lit< tt))
 digits LLong v = digits_low 8 (bits_of LLong v) (reduced_below (2 ^ 64) v (lit< tt))
 digits ULLong v = digits_low 8 (bits_of ULLong v) (reduced_below (2 ^ 64) v (lit< tt))
+digits Long4 v = digits_low 4 (bits_of Long4 v) (reduced_below (2 ^ 32) v (lit< tt))
+digits ULong4 v = digits_low 4 (bits_of ULong4 v) (reduced_below (2 ^ 32) v (lit< tt))
 
 boolean_kept : (v : ℤ) → IsOf Boolean v → number_value Boolean (bits_of Boolean v) ≡ Int v
 boolean_kept (pos zero) h = refl
@@ -90,6 +92,8 @@ number_kept Long v h = ap Int (balanced_twice (2 ^ 63) v (lit< tt) ∙ wrapped-I
 number_kept ULong v h = ap Int (reduced_twice (2 ^ 64) v (lit< tt) ∙ wrapped-IsOf ULong v h)
 number_kept LLong v h = ap Int (balanced_twice (2 ^ 63) v (lit< tt) ∙ wrapped-IsOf LLong v h)
 number_kept ULLong v h = ap Int (reduced_twice (2 ^ 64) v (lit< tt) ∙ wrapped-IsOf ULLong v h)
+number_kept Long4 v h = ap Int (balanced_twice (2 ^ 31) v (lit< tt) ∙ wrapped-IsOf Long4 v h)
+number_kept ULong4 v h = ap Int (reduced_twice (2 ^ 32) v (lit< tt) ∙ wrapped-IsOf ULong4 v h)
 
 kept_int : (abi : Abi) (s : Scalar) (v : ℤ) (bytes : List Byte) → IsOf (kind_of abi s) v → number_of bytes ≡ Some (bits_of (kind_of abi s) v) → value_of abi s bytes ≡ Int v
 kept_int abi s v bytes h e = ap (value_with abi s bytes) e ∙ number_kept (kind_of abi s) v h
@@ -103,64 +107,116 @@ goes_on_parts : (p : Pointer) (k n : ℕ) → goes_on p k (parts_of p k n) ≡ t
 goes_on_parts p k zero = refl
 goes_on_parts p k (suc n) = rw (pointer_itself p, number_same k) (goes_on_parts p (suc k) n)
 
-whole_again : (p : Pointer) → whole_pointer (parts_of p 0 8) ≡ Ptr p
-whole_again p = ap (λ t. cond t (Ptr p) Unknown) (goes_on_parts p 1 7)
+whole_again : (p : Pointer) (n : ℕ) → whole_pointer (parts_of p 0 (suc n)) ≡ Ptr p
+whole_again p n = ap (λ t. cond t (Ptr p) Unknown) (goes_on_parts p 1 n)
 
-kept_pointer : (s : Scalar) (p : Pointer) → scalar_size Lp64 s ≡ 8 → value_of Lp64 s (parts_of p 0 (scalar_size Lp64 s)) ≡ Ptr p
-kept_pointer OfPointer p e = whole_again p
-kept_pointer (OfKind Boolean) p e = absurd (omega arith)
-kept_pointer (OfKind Char) p e = absurd (omega arith)
-kept_pointer (OfKind SChar) p e = absurd (omega arith)
-kept_pointer (OfKind UChar) p e = absurd (omega arith)
-kept_pointer (OfKind Short) p e = absurd (omega arith)
-kept_pointer (OfKind UShort) p e = absurd (omega arith)
-kept_pointer (OfKind Int') p e = absurd (omega arith)
-kept_pointer (OfKind UInt) p e = absurd (omega arith)
-kept_pointer (OfKind Long) p e = whole_again p
-kept_pointer (OfKind ULong) p e = whole_again p
-kept_pointer (OfKind LLong) p e = whole_again p
-kept_pointer (OfKind ULLong) p e = whole_again p
+kept_pointer : (abi : Abi) (s : Scalar) (p : Pointer) → scalar_size abi s ≡ pointer_size_of abi → value_of abi s (parts_of p 0 (scalar_size abi s)) ≡ Ptr p
+kept_pointer Lp64 OfPointer p e = whole_again p 7
+kept_pointer Lp64 (OfKind Boolean) p e = absurd (omega arith)
+kept_pointer Lp64 (OfKind Char) p e = absurd (omega arith)
+kept_pointer Lp64 (OfKind SChar) p e = absurd (omega arith)
+kept_pointer Lp64 (OfKind UChar) p e = absurd (omega arith)
+kept_pointer Lp64 (OfKind Short) p e = absurd (omega arith)
+kept_pointer Lp64 (OfKind UShort) p e = absurd (omega arith)
+kept_pointer Lp64 (OfKind Int') p e = absurd (omega arith)
+kept_pointer Lp64 (OfKind UInt) p e = absurd (omega arith)
+kept_pointer Lp64 (OfKind Long) p e = whole_again p 7
+kept_pointer Lp64 (OfKind ULong) p e = whole_again p 7
+kept_pointer Lp64 (OfKind LLong) p e = whole_again p 7
+kept_pointer Lp64 (OfKind ULLong) p e = whole_again p 7
+kept_pointer Lp64 (OfKind Long4) p e = absurd (omega arith)
+kept_pointer Lp64 (OfKind ULong4) p e = absurd (omega arith)
+kept_pointer Ilp32 OfPointer p e = whole_again p 3
+kept_pointer Ilp32 (OfKind Boolean) p e = absurd (omega arith)
+kept_pointer Ilp32 (OfKind Char) p e = absurd (omega arith)
+kept_pointer Ilp32 (OfKind SChar) p e = absurd (omega arith)
+kept_pointer Ilp32 (OfKind UChar) p e = absurd (omega arith)
+kept_pointer Ilp32 (OfKind Short) p e = absurd (omega arith)
+kept_pointer Ilp32 (OfKind UShort) p e = absurd (omega arith)
+kept_pointer Ilp32 (OfKind Int') p e = whole_again p 3
+kept_pointer Ilp32 (OfKind UInt) p e = whole_again p 3
+kept_pointer Ilp32 (OfKind Long) p e = absurd (omega arith)
+kept_pointer Ilp32 (OfKind ULong) p e = absurd (omega arith)
+kept_pointer Ilp32 (OfKind LLong) p e = absurd (omega arith)
+kept_pointer Ilp32 (OfKind ULLong) p e = absurd (omega arith)
+kept_pointer Ilp32 (OfKind Long4) p e = whole_again p 3
+kept_pointer Ilp32 (OfKind ULong4) p e = whole_again p 3
 
-kept_part : (s : Scalar) (p : Pointer) (k : ℕ) → scalar_size Lp64 s ≡ 1 → value_of Lp64 s (replicate (scalar_size Lp64 s) (Fragment p k)) ≡ Part p k
-kept_part OfPointer p k e = absurd (omega arith)
-kept_part (OfKind Boolean) p k e = refl
-kept_part (OfKind Char) p k e = refl
-kept_part (OfKind SChar) p k e = refl
-kept_part (OfKind UChar) p k e = refl
-kept_part (OfKind Short) p k e = absurd (omega arith)
-kept_part (OfKind UShort) p k e = absurd (omega arith)
-kept_part (OfKind Int') p k e = absurd (omega arith)
-kept_part (OfKind UInt) p k e = absurd (omega arith)
-kept_part (OfKind Long) p k e = absurd (omega arith)
-kept_part (OfKind ULong) p k e = absurd (omega arith)
-kept_part (OfKind LLong) p k e = absurd (omega arith)
-kept_part (OfKind ULLong) p k e = absurd (omega arith)
+kept_part : (abi : Abi) (s : Scalar) (p : Pointer) (k : ℕ) → scalar_size abi s ≡ 1 → value_of abi s (replicate (scalar_size abi s) (Fragment p k)) ≡ Part p k
+kept_part Lp64 OfPointer p k e = absurd (omega arith)
+kept_part Lp64 (OfKind Boolean) p k e = refl
+kept_part Lp64 (OfKind Char) p k e = refl
+kept_part Lp64 (OfKind SChar) p k e = refl
+kept_part Lp64 (OfKind UChar) p k e = refl
+kept_part Lp64 (OfKind Short) p k e = absurd (omega arith)
+kept_part Lp64 (OfKind UShort) p k e = absurd (omega arith)
+kept_part Lp64 (OfKind Int') p k e = absurd (omega arith)
+kept_part Lp64 (OfKind UInt) p k e = absurd (omega arith)
+kept_part Lp64 (OfKind Long) p k e = absurd (omega arith)
+kept_part Lp64 (OfKind ULong) p k e = absurd (omega arith)
+kept_part Lp64 (OfKind LLong) p k e = absurd (omega arith)
+kept_part Lp64 (OfKind ULLong) p k e = absurd (omega arith)
+kept_part Lp64 (OfKind Long4) p k e = absurd (omega arith)
+kept_part Lp64 (OfKind ULong4) p k e = absurd (omega arith)
+kept_part Ilp32 OfPointer p k e = absurd (omega arith)
+kept_part Ilp32 (OfKind Boolean) p k e = refl
+kept_part Ilp32 (OfKind Char) p k e = refl
+kept_part Ilp32 (OfKind SChar) p k e = refl
+kept_part Ilp32 (OfKind UChar) p k e = refl
+kept_part Ilp32 (OfKind Short) p k e = absurd (omega arith)
+kept_part Ilp32 (OfKind UShort) p k e = absurd (omega arith)
+kept_part Ilp32 (OfKind Int') p k e = absurd (omega arith)
+kept_part Ilp32 (OfKind UInt) p k e = absurd (omega arith)
+kept_part Ilp32 (OfKind Long) p k e = absurd (omega arith)
+kept_part Ilp32 (OfKind ULong) p k e = absurd (omega arith)
+kept_part Ilp32 (OfKind LLong) p k e = absurd (omega arith)
+kept_part Ilp32 (OfKind ULLong) p k e = absurd (omega arith)
+kept_part Ilp32 (OfKind Long4) p k e = absurd (omega arith)
+kept_part Ilp32 (OfKind ULong4) p k e = absurd (omega arith)
 
-kept_unknown : (s : Scalar) → value_of Lp64 s (replicate (scalar_size Lp64 s) Blank) ≡ Unknown
-kept_unknown OfPointer = refl
-kept_unknown (OfKind Boolean) = refl
-kept_unknown (OfKind Char) = refl
-kept_unknown (OfKind SChar) = refl
-kept_unknown (OfKind UChar) = refl
-kept_unknown (OfKind Short) = refl
-kept_unknown (OfKind UShort) = refl
-kept_unknown (OfKind Int') = refl
-kept_unknown (OfKind UInt) = refl
-kept_unknown (OfKind Long) = refl
-kept_unknown (OfKind ULong) = refl
-kept_unknown (OfKind LLong) = refl
-kept_unknown (OfKind ULLong) = refl
+kept_unknown : (abi : Abi) (s : Scalar) → value_of abi s (replicate (scalar_size abi s) Blank) ≡ Unknown
+kept_unknown Lp64 OfPointer = refl
+kept_unknown Lp64 (OfKind Boolean) = refl
+kept_unknown Lp64 (OfKind Char) = refl
+kept_unknown Lp64 (OfKind SChar) = refl
+kept_unknown Lp64 (OfKind UChar) = refl
+kept_unknown Lp64 (OfKind Short) = refl
+kept_unknown Lp64 (OfKind UShort) = refl
+kept_unknown Lp64 (OfKind Int') = refl
+kept_unknown Lp64 (OfKind UInt) = refl
+kept_unknown Lp64 (OfKind Long) = refl
+kept_unknown Lp64 (OfKind ULong) = refl
+kept_unknown Lp64 (OfKind LLong) = refl
+kept_unknown Lp64 (OfKind ULLong) = refl
+kept_unknown Lp64 (OfKind Long4) = refl
+kept_unknown Lp64 (OfKind ULong4) = refl
+kept_unknown Ilp32 OfPointer = refl
+kept_unknown Ilp32 (OfKind Boolean) = refl
+kept_unknown Ilp32 (OfKind Char) = refl
+kept_unknown Ilp32 (OfKind SChar) = refl
+kept_unknown Ilp32 (OfKind UChar) = refl
+kept_unknown Ilp32 (OfKind Short) = refl
+kept_unknown Ilp32 (OfKind UShort) = refl
+kept_unknown Ilp32 (OfKind Int') = refl
+kept_unknown Ilp32 (OfKind UInt) = refl
+kept_unknown Ilp32 (OfKind Long) = refl
+kept_unknown Ilp32 (OfKind ULong) = refl
+kept_unknown Ilp32 (OfKind LLong) = refl
+kept_unknown Ilp32 (OfKind ULLong) = refl
+kept_unknown Ilp32 (OfKind Long4) = refl
+kept_unknown Ilp32 (OfKind ULong4) = refl
 
 scalar_digits : (abi : Abi) (s : Scalar) (v : ℤ) → number_of (low_bytes (scalar_size abi s) (bits_of (kind_of abi s) v)) ≡ Some (bits_of (kind_of abi s) v)
 scalar_digits abi (OfKind kind) v = digits kind v
 scalar_digits Lp64 OfPointer v = digits ULong v
+scalar_digits Ilp32 OfPointer v = digits ULong4 v
 
 -- the bytes of a value represent it
 pub kept : (abi : Abi) (s : Scalar) (v : Value) → IsValue abi s v → value_of abi s (bytes_of abi s v) ≡ v
 kept abi s (Int v) h = kept_int abi s v (bytes_of abi s (Int v)) h (scalar_digits abi s v)
-kept Lp64 s (Ptr p) h = kept_pointer s p h
-kept Lp64 s Unknown h = kept_unknown s
-kept Lp64 s (Part p k) h = kept_part s p k h
+kept abi s (Ptr p) h = kept_pointer abi s p h
+kept abi s Unknown h = kept_unknown abi s
+kept abi s (Part p k) h = kept_part abi s p k h
 
 -- a value that is read is one of the scalar
 

@@ -11,8 +11,8 @@ use Rattle.cil_base.specs.declared.kinds.IntKind.{IntKind}
 use Rattle.cil_base.specs.declared.operators.BinOp.{BinOp}
 use Rattle.cil_base.specs.declared.operators.BinOp.TheVariants.{Mul, Div, Rem, Add, Sub, Shl, Shr, Lt, Gt, Le, Ge, Eq, Ne, And, Xor, Or}
 use Rattle.cil_base.specs.declared.operators.UnOp.{UnOp}
-use Rattle.cil_base.specs.Integer.{wrapped, pointer_size_of}
-use Rattle.cil_base.specs.Arithmetic.{arith_of, unary_of, bits_of}
+use Rattle.cil_base.specs.Integer.{wrapped, long_of, pointer_size_of}
+use Rattle.cil_base.specs.Arithmetic.{arith_of, fits, unary_of, bits_of}
 use Rattle.byte_mem.specs.declared.pointers.ObjName.{ObjName}
 use Rattle.byte_mem.specs.declared.pointers.Pointer.{Pointer}
 use Rattle.byte_mem.specs.declared.values.Byte.{Byte}
@@ -503,13 +503,13 @@ pointer_sum_below f m n v w i j size r s t = moved_by_below f m n (λ c. c *ℤ 
 pub pointer_less_below : (f : Names) (m n : Memory) (v w i j : Value) (size : ℕ) → BelowMemory f m n → BelowValue f v w → BelowValue f i j → Lift (BelowValue f) (pointer_less m v i size) (pointer_less n w j size)
 pointer_less_below f m n v w i j size r s t = moved_by_below f m n (λ c. neg_ℤ (c *ℤ pos size)) v w i j r s t
 
-pub pointer_difference_below : (f : Names) → IsOneToOne f → (m n : Memory) (v w a b : Value) (size : ℕ) → BelowMemory f m n → BelowValue f v a → BelowValue f w b → Lift (BelowValue f) (pointer_difference m v w size) (pointer_difference n a b size)
-pointer_difference_below f o m n v w a b size r s t =
-    lift_bind Same (BelowValue f) (offsets m v w) (offsets n a b) (distance size) (distance size) (offsets_below f o m n v w a b r s t)
-    (λ x y e. subst (λ z. Lift (BelowValue f) (distance size x) (distance size z)) (sym e) (whole size x))
+pub pointer_difference_below : (f : Names) → IsOneToOne f → (abi : Abi) (m n : Memory) (v w a b : Value) (size : ℕ) → BelowMemory f m n → BelowValue f v a → BelowValue f w b → Lift (BelowValue f) (pointer_difference abi m v w size) (pointer_difference abi n a b size)
+pointer_difference_below f o abi m n v w a b size r s t =
+    lift_bind Same (BelowValue f) (offsets m v w) (offsets n a b) (distance abi size) (distance abi size) (offsets_below f o m n v w a b r s t)
+    (λ x y e. subst (λ z. Lift (BelowValue f) (distance abi size x) (distance abi size z)) (sym e) (whole size x))
   where
-    whole : (size : ℕ) (x : ℤ × ℤ) → Lift (BelowValue f) (distance size x) (distance size x)
-    whole size x = lift_only (BelowValue f) (int_eq (int_rem (x.0 -ℤ x.1) (pos size)) (pos 0)) (Int (int_div (x.0 -ℤ x.1) (pos size))) (Int (int_div (x.0 -ℤ x.1) (pos size))) refl
+    whole : (size : ℕ) (x : ℤ × ℤ) → Lift (BelowValue f) (distance abi size x) (distance abi size x)
+    whole size x = lift_only (BelowValue f) (int_eq (int_rem (x.0 -ℤ x.1) (pos size)) (pos 0) && fits (long_of abi) (int_div (x.0 -ℤ x.1) (pos size))) (Int (int_div (x.0 -ℤ x.1) (pos size))) (Int (int_div (x.0 -ℤ x.1) (pos size))) refl
 
 pub member_below : (f : Names) (m n : Memory) (v w : Value) (offset : ℕ) → BelowMemory f m n → BelowValue f v w → Lift (BelowValue f) (member_place m v offset) (member_place n w offset)
 member_below f m n v w offset r s = further_below f m n v w (pos offset) r s

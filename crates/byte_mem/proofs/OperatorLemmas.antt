@@ -2,7 +2,7 @@
 use Rattle.std.proofs.Common.{pos, arith}
 use Rattle.std.proofs.lemmas.Int.{ints}
 use Rattle.cil_base.specs.declared.kinds.IntKind.{IntKind}
-use Rattle.cil_base.specs.declared.kinds.IntKind.TheVariants.{Bool as Boolean, Char, SChar, UChar, Short, UShort, Int, UInt, Long, ULong, LLong, ULLong}
+use Rattle.cil_base.specs.declared.kinds.IntKind.TheVariants.{Bool as Boolean, Char, SChar, UChar, Short, UShort, Int, UInt, Long, ULong, LLong, ULLong, Long4, ULong4}
 use Rattle.cil_base.specs.Integer.{IsOf}
 
 -- 0 is a value of each kind
@@ -19,3 +19,5 @@ zero_value Long = (omega (arith, ints), omega (arith, ints))
 zero_value ULong = (omega (arith, ints), omega (arith, ints))
 zero_value LLong = (omega (arith, ints), omega (arith, ints))
 zero_value ULLong = (omega (arith, ints), omega (arith, ints))
+zero_value Long4 = (omega (arith, ints), omega (arith, ints))
+zero_value ULong4 = (omega (arith, ints), omega (arith, ints))

@@ -185,13 +185,13 @@ sum_backwards = refl
 null_plus_0 : pointer_sum start (Int (pos 0)) (Int (pos 0)) 1 ≡ None
 null_plus_0 = refl
 
-difference : pointer_difference start (Ptr (at a (pos 0))) (Ptr (at a (pos 8))) 4 ≡ Some (Int (negsuc 1))
+difference : pointer_difference Lp64 start (Ptr (at a (pos 0))) (Ptr (at a (pos 8))) 4 ≡ Some (Int (negsuc 1))
 difference = refl
 
-no_whole_difference : pointer_difference start (Ptr (at a (pos 6))) (Ptr (at a (pos 0))) 4 ≡ None
+no_whole_difference : pointer_difference Lp64 start (Ptr (at a (pos 6))) (Ptr (at a (pos 0))) 4 ≡ None
 no_whole_difference = refl
 
-difference_of_two : pointer_difference start (Ptr (at a (pos 0))) (Ptr (at b (pos 0))) 4 ≡ None
+difference_of_two : pointer_difference Lp64 start (Ptr (at a (pos 0))) (Ptr (at b (pos 0))) 4 ≡ None
 difference_of_two = refl
 
 member : member_place start (Ptr (at b (pos 0))) 12 ≡ Some (Ptr (at b (pos 12)))

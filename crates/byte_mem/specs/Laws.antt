@@ -48,7 +48,7 @@ pub record OperatorsKeepOrder (f : Names) : Type 0 where
   pub compare : (m n : Memory) (op : BinOp) (v w a b : Value) → BelowMemory f m n → BelowValue f v a → BelowValue f w b → Lift Same (compared m op v w) (compared n op a b)
   pub sum : (m n : Memory) (v w i j : Value) (size : ℕ) → BelowMemory f m n → BelowValue f v w → BelowValue f i j → Lift (BelowValue f) (pointer_sum m v i size) (pointer_sum n w j size)
   pub less : (m n : Memory) (v w i j : Value) (size : ℕ) → BelowMemory f m n → BelowValue f v w → BelowValue f i j → Lift (BelowValue f) (pointer_less m v i size) (pointer_less n w j size)
-  pub difference : (m n : Memory) (v w a b : Value) (size : ℕ) → BelowMemory f m n → BelowValue f v a → BelowValue f w b → Lift (BelowValue f) (pointer_difference m v w size) (pointer_difference n a b size)
+  pub difference : (abi : Abi) (m n : Memory) (v w a b : Value) (size : ℕ) → BelowMemory f m n → BelowValue f v a → BelowValue f w b → Lift (BelowValue f) (pointer_difference abi m v w size) (pointer_difference abi n a b size)
   pub member : (m n : Memory) (v w : Value) (offset : ℕ) → BelowMemory f m n → BelowValue f v w → Lift (BelowValue f) (member_place m v offset) (member_place n w offset)
   pub compute : (op : BinOp) (kind : IntKind) (v w a b : Value) → BelowValue f v a → BelowValue f w b → Lift (BelowValue f) (computed op kind v w) (computed op kind a b)
   pub compute_unary : (op : UnOp) (kind : IntKind) (v w : Value) → BelowValue f v w → Lift (BelowValue f) (unary op kind v) (unary op kind w)

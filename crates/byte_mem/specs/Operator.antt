@@ -6,8 +6,8 @@ use Rattle.cil_base.specs.declared.kinds.IntKind.{IntKind}
 use Rattle.cil_base.specs.declared.operators.BinOp.{BinOp}
 use Rattle.cil_base.specs.declared.operators.BinOp.TheVariants.{Lt, Gt, Le, Ge, Eq, Ne}
 use Rattle.cil_base.specs.declared.operators.UnOp.{UnOp}
-use Rattle.cil_base.specs.Integer.{wrapped, pointer_size_of}
-use Rattle.cil_base.specs.Arithmetic.{arith_of, unary_of}
+use Rattle.cil_base.specs.Integer.{wrapped, long_of, pointer_size_of}
+use Rattle.cil_base.specs.Arithmetic.{arith_of, fits, unary_of}
 use Rattle.byte_mem.specs.declared.pointers.Pointer.{Pointer}
 use Rattle.byte_mem.specs.declared.values.Scalar.{Scalar}
 use Rattle.byte_mem.specs.declared.values.Scalar.TheVariants.{Int as OfKind, Ptr as OfPointer}
@@ -145,12 +145,12 @@ pointer_sum m v i size = number_in i >>= λ n. further m v (n *ℤ pos size)
 abbrev pub pointer_less : Memory → Value → Value → ℕ → Option Value
 pointer_less m v i size = number_in i >>= λ n. further m v (neg_ℤ (n *ℤ pos size))
 
--- C11 6.5.6p9; own: undefined where the distance is no multiple of the size
-abbrev pub distance : ℕ → ℤ × ℤ → Option Value
-distance size o = only_if (int_eq (int_rem (o.0 -ℤ o.1) (pos size)) (pos 0)) (Int (int_div (o.0 -ℤ o.1) (pos size)))
+-- C11 6.5.6p9: undefined where the difference is no value of the data model's long (own: of ptrdiff_t); own: also where the distance is no multiple of the size
+abbrev pub distance : Abi → ℕ → ℤ × ℤ → Option Value
+distance abi size o = only_if (int_eq (int_rem (o.0 -ℤ o.1) (pos size)) (pos 0) && fits (long_of abi) (int_div (o.0 -ℤ o.1) (pos size))) (Int (int_div (o.0 -ℤ o.1) (pos size)))
 
-abbrev pub pointer_difference : Memory → Value → Value → ℕ → Option Value
-pointer_difference m v w size = offsets m v w >>= distance size
+abbrev pub pointer_difference : Abi → Memory → Value → Value → ℕ → Option Value
+pointer_difference abi m v w size = offsets m v w >>= distance abi size
 
 -- the place of a member at that offset in the aggregate at a place (C11 6.5.2.3p3)
 abbrev pub member_place : Memory → Value → ℕ → Option Value

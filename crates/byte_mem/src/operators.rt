@@ -283,13 +283,14 @@ impl Store {
     }
 
     /// The difference of two pointers in elements of that size (C11 6.5.6p9), None exactly where they do not
-    /// lead to one live object or their distance is no multiple of the size (own).
+    /// lead to one live object, their distance is no multiple of the size (own), or it is no value of the data model's
+    /// `long`.
     pub fn pointer_difference(&self, v: Value, w: Value, size: u32) -> Option<Value>
         requires { 0 < size }
-        ensures { result ≡ pointer_difference (memory self.now) v w size }
+        ensures { result ≡ pointer_difference self.now.abi (memory self.now) v w size }
     {
         let (a, b) = self.offsets(v, w)?;
-        distance(a, b, size)
+        distance(self.abi(), a, b, size)
     }
 
     /// The place of a member at an offset in the aggregate at a place (C11 6.5.2.3p3), None exactly where the
@@ -343,14 +344,18 @@ fn negated(d: i128) -> i128
     -d
 }
 
-/// The distance of two offsets in elements of that size, if it is a number of whole elements.
-fn distance(a: i64, b: i64, size: u32) -> Option<Value>
+/// The distance of two offsets in elements of that size, if it is a number of whole elements that `long` has.
+fn distance(abi: Abi, a: i64, b: i64, size: u32) -> Option<Value>
     requires { 0 < size }
-    ensures { result ≡ distance size (a, b) }
+    ensures { result ≡ distance abi size (a, b) }
 {
     let bytes = between(a, b);
-    if is_multiple(bytes, size) {
-        Some(Value::Int(quotient(bytes, size)))
+    if !is_multiple(bytes, size) {
+        return None;
+    }
+    let count = quotient(bytes, size);
+    if abi.long().fits(count) {
+        Some(Value::Int(count))
     } else {
         None
     }

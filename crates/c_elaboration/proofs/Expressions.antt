@@ -490,7 +490,7 @@ module _ (a : Activation) (enter : Enter) where
         let i = stepped {A = Unit {0}} (uses_name (visible_name h.env x) h.env) (λ u. at_node (by_node at) n) y e in
         let w = node_given (by_node at) n i.0.1 y i.2 in
         named h.env.types (visible_name h.env x) h.arrays (is_declared i.0.1.types n w.0) ∙ walked n i.0.1 y h.arrays w.1
-    exp_is (Integer at text) h y e = constant_is at (integer_constant text) h.env y h.arrays e
+    exp_is (Integer at text) h y e = constant_is at (integer_constant h.env.types.abi text) h.env y h.arrays e
     exp_is (Character at text) h y e = value_with (character_constant text) ∙ constant_is at (option_map (λ v. (int, v)) (character_constant text)) h.env y h.arrays e
     exp_is (Literals at texts) h y e = literal_is at (string_literal texts) h.env y h.arrays e
     exp_is (Parentheses at e) h y i = exp_is e h y i

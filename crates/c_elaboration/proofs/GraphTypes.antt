@@ -188,7 +188,7 @@ module _ (g : Graph) (w : IsArena g) where
   unary_same m op (AggType i) v h = absurd h
 
   pointers_same : (m : Memory) (op : BinOp) (s : Shape) (v u : Value) → pointers_value (types_of g) m op s v u ≡ cil_pointers g m op s v u
-  pointers_same m Sub s v u = ap (λ (n : Option ℕ). n >>= pointer_difference m v u) (sizes_same g w s)
+  pointers_same m Sub s v u = ap (λ (n : Option ℕ). n >>= pointer_difference g.abi m v u) (sizes_same g w s)
   pointers_same m op s v u = refl
 
   binary_same : (m : Memory) (op : BinOp) (s r : Shape) (v u : Value) → IsTaken s → IsTaken r → binary_value (types_of g) m op s r v u ≡ cil_binary g m op s r v u

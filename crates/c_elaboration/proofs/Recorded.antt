@@ -98,7 +98,7 @@ pub recorded : (e : ExprTree) (env : Env) (y : Operand × Env) → expr e env �
 recorded (Name at x) env y e =
     let i = stepped {A = Unit {0}} (uses_name (visible_name env x) env) (λ u. at_node (by_node at) (NameNode (option_and_then (designates env.types) (visible_name env x)))) y e in
     node_records (by_node at) (NameNode (option_and_then (designates env.types) (visible_name env x))) i.0.1 y i.2 (designated env.types (visible_name env x))
-recorded (Integer at text) env y e = node_records (by_node at) (ConstantNode (option_map (λ (x : IntKind × ℤ). constant_operand env.types x.0 x.1) (integer_constant text))) env y e (constants env.types (integer_constant text))
+recorded (Integer at text) env y e = node_records (by_node at) (ConstantNode (option_map (λ (x : IntKind × ℤ). constant_operand env.types x.0 x.1) (integer_constant env.types.abi text))) env y e (constants env.types (integer_constant env.types.abi text))
 recorded (Character at text) env y e =
     node_records (by_node at) (ConstantNode (option_map (λ (x : IntKind × ℤ). constant_operand env.types x.0 x.1) (option_map (λ v. (int, v)) (character_constant text)))) env y e (constants env.types (option_map (λ v. (int, v)) (character_constant text)))
 recorded (Literals at texts) env y e = literals at (string_literal texts) env y e

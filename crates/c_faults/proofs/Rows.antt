@@ -1,5 +1,6 @@
 -- Lists of units of bytes with the refusal that comes first: of tokens, of the walk and of several units; each holds by computation, and is one that is defined by `refusal_is_first`.
 use Rattle.std.specs.Prelude.{◌≡◌, refl, codes, ℕ, true, false, [], ◌∷◌, Option, Some, None}
+use Rattle.cil_base.specs.declared.kinds.Abi.TheVariants.{Lp64, Ilp32}
 use Rattle.cil_base.specs.declared.faults.Fault.{Fault}
 use Rattle.cil_base.specs.declared.faults.Fault.TheVariants.{Lexical, Excluded, Constraint, Limit, Duplicate}
 use Rattle.cil_base.specs.declared.faults.Feature.TheVariants as feature
@@ -7,7 +8,7 @@ use Rattle.cil_base.specs.declared.faults.Code.TheVariants as code
 use Rattle.cil_base.specs.declared.faults.What.TheVariants as limit
 use Rattle.cil_base.specs.declared.faults.Place.{Place}
 use Rattle.cil_base.specs.declared.faults.Refusal.{Refusal}
-use Rattle.c_faults.specs.Text.{refusal_in}
+use Rattle.c_faults.specs.Text.{refusal_by, refusal_in}
 
 abbrev place : ℕ → ℕ → ℕ → ℕ → Place
 place unit token file line = record { unit = record { 0 = unit }; token = token; file = record { 0 = file }; line = line }
@@ -92,3 +93,43 @@ row_13 = refl
 row_14 : refusal_in false (codes "static int n = 1; int f(void) { return n; }" ∷ codes "int n = 1;" ∷ []) ≡ Some None
 unfolding refusal_in
 row_14 = refl
+
+-- an object of too many bytes in LP64
+row_15 : refusal_by Lp64 false (codes "long a[268435456];" ∷ []) ≡ at (Limit limit.ObjectSize) 0 1 0 1
+unfolding refusal_by
+row_15 = refl
+
+-- the same in ILP32
+row_16 : refusal_by Ilp32 false (codes "long a[268435456];" ∷ []) ≡ Some None
+unfolding refusal_by
+row_16 = refl
+
+-- an enumerator that does not fit in LP64
+row_17 : refusal_by Lp64 false (codes "enum { A = 4294967295UL + 1 };" ∷ []) ≡ at (Constraint code.EnumRange) 0 2 0 1
+unfolding refusal_by
+row_17 = refl
+
+-- the same in ILP32, where it is 0
+row_18 : refusal_by Ilp32 false (codes "enum { A = 4294967295UL + 1 };" ∷ []) ≡ Some None
+unfolding refusal_by
+row_18 = refl
+
+-- two cases of a type of LP64
+row_19 : refusal_by Lp64 false (codes "int f(unsigned long x) { switch (x) { case 0: return 1; case 4294967296: return 2; } return 0; }" ∷ []) ≡ Some None
+unfolding refusal_by
+row_19 = refl
+
+-- the same in ILP32, where they are one
+row_20 : refusal_by Ilp32 false (codes "int f(unsigned long x) { switch (x) { case 0: return 1; case 4294967296: return 2; } return 0; }" ∷ []) ≡ at (Constraint code.Case) 0 19 0 1
+unfolding refusal_by
+row_20 = refl
+
+-- an assertion that holds in LP64
+row_21 : refusal_by Lp64 false (codes "_Static_assert(sizeof(long) == 8, \"\");" ∷ []) ≡ Some None
+unfolding refusal_by
+row_21 = refl
+
+-- the same in ILP32
+row_22 : refusal_by Ilp32 false (codes "_Static_assert(sizeof(long) == 8, \"\");" ∷ []) ≡ at (Constraint code.Assertion) 0 0 0 1
+unfolding refusal_by
+row_22 = refl

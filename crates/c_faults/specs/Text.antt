@@ -1,5 +1,6 @@
 -- Device: the first refusal of units that are given as texts, for rows: of files a.c, b.c and c.c.
 use Rattle.std.specs.Prelude.{ℕ, suc, Bool, List, [], ◌∷◌, Option, Some, None, codes}
+use Rattle.cil_base.specs.declared.kinds.Abi.{Abi}
 use Rattle.cil_base.specs.declared.kinds.Abi.TheVariants.{Lp64}
 use Rattle.cil_base.specs.declared.faults.Refusal.{Refusal}
 use Rattle.c_lexer.specs.Automaton.{one_byte_sign, begins_sign, begins, behind_dot, behind_minus, behind_plus, behind_ampersand, behind_bar, behind_slash, behind_percent, behind_less, behind_greater, only, behind_punctuator, behind_sign, in_literal, behind_prefix, in_comment, behind, accepts, piece}
@@ -21,6 +22,12 @@ told common (AllWhole reads) = Some (refusal_of common (AllWhole reads))
 told common (OneRefused refusal) = Some (Some refusal)
 told common OneStops = None
 
-unfoldable pub refusal_in : Bool → List (List ℕ) → Option (Option Refusal)
+-- in a data model
+unfoldable pub refusal_by : Abi → Bool → List (List ℕ) → Option (Option Refusal)
 unfolding one_byte_sign begins_sign begins behind_dot behind_minus behind_plus behind_ampersand behind_bar behind_slash behind_percent behind_less behind_greater only behind_punctuator behind_sign in_literal behind_prefix in_comment behind accepts piece number_meaning meaning_of_text character_meaning literal_meaning words_with word_meaning below lower
-refusal_in common texts = told common (findings Lp64 0 (codes "a.c" ∷ codes "b.c" ∷ codes "c.c" ∷ []) (sources 0 texts))
+refusal_by abi common texts = told common (findings abi 0 (codes "a.c" ∷ codes "b.c" ∷ codes "c.c" ∷ []) (sources 0 texts))
+
+-- in LP64
+unfoldable pub refusal_in : Bool → List (List ℕ) → Option (Option Refusal)
+unfolding refusal_by
+refusal_in common texts = refusal_by Lp64 common texts

@@ -48,7 +48,7 @@ stmts_m walk h m = found_m arrays_in_list h m (walk h.env)
 mutual
   pub exp_m : {n more : ℕ} {base : List ℕ} (a : Activation) {enter also : Enter} → Ready n more base enter also → (e : ExprTree) (h : Here) → Matched n more base (c_exp a enter e h) (c_exp a also e h)
   exp_m a r (Name at x) h = of_name_m a (visible_name h.env x)
-  exp_m a r (Integer at text) h = of_number_m (option_map (λ (c : IntKind × ℤ). c.1) (integer_constant text))
+  exp_m a r (Integer at text) h = of_number_m (option_map (λ (c : IntKind × ℤ). c.1) (integer_constant h.env.types.abi text))
   exp_m a r (Character at text) h = of_number_m (character_constant text)
   exp_m a r (Literals at texts) h = unit_object_m a (length h.env.entities)
   exp_m a r (Parentheses at e) h = exp_m a r e h

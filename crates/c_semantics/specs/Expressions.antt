@@ -205,7 +205,7 @@ then_rest first next = do
 abbrev mutual
   pub c_exp : Activation → Enter → ExprTree → Here → State → Result Seen
   c_exp a enter (Name at x) h s = of_name a (visible_name h.env x) s
-  c_exp a enter (Integer at text) h s = of_number (option_map (λ (c : IntKind × ℤ). c.1) (integer_constant text)) s
+  c_exp a enter (Integer at text) h s = of_number (option_map (λ (c : IntKind × ℤ). c.1) (integer_constant h.env.types.abi text)) s
   c_exp a enter (Character at text) h s = of_number (character_constant text) s
   -- the array of a literal is the object that the walk makes there (6.4.5p6)
   c_exp a enter (Literals at texts) h s = unit_object a (length h.env.entities) s

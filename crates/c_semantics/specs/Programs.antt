@@ -83,8 +83,6 @@ abbrev pub expressions : List Program
 expressions =
     -- short circuits
     one_unit (codes "int main(void) { int a = 0; return (a && 1 / a) + (a ? 1 / a : 6) + (-1 < 1u); }") 9 (Exit 6 [])
-    -- types that name each other
-    ∷ one_unit (codes "struct t; struct s { struct t *x; }; struct t { struct s (*p)[3]; }; int main(void) { return sizeof(struct t); }") 9 (Exit 8 [])
     -- anonymous members
     ∷ one_unit (codes "struct s { int a; union { int b; char c; }; }; int main(void) { struct s x = { 1, { 258 } }; return x.c + x.a; }") 9 (Exit 3 [])
     -- a left operand is read first
@@ -200,8 +198,6 @@ unions_and_bytes =
     ∷ one_unit (codes "int main(void) { int x = 1; return (x = 5, x + 1); }") 9 (Exit 6 [])
     -- pointers as truth
     ∷ one_unit (codes "int main(void) { int x, *p = &x, *q = 0; return (p ? 1 : 0) + (!q) * 2 + (p && !q) * 4 + (p != q) * 8; }") 9 (Exit 15 [])
-    -- alignment
-    ∷ one_unit (codes "int main(void) { return _Alignof(long) * 10 + sizeof(struct { char a; long b; }); }") 9 (Exit 96 [])
     ∷ []
 
 -- conversions at assignments, arguments and operators
@@ -306,4 +302,63 @@ common_definitions =
     ∷ units (codes "int a[1]; int f(void) { return a[0]; }" ∷ codes "extern int a[]; int f(void); int main(void) { a[2] = 3; return a[2] + f(); }" ∷ codes "int a[3];" ∷ []) [] [] 9 (Exit 3 [])
     -- a definition is followed by zero bytes
     ∷ units (codes "int a[1] = { 5 };" ∷ codes "extern int a[]; int main(void) { return a[0] + a[2]; }" ∷ codes "int a[3];" ∷ []) [] [] 9 (Exit 5 [])
+    ∷ []
+
+-- a unit, with its outcome where long and pointers have 8 bytes, and where they have 4
+abbrev pub by_model : List ℕ → Outcome → Outcome → Program × Program
+by_model text eight four = (one_unit text 9 eight, one_unit text 9 four)
+
+abbrev pub where_eight : List (Program × Program) → List Program
+where_eight ps = map (λ (x : Program × Program). x.0) ps
+
+abbrev pub where_four : List (Program × Program) → List Program
+where_four ps = map (λ (x : Program × Program). x.1) ps
+
+-- what the data model decides; the statuses are those of gcc, and of gcc -m32 -malign-double
+abbrev pub models : List (Program × Program)
+models =
+    -- sizes of long and of a pointer
+    by_model (codes "int main(void) { return sizeof(long) * 10 + sizeof(char *); }") (Exit 88 []) (Exit 44 [])
+    -- long of four bytes lacks values of unsigned int (6.3.1.8p1)
+    ∷ by_model (codes "int main(void) { return -1L < 1U; }") (Exit 1 []) (Exit 0 [])
+    -- long long is aligned to its size in both
+    ∷ by_model (codes "int main(void) { return sizeof(struct { char a; long long b; }); }") (Exit 16 []) (Exit 16 [])
+    -- the first type of a constant's list that has its value (6.4.4.1p5)
+    ∷ by_model (codes "int main(void) { return sizeof(2147483648) * 10 + sizeof 1L; }") (Exit 88 []) (Exit 84 [])
+    -- a constant that unsigned int has
+    ∷ by_model (codes "int main(void) { return sizeof 4294967295 * 10 + sizeof 4294967295U; }") (Exit 84 []) (Exit 84 [])
+    -- alignment of long
+    ∷ by_model (codes "int main(void) { return _Alignof(long) * 10 + sizeof(struct { char a; long b; }); }") (Exit 96 []) (Exit 48 [])
+    -- types that name each other
+    ∷ by_model (codes "struct t; struct s { struct t *x; }; struct t { struct s (*p)[3]; }; int main(void) { return sizeof(struct t); }") (Exit 8 []) (Exit 4 [])
+    -- pointers to arrays of structs
+    ∷ by_model (codes "struct t; struct s { struct t *x; }; struct t { struct s (*p)[3]; char c; }; int main(void) { return sizeof(struct t); }") (Exit 16 []) (Exit 8 [])
+    -- unsigned long is reduced
+    ∷ by_model (codes "int main(void) { return 4294967295UL + 1 == 0; }") (Exit 0 []) (Exit 1 [])
+    -- a shift within the width
+    ∷ by_model (codes "int main(void) { return (1UL << 31) * 2 > 0; }") (Exit 1 []) (Exit 0 [])
+    -- a difference has the type long (6.5.6p9)
+    ∷ by_model (codes "int a[4]; int main(void) { return sizeof(&a[3] - &a[0]) * 10 + (&a[3] - &a[0]); }") (Exit 83 []) (Exit 43 [])
+    -- long long beside unsigned long
+    ∷ by_model (codes "int main(void) { long x = 2147483647; long long y = x; unsigned long z = -1; return (y + 1 > 0) + 2 * (z + 0LL == -1) + 4 * (z + 0LL > 0); }") (Exit 7 []) (Exit 5 [])
+    -- an array of structs with pointers
+    ∷ by_model (codes "struct s { int *p; char c; } v[2]; int main(void) { v[1].p = &(int){ 5 }; v[0] = v[1]; return *v[0].p * 10 + sizeof v / sizeof v[0].p; }") (Exit 54 []) (Exit 54 [])
+    -- a pointer stays what it is in an integer type of its size alone (own)
+    ∷ by_model (codes "int x = 3; int main(void) { int *p = &x; return *(int *)(int)p; }") (Undefined []) (Exit 3 [])
+    -- a signed result that long has not is undefined (6.5p5)
+    ∷ by_model (codes "int main(void) { return 2147483647L + 1 > 0; }") (Exit 1 []) (Undefined [])
+    -- so is a shift by the width (6.5.7p3)
+    ∷ by_model (codes "int main(void) { return (1UL << 32) != 0; }") (Exit 1 []) (Undefined [])
+    -- the host takes an unsigned long
+    ∷ by_model (codes "void *malloc(unsigned long); int main(void) { int *p = malloc(sizeof *p); *p = 7; return *p + sizeof p; }") (Exit 15 []) (Exit 11 [])
+    -- so does the fill of the host
+    ∷ by_model (codes "void *__builtin_memset(void *, int, unsigned long); int main(void) { long a[2]; __builtin_memset(a, 1, sizeof a); return a[1] == 16843009; }") (Exit 0 []) (Exit 1 [])
+    ∷ []
+
+-- words are pointers of either size
+abbrev pub models_of_words : List (Program × Program)
+models_of_words = (
+  units (codes "int main(int argc, char **argv) { return argc * 10 + (argv[1][0] == 'c') + (argv[argc] == 0) + sizeof argv[0]; }" ∷ []) (codes "p" ∷ codes "c" ∷ []) [] 9 (Exit 30 []),
+  units (codes "int main(int argc, char **argv) { return argc * 10 + (argv[1][0] == 'c') + (argv[argc] == 0) + sizeof argv[0]; }" ∷ []) (codes "p" ∷ codes "c" ∷ []) [] 9 (Exit 26 []),
+)
     ∷ []

@@ -72,7 +72,7 @@ unary_value t m Not s v = scalar_of t s >>= λ k. truth m k v >>= λ holds. Some
 
 -- two pointers: a difference (6.5.6p9), an order or an equality (6.5.8p5, 6.5.9p6)
 abbrev pub pointers_value : Types → Memory → BinOp → Shape → Value → Value → Option Value
-pointers_value t m Sub s v w = size_in t s >>= pointer_difference m v w
+pointers_value t m Sub s v w = size_in t s >>= pointer_difference t.abi m v w
 pointers_value t m op s v w = compared m op v w >>= λ holds. Some (Int (told holds))
 
 -- a binary operator on values of the types to which its operands went (6.5.5 to 6.5.12)

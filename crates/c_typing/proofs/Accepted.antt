@@ -1,6 +1,7 @@
--- Translation units without a fault of the walk; the sizes in their assertions are those that gcc gives on a 64-bit system.
+-- Translation units without a fault of the walk; the sizes in their assertions are those that gcc gives on a 64-bit system, and those of the other data model that gcc -m32 -malign-double gives.
 use Rattle.std.specs.Prelude.{◌≡◌, refl, codes, Some, None}
-use Rattle.c_typing.specs.Text.{outcome}
+use Rattle.cil_base.specs.declared.kinds.Abi.TheVariants.{Lp64, Ilp32}
+use Rattle.c_typing.specs.Text.{outcome_in, outcome}
 
 accepted_0 : outcome (codes "int main(void) { return 2 + 3; }") ≡ Some None
 unfolding outcome
@@ -293,3 +294,28 @@ accepted_71 = refl
 accepted_72 : outcome (codes "static int f(void); int n = sizeof(int [1 ? 2 : f()]) + _Alignof(int [1 ? 2 : f()]);") ≡ Some None
 unfolding outcome
 accepted_72 = refl
+
+model_0 : outcome_in Ilp32 (codes "_Static_assert(sizeof(long) == 4 && sizeof(char *) == 4 && sizeof(long long) == 8 && _Alignof(long long) == 8, \"\");") ≡ Some None
+unfolding outcome_in
+model_0 = refl
+
+model_1 : outcome_in Ilp32 (codes "_Static_assert(sizeof(struct { char a; long b; }) == 8 && sizeof(struct { char a; long long b; }) == 16 && sizeof(struct { char a; int *b; char c; }) == 12, \"\");") ≡ Some None
+unfolding outcome_in
+model_1 = refl
+
+model_2 : outcome_in Ilp32 (codes "_Static_assert(sizeof 2147483648 == 8 && sizeof 1L == 4 && sizeof 0xFFFFFFFF == 4 && sizeof 4294967295UL == 4 && sizeof 4294967296UL == 8, \"\");") ≡ Some None
+unfolding outcome_in
+model_2 = refl
+
+model_3 : outcome_in Ilp32 (codes "_Static_assert(!(-1L < 1U) && -1L < 1 && 0xFFFFFFFFL > 0, \"\");") ≡ Some None
+unfolding outcome_in
+model_3 = refl
+
+model_4 : outcome_in Ilp32 (codes "void *__builtin_memset(void *, int, unsigned long); void *malloc(unsigned long); unsigned long n = sizeof n; int a[2]; long d = 1; long f(int *p) { return p - a; }") ≡ Some None
+unfolding outcome_in
+model_4 = refl
+
+-- long of eight bytes has the value that one of four has not
+model_5 : outcome_in Lp64 (codes "enum { A = 2147483647L + 1 == 2147483648 };") ≡ Some None
+unfolding outcome_in
+model_5 = refl

@@ -4,7 +4,8 @@ use Rattle.cil_base.specs.declared.faults.Fault.TheVariants.{Constraint, Exclude
 use Rattle.cil_base.specs.declared.faults.Code.TheVariants as code
 use Rattle.cil_base.specs.declared.faults.Feature.TheVariants as feature
 use Rattle.cil_base.specs.declared.faults.What.TheVariants as limit
-use Rattle.c_typing.specs.Text.{first, outcome}
+use Rattle.cil_base.specs.declared.kinds.Abi.TheVariants.{Ilp32}
+use Rattle.c_typing.specs.Text.{first_in, outcome_in, first, outcome}
 
 row_0 : first (codes "int x = 9223372036854775808;") ≡ Some (Constraint code.IntegerRange, 3)
 unfolding first outcome
@@ -993,3 +994,17 @@ row_245 = refl
 row_246 : first (codes "struct s { int a[2]; } x = { .a[1][0] = 1 };") ≡ Some (Constraint code.Initialiser, 18)
 unfolding first outcome
 row_246 = refl
+
+-- int and long are two types in each data model (6.2.7p1), though both have 4 bytes in one
+conflict_of_four : first_in Ilp32 (codes "int x; long x;") ≡ Some (Constraint code.Conflict, 4)
+unfolding first_in outcome_in
+conflict_of_four = refl
+
+pointers_of_four : first_in Ilp32 (codes "int *p; long *q; int f(void) { return p == q; }") ≡ Some (Constraint code.Operand, 15)
+unfolding first_in outcome_in
+pointers_of_four = refl
+
+-- a constant expression whose value its type has not (6.6p4)
+overflow_of_four : first_in Ilp32 (codes "enum { A = 2147483647L + 1 == 2147483648 };") ≡ Some (Constraint code.NotConstant, 4)
+unfolding first_in outcome_in
+overflow_of_four = refl

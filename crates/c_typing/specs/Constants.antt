@@ -1,9 +1,10 @@
 -- Definition: the values of integer constants, character constants and string literals as they are written (C11 6.4.4.1, 6.4.4.4, 6.4.5).
 use Rattle.std.specs.Prelude.{ℕ, suc, ◌+◌, ◌-◌, ◌*◌, ◌==◌, Bool, true, false, ◌&&◌, ◌||◌, nat_lt, nat_le, ℤ, pos, int_le, List, [], ◌∷◌, ◌++◌, Option, Some, None, drop, if◌then◌else◌}
 use Rattle.std.specs.Char.{is_ascii_digit, is_ascii_hexdigit}
+use Rattle.cil_base.specs.declared.kinds.Abi.{Abi}
 use Rattle.cil_base.specs.declared.kinds.IntKind.{IntKind}
-use Rattle.cil_base.specs.declared.kinds.IntKind.TheVariants.{Char, Int, UInt, Long, ULong, LLong, ULLong}
-use Rattle.cil_base.specs.Integer.{greatest, wrapped}
+use Rattle.cil_base.specs.declared.kinds.IntKind.TheVariants.{Char, Int, UInt, LLong, ULLong}
+use Rattle.cil_base.specs.Integer.{greatest, wrapped, long_of, ulong_of}
 
 -- integer constants (6.4.4.1)
 
@@ -52,23 +53,23 @@ abbrev pub longs : List ℕ → ℕ
 longs [] = 0
 longs (b ∷ bs) = if b == 108 || b == 76 then suc (longs bs) else longs bs
 
--- the list of types from which a constant takes its own (p5): unsigned ones behind u; signed ones for a decimal constant; both in turn for another. From long on behind l, from long long on behind ll
-abbrev pub candidates : Bool → Bool → ℕ → List IntKind
-candidates decimal true ls = drop ls (UInt ∷ ULong ∷ ULLong ∷ [])
-candidates true false ls = drop ls (Int ∷ Long ∷ LLong ∷ [])
-candidates false false ls = drop (2 * ls) (Int ∷ UInt ∷ Long ∷ ULong ∷ LLong ∷ ULLong ∷ [])
+-- the list of types from which a constant takes its own (p5): unsigned ones behind u; signed ones for a decimal constant; both in turn for another. From long on behind l, from long long on behind ll; long and unsigned long are the data model's kinds
+abbrev pub candidates : Abi → Bool → Bool → ℕ → List IntKind
+candidates abi decimal true ls = drop ls (UInt ∷ ulong_of abi ∷ ULLong ∷ [])
+candidates abi true false ls = drop ls (Int ∷ long_of abi ∷ LLong ∷ [])
+candidates abi false false ls = drop (2 * ls) (Int ∷ UInt ∷ long_of abi ∷ ulong_of abi ∷ LLong ∷ ULLong ∷ [])
 
 -- the first type of the list that has the value (p5), none where none has it (6.4.4p2)
 abbrev pub first_holding : ℕ → List IntKind → Option (IntKind × ℤ)
 first_holding n [] = None
 first_holding n (k ∷ ks) = elim (int_le (pos n) (greatest k)) [ true ↦ Some (k, pos n) | false ↦ first_holding n ks ]
 
-abbrev pub of_written : Written → Option (IntKind × ℤ)
-of_written w = first_holding w.value (candidates w.decimal (has_u w.suffix) (longs w.suffix))
+abbrev pub of_written : Abi → Written → Option (IntKind × ℤ)
+of_written abi w = first_holding w.value (candidates abi w.decimal (has_u w.suffix) (longs w.suffix))
 
--- the type and the value of an integer constant
-abbrev pub integer_constant : List ℕ → Option (IntKind × ℤ)
-integer_constant text = of_written (read_integer text)
+-- the type and the value of an integer constant in a data model
+abbrev pub integer_constant : Abi → List ℕ → Option (IntKind × ℤ)
+integer_constant abi text = of_written abi (read_integer text)
 
 -- characters (6.4.4.4)
 

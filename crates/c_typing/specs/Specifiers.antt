@@ -1,8 +1,10 @@
 -- Definition: declaration specifiers (C11 6.7.1, 6.7.2, 6.7.3): which lists of them are a type, which storage classes stand where, and qualified types.
 use Rattle.std.specs.Prelude.{ℕ, suc, Bool, true, false, not, ◌&&◌, ◌||◌, nat_eq, List, [], ◌∷◌, Option, Some, None, length, is_some, if◌then◌else◌}
 use Rattle.std.specs.Option.{option_map}
+use Rattle.cil_base.specs.declared.kinds.Abi.{Abi}
 use Rattle.cil_base.specs.declared.kinds.IntKind.{IntKind}
-use Rattle.cil_base.specs.declared.kinds.IntKind.TheVariants.{Bool as Boolean, Char, SChar, UChar, Short, UShort, Int, UInt, Long, ULong, LLong, ULLong}
+use Rattle.cil_base.specs.declared.kinds.IntKind.TheVariants.{Bool as Boolean, Char, SChar, UChar, Short, UShort, Int, UInt, LLong, ULLong}
+use Rattle.cil_base.specs.Integer.{long_of, ulong_of}
 use Rattle.type_graph.specs.declared.nodes.Quals.{Quals}
 use Rattle.type_graph.specs.Shapes.{Shape, VoidType, IntType, PtrType, ArrayType, FuncType}
 use Rattle.c_tree.specs.declared.words.StorageClass.{StorageClass}
@@ -38,17 +40,22 @@ same_words [] [] = true
 same_words [] (v ∷ vs) = false
 same_words (w ∷ ws) vs = elim (without w vs) [ None ↦ false | Some rest ↦ same_words ws rest ]
 
+-- words, and the type that they name in each data model
 pub record Row : Type 0 where
   pub words : List BasicType
-  pub shape : Shape
+  pub shape : Abi → Shape
 
 abbrev pub row : List BasicType → IntKind → Row
-row ws kind = record { words = ws; shape = IntType kind }
+row ws kind = record { words = ws; shape = λ abi. IntType kind }
+
+-- a kind that the data model has
+abbrev pub row_by : List BasicType → (Abi → IntKind) → Row
+row_by ws kind = record { words = ws; shape = λ abi. IntType (kind abi) }
 
 -- the lists of type specifiers (6.7.2p2)
 abbrev pub rows : List Row
 rows =
-    record { words = word.Void ∷ []; shape = VoidType }
+    record { words = word.Void ∷ []; shape = λ abi. VoidType }
     ∷ row (word.Char ∷ []) Char
     ∷ row (word.Signed ∷ word.Char ∷ []) SChar
     ∷ row (word.Unsigned ∷ word.Char ∷ []) UChar
@@ -56,20 +63,20 @@ rows =
     ∷ row (word.Unsigned ∷ word.Short ∷ []) UShort ∷ row (word.Unsigned ∷ word.Short ∷ word.Int ∷ []) UShort
     ∷ row (word.Int ∷ []) Int ∷ row (word.Signed ∷ []) Int ∷ row (word.Signed ∷ word.Int ∷ []) Int
     ∷ row (word.Unsigned ∷ []) UInt ∷ row (word.Unsigned ∷ word.Int ∷ []) UInt
-    ∷ row (word.Long ∷ []) Long ∷ row (word.Signed ∷ word.Long ∷ []) Long ∷ row (word.Long ∷ word.Int ∷ []) Long ∷ row (word.Signed ∷ word.Long ∷ word.Int ∷ []) Long
-    ∷ row (word.Unsigned ∷ word.Long ∷ []) ULong ∷ row (word.Unsigned ∷ word.Long ∷ word.Int ∷ []) ULong
+    ∷ row_by (word.Long ∷ []) long_of ∷ row_by (word.Signed ∷ word.Long ∷ []) long_of ∷ row_by (word.Long ∷ word.Int ∷ []) long_of ∷ row_by (word.Signed ∷ word.Long ∷ word.Int ∷ []) long_of
+    ∷ row_by (word.Unsigned ∷ word.Long ∷ []) ulong_of ∷ row_by (word.Unsigned ∷ word.Long ∷ word.Int ∷ []) ulong_of
     ∷ row (word.Long ∷ word.Long ∷ []) LLong ∷ row (word.Signed ∷ word.Long ∷ word.Long ∷ []) LLong ∷ row (word.Long ∷ word.Long ∷ word.Int ∷ []) LLong ∷ row (word.Signed ∷ word.Long ∷ word.Long ∷ word.Int ∷ []) LLong
     ∷ row (word.Unsigned ∷ word.Long ∷ word.Long ∷ []) ULLong ∷ row (word.Unsigned ∷ word.Long ∷ word.Long ∷ word.Int ∷ []) ULLong
     ∷ row (word.Bool ∷ []) Boolean
     ∷ []
 
-abbrev pub row_of : List BasicType → List Row → Option Shape
+abbrev pub row_of : List BasicType → List Row → Option (Abi → Shape)
 row_of ws [] = None
 row_of ws (r ∷ rs) = elim (same_words r.words ws) [ true ↦ Some r.shape | false ↦ row_of ws rs ]
 
--- the type that a list of words names
-abbrev pub basic_shape : List BasicType → Option Shape
-basic_shape ws = row_of ws rows
+-- the type that a list of words names in a data model
+abbrev pub basic_shape : Abi → List BasicType → Option Shape
+basic_shape abi ws = option_map (λ (of : Abi → Shape). of abi) (row_of ws rows)
 
 -- what stands among some specifiers
 
@@ -164,7 +171,7 @@ are_classes p (c ∷ d ∷ cs) = false
 
 -- one type specifier that is no word and no words, or a list of words of the table
 abbrev pub are_types : SpecifierTrees → Bool
-are_types ss = if nat_eq (named_in ss) 0 then is_some (basic_shape (words_in ss)) else nat_eq (named_in ss) 1 && nat_eq (length (words_in ss)) 0
+are_types ss = if nat_eq (named_in ss) 0 then is_some (row_of (words_in ss) rows) else nat_eq (named_in ss) 1 && nat_eq (length (words_in ss)) 0
 
 -- the constraint on specifiers (6.7.1p2, 6.7.2p2)
 abbrev pub are_specifiers : Position → SpecifierTrees → Bool

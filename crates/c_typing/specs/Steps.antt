@@ -1,6 +1,7 @@
 -- Definition: the steps of which the walk over expressions, specifiers, declarators and initialisers is made (C11 6.4.4, 6.5, 6.7): each is one rule at one place of the text.
 use Rattle.std.specs.Prelude.{ℕ, zero, suc, ◌+◌, Bool, true, false, not, ◌&&◌, ◌||◌, nat_eq, nat_le, ℤ, pos, List, [], ◌∷◌, ◌++◌, Option, Some, None, length, slice_get, is_some, codes, if◌then◌else◌}
 use Rattle.std.specs.Option.{option_map, option_and_then}
+use Rattle.cil_base.specs.declared.kinds.Abi.{Abi}
 use Rattle.cil_base.specs.declared.kinds.IntKind.{IntKind}
 use Rattle.cil_base.specs.declared.kinds.IntKind.TheVariants.{Char, Int as int}
 use Rattle.cil_base.specs.declared.numbers.NameId.{NameId}
@@ -199,8 +200,9 @@ restrict_at NoSpecifiers = 0
 restrict_at (MoreSpecifiers (Qualified at q) ss) = if (qualifiers (q ∷ [])).restricted then at else restrict_at ss
 restrict_at (MoreSpecifiers _ ss) = restrict_at ss
 
-abbrev pub word_type : SpecifierTrees → CType
-word_type ss = elim (basic_shape (words_in ss)) [ None ↦ unqualified VoidType | Some s ↦ unqualified s ]
+-- the type that the words are, void where they are none (6.7.2p2)
+abbrev pub word_type : Abi → SpecifierTrees → CType
+word_type abi ss = elim (basic_shape abi (words_in ss)) [ None ↦ unqualified VoidType | Some s ↦ unqualified s ]
 
 abbrev pub base_or : CType → Option Base → Base
 base_or c None = base c []
@@ -211,8 +213,9 @@ abbrev pub base_with : Position → SpecifierTrees → Walk (Option Base) → Wa
 base_with p ss named = do
   _ ← refuses_if (not (are_specifiers p ss)) code.Specifiers (at_of_specifiers ss)
   found ← named
-  _ ← refuses_if (is_wrong_restrict (qualifiers_in ss) (base_or (word_type ss) found).type.shape) code.Restrict (restrict_at ss)
-  pure (record (base_or (word_type ss) found) { type = qualified (qualifiers_in ss) (base_or (word_type ss) found).type })
+  t ← types_of
+  _ ← refuses_if (is_wrong_restrict (qualifiers_in ss) (base_or (word_type t.abi ss) found).type.shape) code.Restrict (restrict_at ss)
+  pure (record (base_or (word_type t.abi ss) found) { type = qualified (qualifiers_in ss) (base_or (word_type t.abi ss) found).type })
 
 -- a typedef name (6.7.8)
 abbrev pub typedef_type : Option Denotes → Option CType

@@ -171,7 +171,9 @@ abbrev mutual
   -- expressions (6.5), operands before their operator, from left to right
   pub expr : ExprTree → Walk Operand
   expr (Name at x) = identifier at x
-  expr (Integer at text) = constant at (integer_constant text)
+  expr (Integer at text) = do
+    t ← types_of
+    constant at (integer_constant t.abi text)
   expr (Character at text) = constant at (option_map (λ v. (int, v)) (character_constant text))
   expr (Literals at texts) = literal_of at (string_literal texts)
   expr (Parentheses at e) = expr e

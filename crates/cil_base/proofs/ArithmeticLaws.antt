@@ -5,7 +5,7 @@ use Rattle.std.proofs.Math.Nat.{mod-le, div-le_self}
 use Rattle.std.specs.Option.{option_map, option_and_then}
 use Rattle.std.specs.Ordering.{int_eq}
 use Rattle.cil_base.specs.declared.kinds.IntKind.{IntKind}
-use Rattle.cil_base.specs.declared.kinds.IntKind.TheVariants.{Bool as Boolean, Char, SChar, UChar, Short, UShort, Int, UInt, Long, ULong, LLong, ULLong}
+use Rattle.cil_base.specs.declared.kinds.IntKind.TheVariants.{Bool as Boolean, Char, SChar, UChar, Short, UShort, Int, UInt, Long, ULong, LLong, ULLong, Long4, ULong4}
 use Rattle.cil_base.specs.declared.operators.BinOp.{BinOp}
 use Rattle.cil_base.specs.declared.operators.BinOp.TheVariants.{Mul, Div, Rem, Add, Sub, Shl, Shr, Lt, Gt, Le, Ge, Eq, Ne, And, Xor, Or}
 use Rattle.cil_base.specs.Integer.{IsOf, is_signed, least, greatest, wrapped}
@@ -26,6 +26,8 @@ zero_and_one Long = (omega (arith, ints), omega (arith, ints))
 zero_and_one ULong = (omega (arith, ints), omega (arith, ints))
 zero_and_one LLong = (omega (arith, ints), omega (arith, ints))
 zero_and_one ULLong = (omega (arith, ints), omega (arith, ints))
+zero_and_one Long4 = (omega (arith, ints), omega (arith, ints))
+zero_and_one ULong4 = (omega (arith, ints), omega (arith, ints))
 
 -- what lies between 0 and a value of a kind is one
 between : (low high v r : ℤ) → low ≤ℤ pos 0 → pos 1 ≤ℤ high → low ≤ℤ v → v ≤ℤ high → (pos 0 ≤ℤ r) × (r ≤ℤ v) → (low ≤ℤ r) × (r ≤ℤ high)

@@ -1,6 +1,6 @@
--- Device: worked rows of integer arithmetic, at int and wider kinds the same as gcc gives for LP64 where C11 defines a result.
+-- Device: worked rows of integer arithmetic, at int and wider kinds the same as gcc gives for LP64 and, with -m32, for ILP32 where C11 defines a result.
 use Rattle.std.proofs.Common.{◌≡◌, Some, None, pos, negsuc, refl}
-use Rattle.cil_base.specs.declared.kinds.IntKind.TheVariants.{Char, UChar, Int, UInt, Long, ULong, LLong}
+use Rattle.cil_base.specs.declared.kinds.IntKind.TheVariants.{Char, UChar, Int, UInt, Long, ULong, LLong, Long4, ULong4}
 use Rattle.cil_base.specs.declared.operators.BinOp.TheVariants.{Mul, Div, Rem, Add, Sub, Shl, Shr, Lt, Ge, Eq, Ne, And, Xor, Or}
 use Rattle.cil_base.specs.declared.operators.UnOp.TheVariants.{Neg, Compl, Not}
 use Rattle.cil_base.specs.Arithmetic.{arith_of, unary_of}
@@ -79,6 +79,18 @@ seven_div_0 = refl
 
 seven_u_rem_0 : arith_of Rem UInt (pos 7) (pos 0) ≡ None
 seven_u_rem_0 = refl
+
+long4_max_plus_1 : arith_of Add Long4 (pos 2147483647) (pos 1) ≡ None
+long4_max_plus_1 = refl
+
+ulong4_max_plus_1 : arith_of Add ULong4 (pos 4294967295) (pos 1) ≡ Some (pos 0)
+ulong4_max_plus_1 = refl
+
+ulong4_max_squared : arith_of Mul ULong4 (pos 4294967295) (pos 4294967295) ≡ Some (pos 1)
+ulong4_max_squared = refl
+
+one_ul4_shl_32 : arith_of Shl ULong4 (pos 1) (pos 32) ≡ None
+one_ul4_shl_32 = refl
 
 minus_1_less_0 : arith_of Lt Int (negsuc 0) (pos 0) ≡ Some (pos 1)
 minus_1_less_0 = refl

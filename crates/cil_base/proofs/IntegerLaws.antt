@@ -5,7 +5,7 @@ use Rattle.std.proofs.Math.Nat.{mod-eq_of_lt}
 use Rattle.std.proofs.lemmas.Nat.{mod_below}
 use Rattle.std.specs.Ordering.{int_eq}
 use Rattle.cil_base.specs.declared.kinds.IntKind.{IntKind}
-use Rattle.cil_base.specs.declared.kinds.IntKind.TheVariants.{Bool as Boolean, Char, SChar, UChar, Short, UShort, Int, UInt, Long, ULong, LLong, ULLong}
+use Rattle.cil_base.specs.declared.kinds.IntKind.TheVariants.{Bool as Boolean, Char, SChar, UChar, Short, UShort, Int, UInt, Long, ULong, LLong, ULLong, Long4, ULong4}
 use Rattle.cil_base.specs.Integer.{IsOf, wrapped, truth, reduced, balanced}
 
 reduced_bounds : (m : ℕ) (v : ℤ) → 0 < m → (pos 0 ≤ℤ reduced m v) × (reduced m v ≤ℤ pos (m - 1))
@@ -39,6 +39,8 @@ wrapped_value Long v = balanced_bounds (2 ^ 63) v (lit< tt)
 wrapped_value ULong v = reduced_bounds (2 ^ 64) v (lit< tt)
 wrapped_value LLong v = balanced_bounds (2 ^ 63) v (lit< tt)
 wrapped_value ULLong v = reduced_bounds (2 ^ 64) v (lit< tt)
+wrapped_value Long4 v = balanced_bounds (2 ^ 31) v (lit< tt)
+wrapped_value ULong4 v = reduced_bounds (2 ^ 32) v (lit< tt)
 
 reduced_same : (m : ℕ) (v : ℤ) → 0 < m → pos 0 ≤ℤ v → v ≤ℤ pos (m - 1) → reduced m v ≡ v
 reduced_same m (pos a) h low high = ap pos (mod-eq_of_lt (omega (arith, ints)))
@@ -75,3 +77,5 @@ wrapped-IsOf Long v h = balanced_same (2 ^ 63) v (lit< tt) h.0 h.1
 wrapped-IsOf ULong v h = reduced_same (2 ^ 64) v (lit< tt) h.0 h.1
 wrapped-IsOf LLong v h = balanced_same (2 ^ 63) v (lit< tt) h.0 h.1
 wrapped-IsOf ULLong v h = reduced_same (2 ^ 64) v (lit< tt) h.0 h.1
+wrapped-IsOf Long4 v h = balanced_same (2 ^ 31) v (lit< tt) h.0 h.1
+wrapped-IsOf ULong4 v h = reduced_same (2 ^ 32) v (lit< tt) h.0 h.1

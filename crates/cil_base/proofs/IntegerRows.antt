@@ -1,6 +1,6 @@
 -- Device: worked rows and laws of the integer types and their conversions.
 use Rattle.std.proofs.Common.{◌≡◌, pos, negsuc, refl}
-use Rattle.cil_base.specs.declared.kinds.IntKind.TheVariants.{Bool as Boolean, Char, UChar, Short, Int, UInt, Long, ULong, LLong}
+use Rattle.cil_base.specs.declared.kinds.IntKind.TheVariants.{Bool as Boolean, Char, UChar, Short, Int, UInt, Long, ULong, LLong, Long4, ULong4}
 use Rattle.cil_base.specs.Integer.{least, greatest, wrapped}
 
 int_min : least Int ≡ negsuc 2147483647
@@ -44,6 +44,18 @@ ulong_minus_1 = refl
 
 llong_2_63 : wrapped LLong (pos 9223372036854775808) ≡ negsuc 9223372036854775807
 llong_2_63 = refl
+
+ulong4_minus_1 : wrapped ULong4 (negsuc 0) ≡ pos 4294967295
+ulong4_minus_1 = refl
+
+long4_2_31 : wrapped Long4 (pos 2147483648) ≡ negsuc 2147483647
+long4_2_31 = refl
+
+long4_min : least Long4 ≡ negsuc 2147483647
+long4_min = refl
+
+ulong4_max : greatest ULong4 ≡ pos 4294967295
+ulong4_max = refl
 
 bool_256 : wrapped Boolean (pos 256) ≡ pos 1
 bool_256 = refl

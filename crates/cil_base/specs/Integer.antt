@@ -1,13 +1,13 @@
--- Definition: the integer types of C11 6.2.5, with the sizes and signs of the LP64 data model, and the conversions of 6.3.1.
+-- Definition: the integer types of C11 6.2.5, with the sizes and signs of the two data models, and the conversions of 6.3.1.
 use Rattle.std.specs.Prelude.{List, [], codes, ℕ, ◌-◌, ◌*◌, ◌^◌, Bool, true, false, if◌then◌else◌, ℤ, pos, neg_ℤ, ◌-ℤ◌, ◌≤ℤ◌, int_lt}
 use Rattle.std.specs.Int.{int_rem_euclid}
 use Rattle.std.specs.Ordering.{int_eq}
 use Rattle.cil_base.specs.declared.kinds.Abi.{Abi}
-use Rattle.cil_base.specs.declared.kinds.Abi.TheVariants.{Lp64}
+use Rattle.cil_base.specs.declared.kinds.Abi.TheVariants.{Lp64, Ilp32}
 use Rattle.cil_base.specs.declared.kinds.IntKind.{IntKind}
-use Rattle.cil_base.specs.declared.kinds.IntKind.TheVariants.{Bool as Boolean, Char, SChar, UChar, Short, UShort, Int, UInt, Long, ULong, LLong, ULLong}
+use Rattle.cil_base.specs.declared.kinds.IntKind.TheVariants.{Bool as Boolean, Char, SChar, UChar, Short, UShort, Int, UInt, Long, ULong, LLong, ULLong, Long4, ULong4}
 
--- the size of a kind in bytes (own, LP64)
+-- the size of a kind in bytes (own); long and unsigned long are Long and ULong in one data model, Long4 and ULong4 in the other
 abbrev pub size_of : IntKind → ℕ
 size_of Boolean = 1
 size_of Char = 1
@@ -21,6 +21,8 @@ size_of Long = 8
 size_of ULong = 8
 size_of LLong = 8
 size_of ULLong = 8
+size_of Long4 = 4
+size_of ULong4 = 4
 
 -- the number of bits of a kind's object representation (C11 6.2.6.1p4): a byte has 8. At int and wider kinds, which have no padding bits, it is the width of 6.2.6.2p6
 abbrev pub width_of : IntKind → ℕ
@@ -40,6 +42,8 @@ rank_of Long = 4
 rank_of ULong = 4
 rank_of LLong = 5
 rank_of ULLong = 5
+rank_of Long4 = 4
+rank_of ULong4 = 4
 
 -- whether the kind has negative values (C11 6.2.5p4, p6, p15); plain char is signed (own)
 abbrev pub is_signed : IntKind → Bool
@@ -55,6 +59,8 @@ is_signed Long = true
 is_signed ULong = false
 is_signed LLong = true
 is_signed ULLong = false
+is_signed Long4 = true
+is_signed ULong4 = false
 
 -- the least value of a kind (C11 5.2.4.2.1, two's complement)
 abbrev pub least : IntKind → ℤ
@@ -70,6 +76,8 @@ least Long = neg_ℤ (pos (2 ^ 63))
 least ULong = pos 0
 least LLong = neg_ℤ (pos (2 ^ 63))
 least ULLong = pos 0
+least Long4 = neg_ℤ (pos (2 ^ 31))
+least ULong4 = pos 0
 
 -- the greatest value of a kind (C11 5.2.4.2.1; _Bool holds 0 and 1, 6.2.5p2)
 abbrev pub greatest : IntKind → ℤ
@@ -85,6 +93,8 @@ greatest Long = pos (2 ^ 63 - 1)
 greatest ULong = pos (2 ^ 64 - 1)
 greatest LLong = pos (2 ^ 63 - 1)
 greatest ULLong = pos (2 ^ 64 - 1)
+greatest Long4 = pos (2 ^ 31 - 1)
+greatest ULong4 = pos (2 ^ 32 - 1)
 
 -- the number is a value of the kind
 abbrev pub IsOf : IntKind → ℤ → Type 0
@@ -116,6 +126,8 @@ wrapped Long v = balanced (2 ^ 63) v
 wrapped ULong v = reduced (2 ^ 64) v
 wrapped LLong v = balanced (2 ^ 63) v
 wrapped ULLong v = reduced (2 ^ 64) v
+wrapped Long4 v = balanced (2 ^ 31) v
+wrapped ULong4 v = reduced (2 ^ 32) v
 
 -- the words that name the type (C11 6.7.2p2)
 abbrev pub words_of : IntKind → List ℕ
@@ -131,6 +143,8 @@ words_of Long = codes "long"
 words_of ULong = codes "unsigned long"
 words_of LLong = codes "long long"
 words_of ULLong = codes "unsigned long long"
+words_of Long4 = codes "long"
+words_of ULong4 = codes "unsigned long"
 
 -- the suffix of a constant of the kind (C11 6.4.4.1); a narrower kind has no constants, and none
 abbrev pub suffix_of : IntKind → List ℕ
@@ -146,18 +160,51 @@ suffix_of Long = codes "L"
 suffix_of ULong = codes "UL"
 suffix_of LLong = codes "LL"
 suffix_of ULLong = codes "ULL"
+suffix_of Long4 = codes "L"
+suffix_of ULong4 = codes "UL"
 
--- whether the data model has the kind
+-- whether the data model is LP64, in which long and pointers have 8 bytes, and whether it is ILP32, in which they have 4
+abbrev pub is_lp64 : Abi → Bool
+is_lp64 Lp64 = true
+is_lp64 Ilp32 = false
+
+abbrev pub is_ilp32 : Abi → Bool
+is_ilp32 Lp64 = false
+is_ilp32 Ilp32 = true
+
+-- whether the data model has the kind: it has one kind of long and one of unsigned long (own), and every other kind
 abbrev pub has_kind : Abi → IntKind → Bool
-has_kind Lp64 kind = true
+has_kind abi Boolean = true
+has_kind abi Char = true
+has_kind abi SChar = true
+has_kind abi UChar = true
+has_kind abi Short = true
+has_kind abi UShort = true
+has_kind abi Int = true
+has_kind abi UInt = true
+has_kind abi Long = is_lp64 abi
+has_kind abi ULong = is_lp64 abi
+has_kind abi LLong = true
+has_kind abi ULLong = true
+has_kind abi Long4 = is_ilp32 abi
+has_kind abi ULong4 = is_ilp32 abi
 
--- the kinds of long and ptrdiff_t, and of unsigned long and size_t (C11 7.19; own, LP64)
+-- the kinds of long and ptrdiff_t, and of unsigned long and size_t (C11 7.19; own)
 abbrev pub long_of : Abi → IntKind
 long_of Lp64 = Long
+long_of Ilp32 = Long4
 
 abbrev pub ulong_of : Abi → IntKind
 ulong_of Lp64 = ULong
+ulong_of Ilp32 = ULong4
 
--- the size of a pointer in bytes (own, LP64)
+-- the kind of a data model that has the words and the suffix of a kind of LP64: long and unsigned long are written alike in each
+abbrev pub kind_in : Abi → IntKind → IntKind
+kind_in abi Long = long_of abi
+kind_in abi ULong = ulong_of abi
+kind_in abi kind = kind
+
+-- the size of a pointer in bytes (own): that of long
 abbrev pub pointer_size_of : Abi → ℕ
 pointer_size_of Lp64 = 8
+pointer_size_of Ilp32 = 4

@@ -1,7 +1,7 @@
 -- Definition: the integer promotions (C11 6.3.1.1p2) and the common kind of two operands (6.3.1.8p1), by rank and by the values that kinds have.
 use Rattle.std.specs.Prelude.{Bool, true, false, ◌&&◌, if◌then◌else◌, nat_le, int_le}
 use Rattle.cil_base.specs.declared.kinds.IntKind.{IntKind}
-use Rattle.cil_base.specs.declared.kinds.IntKind.TheVariants.{Bool as Boolean, Char, SChar, UChar, Short, UShort, Int, UInt, Long, ULong, LLong, ULLong}
+use Rattle.cil_base.specs.declared.kinds.IntKind.TheVariants.{Bool as Boolean, Char, SChar, UChar, Short, UShort, Int, UInt, Long, ULong, LLong, ULLong, Long4, ULong4}
 use Rattle.cil_base.specs.Integer.{rank_of, is_signed, least, greatest}
 
 -- each value of the second kind is one of the first
@@ -22,6 +22,8 @@ unsigned_of Long = ULong
 unsigned_of ULong = ULong
 unsigned_of LLong = ULLong
 unsigned_of ULLong = ULLong
+unsigned_of Long4 = ULong4
+unsigned_of ULong4 = ULong4
 
 -- C11 6.3.1.1p2: a kind whose rank is at most that of int is converted to int where int has all its values, and else to unsigned int; every other kind stays
 abbrev pub promoted : IntKind → IntKind

@@ -1,7 +1,8 @@
 use crate::kinds::IntKind;
 use crate::numbers::EntityId;
 
-/// The value of a constant expression (C11 6.6). A null pointer constant is `Int(ULong, 0)`.
+/// The value of a constant expression (C11 6.6). A null pointer constant is `Int(k, 0)`, where k is
+/// the data model's kind of `unsigned long`.
 #[derive(Clone, Copy, Debug, PartialEq, Eq)]
 pub enum Constant {
     /// An integer constant expression (6.6p6): a value of the kind.

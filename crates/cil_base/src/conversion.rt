@@ -17,8 +17,8 @@ pub fn wrap(kind: IntKind, v: i128) -> i128
         IntKind::UChar => v.rem_euclid(0x100),
         IntKind::Short => centred(v.rem_euclid(0x1_0000), 0x8000),
         IntKind::UShort => v.rem_euclid(0x1_0000),
-        IntKind::Int => centred(v.rem_euclid(0x1_0000_0000), 0x8000_0000),
-        IntKind::UInt => v.rem_euclid(0x1_0000_0000),
+        IntKind::Int | IntKind::Long4 => centred(v.rem_euclid(0x1_0000_0000), 0x8000_0000),
+        IntKind::UInt | IntKind::ULong4 => v.rem_euclid(0x1_0000_0000),
         IntKind::Long | IntKind::LLong => {
             centred(v.rem_euclid(0x1_0000_0000_0000_0000), 0x8000_0000_0000_0000)
         }

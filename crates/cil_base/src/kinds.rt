@@ -1,9 +1,10 @@
 ghost use Rattle.std.specs.Prelude.{◌≡◌};
-ghost use Rattle.cil_base.specs.Integer.{size_of, rank_of, is_signed, least, greatest, words_of, suffix_of, has_kind, long_of, ulong_of, pointer_size_of};
+ghost use Rattle.cil_base.specs.Integer.{size_of, rank_of, is_signed, least, greatest, words_of, suffix_of, is_lp64, is_ilp32, has_kind, long_of, ulong_of, kind_in, pointer_size_of};
 ghost use Rattle.cil_base.specs.Arithmetic.{fits};
 ghost use Rattle.cil_base.specs.Usual.{has_values_of, unsigned_of, promoted, mixed, common_of_promoted, common};
 
-/// The integer types of C11 6.2.5, whose sizes and signs are those of the product's data model.
+/// The integer types of C11 6.2.5, with the sizes and signs that they have in the product's data models. `long` and
+/// `unsigned long` are a kind of 8 bytes in one model and of 4 in another (`Abi::long`, `Abi::ulong`).
 #[derive(Clone, Copy, Debug, PartialEq, Eq)]
 pub enum IntKind {
     Bool,
@@ -18,17 +19,21 @@ pub enum IntKind {
     ULong,
     LLong,
     ULLong,
+    /// long of 4 bytes.
+    Long4,
+    /// unsigned long of 4 bytes.
+    ULong4,
 }
 
 impl IntKind {
-    /// The size in bytes (C11 6.5.3.4; own, LP64).
+    /// The size in bytes (C11 6.5.3.4; own).
     pub fn size(self) -> u32
         ensures { result ≡ size_of self }
     {
         match self {
             IntKind::Bool | IntKind::Char | IntKind::SChar | IntKind::UChar => 1,
             IntKind::Short | IntKind::UShort => 2,
-            IntKind::Int | IntKind::UInt => 4,
+            IntKind::Int | IntKind::UInt | IntKind::Long4 | IntKind::ULong4 => 4,
             IntKind::Long | IntKind::ULong | IntKind::LLong | IntKind::ULLong => 8,
         }
     }
@@ -42,7 +47,7 @@ impl IntKind {
             IntKind::Char | IntKind::SChar | IntKind::UChar => 1,
             IntKind::Short | IntKind::UShort => 2,
             IntKind::Int | IntKind::UInt => 3,
-            IntKind::Long | IntKind::ULong => 4,
+            IntKind::Long | IntKind::ULong | IntKind::Long4 | IntKind::ULong4 => 4,
             IntKind::LLong | IntKind::ULLong => 5,
         }
     }
@@ -57,13 +62,15 @@ impl IntKind {
             | IntKind::UShort
             | IntKind::UInt
             | IntKind::ULong
-            | IntKind::ULLong => false,
+            | IntKind::ULLong
+            | IntKind::ULong4 => false,
             IntKind::Char
             | IntKind::SChar
             | IntKind::Short
             | IntKind::Int
             | IntKind::Long
-            | IntKind::LLong => true,
+            | IntKind::LLong
+            | IntKind::Long4 => true,
         }
     }
 
@@ -77,10 +84,11 @@ impl IntKind {
             | IntKind::UShort
             | IntKind::UInt
             | IntKind::ULong
-            | IntKind::ULLong => 0,
+            | IntKind::ULLong
+            | IntKind::ULong4 => 0,
             IntKind::Char | IntKind::SChar => -0x80,
             IntKind::Short => -0x8000,
-            IntKind::Int => -0x8000_0000,
+            IntKind::Int | IntKind::Long4 => -0x8000_0000,
             IntKind::Long | IntKind::LLong => -0x8000_0000_0000_0000,
         }
     }
@@ -95,8 +103,8 @@ impl IntKind {
             IntKind::UChar => 0xff,
             IntKind::Short => 0x7fff,
             IntKind::UShort => 0xffff,
-            IntKind::Int => 0x7fff_ffff,
-            IntKind::UInt => 0xffff_ffff,
+            IntKind::Int | IntKind::Long4 => 0x7fff_ffff,
+            IntKind::UInt | IntKind::ULong4 => 0xffff_ffff,
             IntKind::Long | IntKind::LLong => 0x7fff_ffff_ffff_ffff,
             IntKind::ULong | IntKind::ULLong => 0xffff_ffff_ffff_ffff,
         }
@@ -126,12 +134,14 @@ impl IntKind {
             IntKind::Int => IntKind::UInt,
             IntKind::Long => IntKind::ULong,
             IntKind::LLong => IntKind::ULLong,
+            IntKind::Long4 => IntKind::ULong4,
             IntKind::Bool
             | IntKind::UChar
             | IntKind::UShort
             | IntKind::UInt
             | IntKind::ULong
-            | IntKind::ULLong => self,
+            | IntKind::ULLong
+            | IntKind::ULong4 => self,
         }
     }
 
@@ -168,8 +178,8 @@ impl IntKind {
             IntKind::UShort => "unsigned short",
             IntKind::Int => "int",
             IntKind::UInt => "unsigned int",
-            IntKind::Long => "long",
-            IntKind::ULong => "unsigned long",
+            IntKind::Long | IntKind::Long4 => "long",
+            IntKind::ULong | IntKind::ULong4 => "unsigned long",
             IntKind::LLong => "long long",
             IntKind::ULLong => "unsigned long long",
         }
@@ -181,8 +191,8 @@ impl IntKind {
     {
         match self {
             IntKind::UInt => "U",
-            IntKind::Long => "L",
-            IntKind::ULong => "UL",
+            IntKind::Long | IntKind::Long4 => "L",
+            IntKind::ULong | IntKind::ULong4 => "UL",
             IntKind::LLong => "LL",
             IntKind::ULLong => "ULL",
             IntKind::Bool
@@ -195,12 +205,23 @@ impl IntKind {
         }
     }
 
-    /// Whether the data model has the kind.
+    /// Whether the data model has the kind: of the two kinds of `long`, and of `unsigned long`, each model has one (own).
     pub fn is_of(self, abi: Abi) -> bool
         ensures { result ≡ has_kind abi self }
     {
-        match abi {
-            Abi::Lp64 => true,
+        match self {
+            IntKind::Long | IntKind::ULong => abi.is_lp64(),
+            IntKind::Long4 | IntKind::ULong4 => abi.is_ilp32(),
+            IntKind::Bool
+            | IntKind::Char
+            | IntKind::SChar
+            | IntKind::UChar
+            | IntKind::Short
+            | IntKind::UShort
+            | IntKind::Int
+            | IntKind::UInt
+            | IntKind::LLong
+            | IntKind::ULLong => true,
         }
     }
 }
@@ -234,6 +255,8 @@ fn common_of_promoted(a: IntKind, b: IntKind) -> IntKind
 pub enum Abi {
     /// long and pointers have 8 bytes, int has 4.
     Lp64,
+    /// int, long and pointers have 4 bytes.
+    Ilp32,
 }
 
 /// What holds for all units that are linked into one program (own).
@@ -247,12 +270,33 @@ pub struct Mode {
 }
 
 impl Abi {
+    /// Whether long and pointers have 8 bytes.
+    fn is_lp64(self) -> bool
+        ensures { result ≡ is_lp64 self }
+    {
+        match self {
+            Abi::Lp64 => true,
+            Abi::Ilp32 => false,
+        }
+    }
+
+    /// Whether long and pointers have 4 bytes.
+    fn is_ilp32(self) -> bool
+        ensures { result ≡ is_ilp32 self }
+    {
+        match self {
+            Abi::Lp64 => false,
+            Abi::Ilp32 => true,
+        }
+    }
+
     /// The kind of `long`, and of `ptrdiff_t` (C11 7.19).
     pub fn long(self) -> IntKind
         ensures { result ≡ long_of self }
     {
         match self {
             Abi::Lp64 => IntKind::Long,
+            Abi::Ilp32 => IntKind::Long4,
         }
     }
 
@@ -262,6 +306,29 @@ impl Abi {
     {
         match self {
             Abi::Lp64 => IntKind::ULong,
+            Abi::Ilp32 => IntKind::ULong4,
+        }
+    }
+
+    /// The kind of this model that is written with the words and the suffix of a kind of LP64 (own).
+    pub fn kind(self, written: IntKind) -> IntKind
+        ensures { result ≡ kind_in self written }
+    {
+        match written {
+            IntKind::Long => self.long(),
+            IntKind::ULong => self.ulong(),
+            IntKind::Bool
+            | IntKind::Char
+            | IntKind::SChar
+            | IntKind::UChar
+            | IntKind::Short
+            | IntKind::UShort
+            | IntKind::Int
+            | IntKind::UInt
+            | IntKind::LLong
+            | IntKind::ULLong
+            | IntKind::Long4
+            | IntKind::ULong4 => written,
         }
     }
 
@@ -271,6 +338,7 @@ impl Abi {
     {
         match self {
             Abi::Lp64 => 8,
+            Abi::Ilp32 => 4,
         }
     }
 }

@@ -227,7 +227,9 @@ fn bits_of(kind: IntKind, v: i128) -> u64
             v.rem_euclid(0x100) as u64
         }
         IntKind::Short | IntKind::UShort => v.rem_euclid(0x1_0000) as u64,
-        IntKind::Int | IntKind::UInt => v.rem_euclid(0x1_0000_0000) as u64,
+        IntKind::Int | IntKind::UInt | IntKind::Long4 | IntKind::ULong4 => {
+            v.rem_euclid(0x1_0000_0000) as u64
+        }
         IntKind::Long | IntKind::ULong | IntKind::LLong | IntKind::ULLong => {
             v.rem_euclid(0x1_0000_0000_0000_0000) as u64
         }

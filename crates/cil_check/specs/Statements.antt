@@ -22,7 +22,7 @@ abbrev mutual
   keeps_rules c ret kind inside (Loop body) = keep_rules c ret kind true body
   keeps_rules c ret kind inside (Block body) = keep_rules c ret kind inside body
   keeps_rules c ret kind inside (Label number) = true
-  keeps_rules c ret kind inside (Case k value) = case_fits kind k value
+  keeps_rules c ret kind inside (Case k value) = case_fits c.program.graph.abi kind k value
   keeps_rules c ret kind inside Default = is_some kind
   keeps_rules c ret kind inside (Goto number) = nat_lt number (length c.labels)
   keeps_rules c ret kind inside Break = inside

@@ -8,7 +8,7 @@ ghost use Rattle.cil_check.specs.Statements.{keeps_rules, keep_rules, switch_is_
 use crate::instructions::{instr_fits, return_fits, switch_kind, test_fits};
 use crate::scope::Scope;
 use crate::switches::cases_are_once;
-use cil_base::{IntKind, Memory, TypeId};
+use cil_base::{Abi, IntKind, Memory, TypeId};
 use cil_tree::Stmt;
 
 /// Where a statement stands: the kind of the innermost switch around it, whether it is in a loop or switch, and the
@@ -59,14 +59,14 @@ fn switch_fits(s: &Scope, kind: Option<IntKind>, body: &[Stmt], kept: bool) -> R
     cases_are_once(s, body)
 }
 
-/// Whether a case label fits: it stands in a switch, and is a value of the kind of its expression (C11 6.8.1p2,
-/// 6.8.4.2p5).
-fn case_fits(switch: Option<IntKind>, kind: IntKind, value: i128) -> bool
-    ensures { result ≡ case_fits switch kind value }
+/// Whether a case label fits: it stands in a switch, and is a value of the kind of its expression, which the data model
+/// has (C11 6.8.1p2, 6.8.4.2p5).
+fn case_fits(abi: Abi, switch: Option<IntKind>, kind: IntKind, value: i128) -> bool
+    ensures { result ≡ case_fits abi switch kind value }
 {
     match switch {
         None => false,
-        Some(k) => kind == k && kind.fits(value),
+        Some(k) => kind == k && kind.is_of(abi) && kind.fits(value),
     }
 }
 
@@ -120,7 +120,7 @@ fn keeps_rules(s: &Scope, at: Place, x: &Stmt) -> Result<bool, Memory>
         Stmt::Loop(body) => keep_rules(s, at.in_loop(), body),
         Stmt::Block(body) => keep_rules(s, at, body),
         Stmt::Label(_) => Ok(true),
-        Stmt::Case(kind, value) => Ok(case_fits(at.switch, *kind, *value)),
+        Stmt::Case(kind, value) => Ok(case_fits(s.unit.graph.abi(), at.switch, *kind, *value)),
         Stmt::Default => Ok(at.switch.is_some()),
         Stmt::Goto(label) => Ok(is_label(s, label.0)),
         Stmt::Break => Ok(at.inside),

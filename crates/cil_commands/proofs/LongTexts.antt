@@ -1,5 +1,6 @@
 -- Device: what is said of the bytes that are read of a file holds of all of them, also where there are too many.
 use Rattle.std.proofs.Common.{◌≡◌, ℕ, ◌<◌, ◌≤◌, List, [], ◌++◌, length, ◌⊎◌, inl, inr, sym, ap, subst, ◌∙◌, arith, Option, Some, None, IfSome, append-nil, length-append, lt-ltb, cond}
+use Rattle.cil_base.specs.declared.kinds.Abi.TheVariants.{Lp64}
 use Rattle.cil_tree.specs.Programs.{text_limit}
 use Rattle.cil_tree.specs.LaidOut.{bad_place, first_bad, lines_from}
 use Rattle.cil_reader.specs.Stops.{IsNoText}
@@ -9,10 +10,10 @@ use Rattle.cil_lines.specs.declared.status.Status.{Status}
 use Rattle.cil_lines.specs.declared.status.Status.TheVariants.{Done, Exited, StillRunning, WentUndefined, Usage, Refused, NotCil, ReadFault, WriteFault, Memory}
 
 -- too many bytes are no text, and are refused at the limit
-pub too_long : (bytes : List ℕ) → text_limit < length bytes → (text_limit ≡ bad_place bytes) × IsNoText bytes
+pub too_long : (bytes : List ℕ) → text_limit < length bytes → (text_limit ≡ bad_place bytes) × IsNoText Lp64 bytes
 too_long bytes long = (
   ap (λ long_one. cond long_one text_limit (first_bad 0 0 (lines_from [] bytes))) (sym (lt-ltb text_limit (length bytes) long)),
-  λ p is. absurd (omega (arith, long, is.short)),
+  λ p own is. absurd (omega (arith, long, is.short)),
 )
 
 -- below the limit the whole file was read
@@ -22,20 +23,20 @@ all_read bytes file front short = front.parts ∙ (ap (λ rest. bytes ++ rest) (
 at_least : (bytes file : List ℕ) → IsFrontOf 268435457 bytes file → length bytes ≤ length file
 at_least bytes file front = omega (arith, ap length front.parts, length-append bytes front.rest)
 
-refused_front : (bytes file : List ℕ) (byte : ℕ) → IsFrontOf 268435457 bytes file → byte ≡ bad_place bytes → IsNoText bytes → (length bytes ≤ text_limit) ⊎ (text_limit < length bytes) → (byte ≡ bad_place file) × IsNoText file
-refused_front bytes file byte front place none (inl short) = subst (λ bs. (byte ≡ bad_place bs) × IsNoText bs) (sym (all_read bytes file front short)) (place, none)
+refused_front : (bytes file : List ℕ) (byte : ℕ) → IsFrontOf 268435457 bytes file → byte ≡ bad_place bytes → IsNoText Lp64 bytes → (length bytes ≤ text_limit) ⊎ (text_limit < length bytes) → (byte ≡ bad_place file) × IsNoText Lp64 file
+refused_front bytes file byte front place none (inl short) = subst (λ bs. (byte ≡ bad_place bs) × IsNoText Lp64 bs) (sym (all_read bytes file front short)) (place, none)
 refused_front bytes file byte front place none (inr long) =
     let file_long = too_long file (omega (arith, at_least bytes file front)) in
     (place ∙ (sym (too_long bytes long).0 ∙ file_long.0), file_long.1)
 
 -- bytes that are refused are refused where they are read of a file
-refused_of_front : (bytes file : List ℕ) (byte : ℕ) → IsFrontOf 268435457 bytes file → byte ≡ bad_place bytes → IsNoText bytes → (byte ≡ bad_place file) × IsNoText file
+refused_of_front : (bytes file : List ℕ) (byte : ℕ) → IsFrontOf 268435457 bytes file → byte ≡ bad_place bytes → IsNoText Lp64 bytes → (byte ≡ bad_place file) × IsNoText Lp64 file
 refused_of_front bytes file byte front place none = refused_front bytes file byte front place none (cases (length bytes) text_limit)
   where
     cases : (m n : ℕ) → (m ≤ n) ⊎ (n < m)
     cases m n = grind arith
 
-refused_asked : (asked : Option (List ℕ)) (bytes : List ℕ) (byte : ℕ) → IfSome asked (IsFrontOf 268435457 bytes) → (byte ≡ bad_place bytes) × IsNoText bytes → IfSome asked (λ file. (byte ≡ bad_place file) × IsNoText file)
+refused_asked : (asked : Option (List ℕ)) (bytes : List ℕ) (byte : ℕ) → IfSome asked (IsFrontOf 268435457 bytes) → (byte ≡ bad_place bytes) × IsNoText Lp64 bytes → IfSome asked (λ file. (byte ≡ bad_place file) × IsNoText Lp64 file)
 refused_asked None bytes byte front says = tt
 refused_asked (Some file) bytes byte front says = refused_of_front bytes file byte front says.0 says.1
 
@@ -50,6 +51,7 @@ ran_file asked bytes words steps status left left' taken taken' front ran = reco
   program = ran.program;
   bytes = ran.bytes;
   file = is_file asked bytes ran.bytes front ran.file ran.text.short;
+  model = ran.model;
   text = ran.text;
   run = ran.run;
 }

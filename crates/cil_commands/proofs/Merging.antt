@@ -71,6 +71,6 @@ pub small-Merges : (unit : SourceFile) (e : Expression) → IsUnit unit e → Me
 small-Merges unit e is = record {
   made = record { grammatical = small_is_grammatical unit e is; tree = e; unit_of = is; made_is = ap returning (whole-lowered e) };
   text = whole-text unit e is;
-  one = λ q also. same_program (text.Text (whole_program (small e))) (whole_program (small e)) q (whole-text unit e is) also;
+  one = λ q own also. same_program (text.Text (whole_program (small e))) (whole_program (small e)) q (whole-text unit e is) also (sym own);
   allowed = λ f also env steps. subst (λ g. Allows (RunC g env steps) (WholeRun (whole_program (small e) ∷ []) (mode_of (whole_program (small e))) env.args.items env.input steps)) (same_expression unit e f is also) (inl (whole-run e (small-well_formed unit e is) env steps));
 }

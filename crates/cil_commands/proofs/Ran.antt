@@ -1,6 +1,7 @@
 -- What the clauses of `run` say, from what its answer says.
-use Rattle.std.proofs.Common.{◌≡◌, ℕ, List, [], ◌∷◌, Option, Some, None, IfSome, ◌⊎◌, inl, inr, refl, ap, sym, subst}
+use Rattle.std.proofs.Common.{◌≡◌, ℕ, List, [], ◌∷◌, Option, Some, None, IfSome, ◌⊎◌, inl, inr, refl, ap, sym, subst, ◌∙◌}
 use Rattle.std.specs.Option.{option_and_then}
+use Rattle.cil_base.specs.declared.kinds.Abi.TheVariants.{Lp64}
 use Rattle.cil_tree.specs.Tree.{Program}
 use Rattle.cil_tree.specs.Programs.{IsTextOf}
 use Rattle.cil_tree.specs.LaidOut.{bad_place}
@@ -49,50 +50,50 @@ read_failed idle unread stays failed named asked words steps WriteFault left lef
 read_failed idle unread stays failed named asked words steps Memory left left' taken taken' says there is = let clash : Memory ≡ ReadFault = is in cc
 
 -- a program that was run
-pub says_ran : (idle failed : Type 0) (bytes : List ℕ) (p : Program) (words : List (List ℕ)) (steps : ℕ) (status : Status) (left left' taken taken' : Option (List ℕ)) → IsTextOf bytes p → (status ≡ ReadFault → failed)
+pub says_ran : (idle failed : Type 0) (bytes : List ℕ) (p : Program) (words : List (List ℕ)) (steps : ℕ) (status : Status) (left left' taken taken' : Option (List ℕ)) → IsTextOf bytes p → p.graph.abi ≡ Lp64 → (status ≡ ReadFault → failed)
     → RanAs p words steps status left left' taken taken' → RunSays idle ⊥ failed (Some bytes) words steps status left left' taken taken'
-says_ran idle failed bytes p words steps (Exited s) left left' taken taken' is read r = record { program = p; bytes = bytes; file = refl; text = is; run = r }
-says_ran idle failed bytes p words steps StillRunning left left' taken taken' is read r = record { program = p; bytes = bytes; file = refl; text = is; run = r }
-says_ran idle failed bytes p words steps WentUndefined left left' taken taken' is read r = record { program = p; bytes = bytes; file = refl; text = is; run = r }
-says_ran idle failed bytes p words steps ReadFault left left' taken taken' is read r = inr (read refl, record { program = p; bytes = bytes; file = refl; text = is; run = r })
-says_ran idle failed bytes p words steps WriteFault left left' taken taken' is read r = record { program = p; bytes = bytes; file = refl; text = is; run = r }
-says_ran idle failed bytes p words steps Memory left left' taken taken' is read r = inr (record { program = p; bytes = bytes; file = refl; text = is; run = r })
-says_ran idle failed bytes p words steps Done left left' taken taken' is read r = absurd (r.says [] (λ e. refl))
-says_ran idle failed bytes p words steps Usage left left' taken taken' is read r = absurd (r.says [] (λ e. refl))
-says_ran idle failed bytes p words steps (Refused refusal) left left' taken taken' is read r = absurd (r.says [] (λ e. refl))
-says_ran idle failed bytes p words steps (NotCil k) left left' taken taken' is read r = absurd (r.says [] (λ e. refl))
+says_ran idle failed bytes p words steps (Exited s) left left' taken taken' is own read r = record { program = p; bytes = bytes; file = refl; model = own; text = is; run = r }
+says_ran idle failed bytes p words steps StillRunning left left' taken taken' is own read r = record { program = p; bytes = bytes; file = refl; model = own; text = is; run = r }
+says_ran idle failed bytes p words steps WentUndefined left left' taken taken' is own read r = record { program = p; bytes = bytes; file = refl; model = own; text = is; run = r }
+says_ran idle failed bytes p words steps ReadFault left left' taken taken' is own read r = inr (read refl, record { program = p; bytes = bytes; file = refl; model = own; text = is; run = r })
+says_ran idle failed bytes p words steps WriteFault left left' taken taken' is own read r = record { program = p; bytes = bytes; file = refl; model = own; text = is; run = r }
+says_ran idle failed bytes p words steps Memory left left' taken taken' is own read r = inr (record { program = p; bytes = bytes; file = refl; model = own; text = is; run = r })
+says_ran idle failed bytes p words steps Done left left' taken taken' is own read r = absurd (r.says [] (λ e. refl))
+says_ran idle failed bytes p words steps Usage left left' taken taken' is own read r = absurd (r.says [] (λ e. refl))
+says_ran idle failed bytes p words steps (Refused refusal) left left' taken taken' is own read r = absurd (r.says [] (λ e. refl))
+says_ran idle failed bytes p words steps (NotCil k) left left' taken taken' is own read r = absurd (r.says [] (λ e. refl))
 
 -- a program that was run, as each program of the same text
-ran_each : (bytes : List ℕ) (words : List (List ℕ)) (steps : ℕ) (status : Status) (left left' taken taken' : Option (List ℕ)) (p : Program) → Ran (Some bytes) words steps status left left' taken taken' → IsTextOf bytes p → RanAs p words steps status left left' taken taken'
-ran_each bytes words steps status left left' taken taken' p ran is =
-    ran_alike ran.program p (run_alike ran.program p (same_text ran.bytes ran.program p ran.text (subst (λ bs. IsTextOf bs p) ran.file is))) words steps status left left' taken taken' ran.run
+ran_each : (bytes : List ℕ) (words : List (List ℕ)) (steps : ℕ) (status : Status) (left left' taken taken' : Option (List ℕ)) (p : Program) → Ran (Some bytes) words steps status left left' taken taken' → p.graph.abi ≡ Lp64 → IsTextOf bytes p → RanAs p words steps status left left' taken taken'
+ran_each bytes words steps status left left' taken taken' p ran own is =
+    ran_alike ran.program p (run_alike ran.program p (same_text ran.bytes ran.program p ran.text (subst (λ bs. IsTextOf bs p) ran.file is) (ran.model ∙ sym own))) words steps status left left' taken taken' ran.run
 
 -- of the text of a program
 runs_as : (idle unread stays failed out : Type 0) (bytes : List ℕ) (words : List (List ℕ)) (steps : ℕ) (status : Status) (left left' taken taken' : Option (List ℕ)) → (status ≡ WriteFault → out)
     → RunSays idle unread (stays × failed) (Some bytes) words steps status left left' taken taken'
-    → (p : Program) → IsTextOf bytes p → ¬ unread → ¬ failed → ¬ out → (IsEnd status × RanAs p words steps status left left' taken taken') ⊎ (status ≡ Memory)
-runs_as idle unread stays failed out bytes words steps Done left left' taken taken' write says p is calm calm_input calm_out = absurd says
-runs_as idle unread stays failed out bytes words steps (Exited s) left left' taken taken' write says p is calm calm_input calm_out = inl (tt, ran_each bytes words steps (Exited s) left left' taken taken' p says is)
-runs_as idle unread stays failed out bytes words steps StillRunning left left' taken taken' write says p is calm calm_input calm_out = inl (tt, ran_each bytes words steps StillRunning left left' taken taken' p says is)
-runs_as idle unread stays failed out bytes words steps WentUndefined left left' taken taken' write says p is calm calm_input calm_out = inl (tt, ran_each bytes words steps WentUndefined left left' taken taken' p says is)
-runs_as idle unread stays failed out bytes words steps Usage left left' taken taken' write says p is calm calm_input calm_out = absurd says
-runs_as idle unread stays failed out bytes words steps (Refused r) left left' taken taken' write says p is calm calm_input calm_out = absurd says
-runs_as idle unread stays failed out bytes words steps (NotCil k) left left' taken taken' write says p is calm calm_input calm_out = absurd (says.1.1 p is)
-runs_as idle unread stays failed out bytes words steps ReadFault left left' taken taken' write (inl says) p is calm calm_input calm_out = absurd (calm says.0)
-runs_as idle unread stays failed out bytes words steps ReadFault left left' taken taken' write (inr says) p is calm calm_input calm_out = absurd (calm_input says.0.1)
-runs_as idle unread stays failed out bytes words steps WriteFault left left' taken taken' write says p is calm calm_input calm_out = absurd (calm_out (write refl))
-runs_as idle unread stays failed out bytes words steps Memory left left' taken taken' write says p is calm calm_input calm_out = inr refl
+    → (p : Program) → p.graph.abi ≡ Lp64 → IsTextOf bytes p → ¬ unread → ¬ failed → ¬ out → (IsEnd status × RanAs p words steps status left left' taken taken') ⊎ (status ≡ Memory)
+runs_as idle unread stays failed out bytes words steps Done left left' taken taken' write says p own is calm calm_input calm_out = absurd says
+runs_as idle unread stays failed out bytes words steps (Exited s) left left' taken taken' write says p own is calm calm_input calm_out = inl (tt, ran_each bytes words steps (Exited s) left left' taken taken' p says own is)
+runs_as idle unread stays failed out bytes words steps StillRunning left left' taken taken' write says p own is calm calm_input calm_out = inl (tt, ran_each bytes words steps StillRunning left left' taken taken' p says own is)
+runs_as idle unread stays failed out bytes words steps WentUndefined left left' taken taken' write says p own is calm calm_input calm_out = inl (tt, ran_each bytes words steps WentUndefined left left' taken taken' p says own is)
+runs_as idle unread stays failed out bytes words steps Usage left left' taken taken' write says p own is calm calm_input calm_out = absurd says
+runs_as idle unread stays failed out bytes words steps (Refused r) left left' taken taken' write says p own is calm calm_input calm_out = absurd says
+runs_as idle unread stays failed out bytes words steps (NotCil k) left left' taken taken' write says p own is calm calm_input calm_out = absurd (says.1.1 p own is)
+runs_as idle unread stays failed out bytes words steps ReadFault left left' taken taken' write (inl says) p own is calm calm_input calm_out = absurd (calm says.0)
+runs_as idle unread stays failed out bytes words steps ReadFault left left' taken taken' write (inr says) p own is calm calm_input calm_out = absurd (calm_input says.0.1)
+runs_as idle unread stays failed out bytes words steps WriteFault left left' taken taken' write says p own is calm calm_input calm_out = absurd (calm_out (write refl))
+runs_as idle unread stays failed out bytes words steps Memory left left' taken taken' write says p own is calm calm_input calm_out = inr refl
 
 runs_by : (idle unread stays failed out : Type 0) (asked : Option (List ℕ)) (words : List (List ℕ)) (steps : ℕ) (status : Status) (left left' taken taken' : Option (List ℕ)) → (status ≡ WriteFault → out)
     → RunSays idle unread (stays × failed) asked words steps status left left' taken taken'
-    → IfSome asked (λ bytes. (p : Program) → IsTextOf bytes p → ¬ unread → ¬ failed → ¬ out → (IsEnd status × RanAs p words steps status left left' taken taken') ⊎ (status ≡ Memory))
+    → IfSome asked (λ bytes. (p : Program) → p.graph.abi ≡ Lp64 → IsTextOf bytes p → ¬ unread → ¬ failed → ¬ out → (IsEnd status × RanAs p words steps status left left' taken taken') ⊎ (status ≡ Memory))
 runs_by idle unread stays failed out None words steps status left left' taken taken' write says = tt
 runs_by idle unread stays failed out (Some bytes) words steps status left left' taken taken' write says = runs_as idle unread stays failed out bytes words steps status left left' taken taken' write says
 
 -- of the file of a name that is asked for, whose bytes may not be told
 pub runs_asked : (idle unread stays failed out : Type 0) (under : List ℕ → Option (List ℕ)) (named : Option (List ℕ)) (words : List (List ℕ)) (steps : ℕ) (status : Status) (left left' taken taken' : Option (List ℕ)) → (status ≡ WriteFault → out)
     → IfSome named (λ name. RunSays idle unread (stays × failed) (under name) words steps status left left' taken taken')
-    → IfSome (option_and_then under named) (λ bytes. (p : Program) → IsTextOf bytes p → ¬ unread → ¬ failed → ¬ out → (IsEnd status × RanAs p words steps status left left' taken taken') ⊎ (status ≡ Memory))
+    → IfSome (option_and_then under named) (λ bytes. (p : Program) → p.graph.abi ≡ Lp64 → IsTextOf bytes p → ¬ unread → ¬ failed → ¬ out → (IsEnd status × RanAs p words steps status left left' taken taken') ⊎ (status ≡ Memory))
 runs_asked idle unread stays failed out under None words steps status left left' taken taken' write says = tt
 runs_asked idle unread stays failed out under (Some name) words steps status left left' taken taken' write says = runs_by idle unread stays failed out (under name) words steps status left left' taken taken' write says
 
@@ -103,18 +104,18 @@ answers_as p words steps status given left' taken taken' (inl runs) = inl (answe
 answers_as p words steps status given left' taken taken' (inr wants) = inr wants
 
 pub answers_by : (one two three : Type 0) (asked given : Option (List ℕ)) (words : List (List ℕ)) (steps : ℕ) (status : Status) (left' taken taken' : Option (List ℕ))
-    → IfSome asked (λ bytes. (p : Program) → IsTextOf bytes p → one → two → three → (IsEnd status × RanAs p words steps status given left' taken taken') ⊎ (status ≡ Memory))
-    → IfSome asked (λ bytes. IfSome given (λ input. (p : Program) → IsTextOf bytes p → one → two → three → AnswersAs (RunCil (p ∷ []) (mode_of p) words input steps) status taken taken' ⊎ (status ≡ Memory)))
+    → IfSome asked (λ bytes. (p : Program) → p.graph.abi ≡ Lp64 → IsTextOf bytes p → one → two → three → (IsEnd status × RanAs p words steps status given left' taken taken') ⊎ (status ≡ Memory))
+    → IfSome asked (λ bytes. IfSome given (λ input. (p : Program) → p.graph.abi ≡ Lp64 → IsTextOf bytes p → one → two → three → AnswersAs (RunCil (p ∷ []) (mode_of p) words input steps) status taken taken' ⊎ (status ≡ Memory)))
 answers_by one two three None given words steps status left' taken taken' runs = tt
 answers_by one two three (Some bytes) None words steps status left' taken taken' runs = tt
-answers_by one two three (Some bytes) (Some input) words steps status left' taken taken' runs = λ p is a b c. answers_as p words steps status input left' taken taken' (runs p is a b c)
+answers_by one two three (Some bytes) (Some input) words steps status left' taken taken' runs = λ p own is a b c. answers_as p words steps status input left' taken taken' (runs p own is a b c)
 
 -- of other bytes
-no_ran : (bytes : List ℕ) (words : List (List ℕ)) (steps : ℕ) (status : Status) (left left' taken taken' : Option (List ℕ)) → Ran (Some bytes) words steps status left left' taken taken' → ¬ (IsNoText bytes)
-no_ran bytes words steps status left left' taken taken' ran none = none ran.program (subst (λ bs. IsTextOf bs ran.program) (sym ran.file) ran.text)
+no_ran : (bytes : List ℕ) (words : List (List ℕ)) (steps : ℕ) (status : Status) (left left' taken taken' : Option (List ℕ)) → Ran (Some bytes) words steps status left left' taken taken' → ¬ (IsNoText Lp64 bytes)
+no_ran bytes words steps status left left' taken taken' ran none = none ran.program ran.model (subst (λ bs. IsTextOf bs ran.program) (sym ran.file) ran.text)
 
 not_cil_as : (idle unread failed : Type 0) (bytes : List ℕ) (words : List (List ℕ)) (steps : ℕ) (status : Status) (left left' taken taken' : Option (List ℕ)) → RunSays idle unread failed (Some bytes) words steps status left left' taken taken'
-    → IsNoText bytes → ¬ unread → (status ≡ NotCil (bad_place bytes)) ⊎ (status ≡ Memory)
+    → IsNoText Lp64 bytes → ¬ unread → (status ≡ NotCil (bad_place bytes)) ⊎ (status ≡ Memory)
 not_cil_as idle unread failed bytes words steps Done left left' taken taken' says none calm = absurd says
 not_cil_as idle unread failed bytes words steps (Exited s) left left' taken taken' says none calm = absurd (no_ran bytes words steps (Exited s) left left' taken taken' says none)
 not_cil_as idle unread failed bytes words steps StillRunning left left' taken taken' says none calm = absurd (no_ran bytes words steps StillRunning left left' taken taken' says none)
@@ -128,12 +129,12 @@ not_cil_as idle unread failed bytes words steps WriteFault left left' taken take
 not_cil_as idle unread failed bytes words steps Memory left left' taken taken' says none calm = inr refl
 
 not_cil_by : (idle unread failed : Type 0) (asked : Option (List ℕ)) (words : List (List ℕ)) (steps : ℕ) (status : Status) (left left' taken taken' : Option (List ℕ)) → RunSays idle unread failed asked words steps status left left' taken taken'
-    → IfSome asked (λ bytes. IsNoText bytes → ¬ unread → (status ≡ NotCil (bad_place bytes)) ⊎ (status ≡ Memory))
+    → IfSome asked (λ bytes. IsNoText Lp64 bytes → ¬ unread → (status ≡ NotCil (bad_place bytes)) ⊎ (status ≡ Memory))
 not_cil_by idle unread failed None words steps status left left' taken taken' says = tt
 not_cil_by idle unread failed (Some bytes) words steps status left left' taken taken' says = not_cil_as idle unread failed bytes words steps status left left' taken taken' says
 
 pub not_cil_asked : (idle unread failed : Type 0) (under : List ℕ → Option (List ℕ)) (named : Option (List ℕ)) (words : List (List ℕ)) (steps : ℕ) (status : Status) (left left' taken taken' : Option (List ℕ))
     → IfSome named (λ name. RunSays idle unread failed (under name) words steps status left left' taken taken')
-    → IfSome (option_and_then under named) (λ bytes. IsNoText bytes → ¬ unread → (status ≡ NotCil (bad_place bytes)) ⊎ (status ≡ Memory))
+    → IfSome (option_and_then under named) (λ bytes. IsNoText Lp64 bytes → ¬ unread → (status ≡ NotCil (bad_place bytes)) ⊎ (status ≡ Memory))
 not_cil_asked idle unread failed under None words steps status left left' taken taken' says = tt
 not_cil_asked idle unread failed under (Some name) words steps status left left' taken taken' says = not_cil_by idle unread failed (under name) words steps status left left' taken taken' says

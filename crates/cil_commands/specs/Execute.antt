@@ -1,6 +1,7 @@
 -- Definition: what `run` answers (own).
 use Rattle.std.specs.Prelude.{◌≡◌, ℕ, Bool, true, false, List, [], ◌∷◌, ◌++◌, ◌⊎◌, Option, IfSome}
 use Rattle.std.specs.Option.{option_and_then}
+use Rattle.cil_base.specs.declared.kinds.Abi.TheVariants.{Lp64}
 use Rattle.cil_base.specs.declared.runs.Outcome.{Outcome}
 use Rattle.cil_base.specs.declared.runs.Outcome.TheVariants.{Exit, Running, Undefined}
 use Rattle.cil_base.specs.Outcome.{output, IsPrefix}
@@ -68,21 +69,22 @@ pub record RanAs (p : Program) (words : List (List ℕ)) (steps : ℕ) (status :
   pub wrote : Wrote taken taken' text
   pub says : (tail : List ℕ) → (ended ≡ true → tail ≡ []) → Says p words steps status got tail text
 
--- the bytes of the file, where they are told, are the text of a program that was run so
+-- the bytes of the file, where they are told, are the text of a program of LP64 that was run so
 pub record Ran (asked : Option (List ℕ)) (words : List (List ℕ)) (steps : ℕ) (status : Status) (left left' taken taken' : Option (List ℕ)) : Type 0 where
   pub program : Program
   pub bytes : List ℕ
   pub file : IfSome asked (λ told. told ≡ bytes)
+  pub model : program.graph.abi ≡ Lp64
   pub text : IsTextOf bytes program
   pub run : RanAs program words steps status left left' taken taken'
 
 -- what a status of `run` says, where `idle` is that input and out are as before, `file_failed` that a call on the files failed, and `input_failed` that one on input did and none on the files:
--- a program ran so; or the bytes of the file are no text, which is told by the place that is defined for them, and nothing ran; or the file could not be read, and nothing ran; or memory was wanting before anything ran
+-- a program ran so; or the bytes of the file are no text of LP64, which is told by the place that is defined for them, and nothing ran; or the file could not be read, and nothing ran; or memory was wanting before anything ran
 abbrev pub RunSays : (idle file_failed input_failed : Type 0) → Option (List ℕ) → List (List ℕ) → ℕ → Status → (left left' taken taken' : Option (List ℕ)) → Type 0
 RunSays idle file_failed input_failed asked words steps (Exited status) left left' taken taken' = Ran asked words steps (Exited status) left left' taken taken'
 RunSays idle file_failed input_failed asked words steps StillRunning left left' taken taken' = Ran asked words steps StillRunning left left' taken taken'
 RunSays idle file_failed input_failed asked words steps WentUndefined left left' taken taken' = Ran asked words steps WentUndefined left left' taken taken'
-RunSays idle file_failed input_failed asked words steps (NotCil byte) left left' taken taken' = idle × IfSome asked (λ bytes. (byte ≡ bad_place bytes) × IsNoText bytes)
+RunSays idle file_failed input_failed asked words steps (NotCil byte) left left' taken taken' = idle × IfSome asked (λ bytes. (byte ≡ bad_place bytes) × IsNoText Lp64 bytes)
 RunSays idle file_failed input_failed asked words steps ReadFault left left' taken taken' = (file_failed × idle) ⊎ (input_failed × Ran asked words steps ReadFault left left' taken taken')
 RunSays idle file_failed input_failed asked words steps WriteFault left left' taken taken' = Ran asked words steps WriteFault left left' taken taken'
 RunSays idle file_failed input_failed asked words steps Memory left left' taken taken' = idle ⊎ Ran asked words steps Memory left left' taken taken'

@@ -49,9 +49,9 @@ pub record Made (unit : SourceFile) (p : Program) : Type 0 where
   pub unit_of : IsUnit unit tree
   pub made_is : p ≡ returning (lowered tree)
 
--- a program that is made of the unit, the one with its text, and that refines the unit: in every environment and at every bound on steps the unit's run allows the program's
+-- a program that is made of the unit, the one of LP64 with its text, and that refines the unit: in every environment and at every bound on steps the unit's run allows the program's
 pub record Merges (unit : SourceFile) (p : Program) : Type 0 where
   pub made : Made unit p
   pub text : IsTextOf (Text p) p
-  pub one : (q : Program) → IsTextOf (Text p) q → SameProgram p q
+  pub one : (q : Program) → q.graph.abi ≡ Lp64 → IsTextOf (Text p) q → SameProgram p q
   pub allowed : (e : Expression) → IsUnit unit e → (env : Env) (steps : ℕ) → Allows (RunC e env steps) (RunCil (p ∷ []) (mode_of p) env.args.items env.input steps)

@@ -1,6 +1,7 @@
 -- Definition: what `merge` answers (own).
 use Rattle.std.specs.Prelude.{◌≡◌, ◌≢◌, ℕ, ◌<◌, ◌≤◌, List, [], ◌++◌, length, Option, Some, None}
 use Rattle.std.specs.Option.{option_and_then, option_map}
+use Rattle.cil_base.specs.declared.kinds.Abi.TheVariants.{Lp64}
 use Rattle.cil_base.specs.declared.faults.Fault.{Fault}
 use Rattle.cil_base.specs.declared.faults.Fault.TheVariants.{Limit, Syntax}
 use Rattle.cil_base.specs.declared.faults.What.TheVariants.{UnitBytes}
@@ -54,9 +55,14 @@ pub data IsRefused (unit : SourceFile) : Refusal → List (List ℕ) → Type 0 
   NoGrammar : (refusal : Refusal) (names : List (List ℕ)) → IsNoGrammar unit refusal names → IsRefused unit refusal names
   OfUnit : (refusal : Refusal) (names : List (List ℕ)) (g : IsGrammatical unit) → IsNoUnit unit → IsUnitCause g.tokens refusal → KeepsFiles g.names names refusal → IsRefused unit refusal names
 
--- the program that the unit is merged to: the unit is grammatical, the program is the one with its text, and where the unit is of the form its meaning is kept
+-- a well-formed program of LP64, which has its text
+abbrev pub IsWritten : Program → Type 0
+IsWritten p = (p.graph.abi ≡ Lp64) × IsTextOf (Text p) p
+
+-- the program that the unit is merged to: the unit is grammatical, the program is the one of LP64 with its text, and where the unit is of the form its meaning is kept
 pub record IsMergedTo (unit : SourceFile) (p : Program) : Type 0 where
   pub grammatical : IsGrammatical unit
+  pub model : p.graph.abi ≡ Lp64
   pub text : IsTextOf (Text p) p
   pub form : (e : Expression) → IsUnit unit e → Merges unit p
 

@@ -8,7 +8,7 @@ ghost use Rattle.cil_sources.specs.Files.{bytes_under};
 ghost use Rattle.cil_commands.specs.Execute.{IsRunAnswer, RanAs, RunSays};
 ghost use Rattle.cil_commands.specs.RunEnds.{status_by};
 
-use cil_base::NamePool;
+use cil_base::{Abi, NamePool};
 use cil_lines::Status;
 use cil_reader::{ReadStop as TextStop, read};
 use cil_runner::{Machine, RunEnd};
@@ -63,7 +63,7 @@ fn run_program<I: Source, O: Sink>(
     status_of(machine.run(steps, input, out))
 }
 
-// Runs the program whose text the bytes are, with its argument words.
+// Runs the program of LP64 whose text the bytes are, with its argument words.
 fn run_text<I: Source, O: Sink>(
     alloc: Global,
     bytes: &[u8],
@@ -83,7 +83,7 @@ fn run_text<I: Source, O: Sink>(
         return Status::NotCil(TEXT_LIMIT);
     }
     let mut names = NamePool::new(alloc);
-    match read(alloc, bytes, &mut names) {
+    match read(alloc, bytes, &mut names, Abi::Lp64) {
         Ok(unit) => run_program(alloc, &unit, &names, words, steps, input, out),
         Err(TextStop::NotCil(byte)) => Status::NotCil(byte),
         Err(TextStop::Memory) => Status::Memory,

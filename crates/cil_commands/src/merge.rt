@@ -6,7 +6,6 @@ ghost use Rattle.cil_meaning.specs.Text.{Text as SmallText};
 ghost use Rattle.c_lexer.specs.Lexed.{Grows, PlacesWithin, IfRefused as IfStopped};
 ghost use Rattle.cil_tree.specs.Tree.{Program};
 ghost use Rattle.cil_tree.specs.Text.{Text};
-ghost use Rattle.cil_tree.specs.Programs.{IsTextOf};
 ghost use Rattle.outside.specs.Counts.{Rose};
 ghost use Rattle.outside.specs.Moves.{Began, Wrote};
 ghost use Rattle.outside.specs.Named.{find_file, names_of};
@@ -15,7 +14,7 @@ ghost use Rattle.cil_base.specs.NamePool.{Stays};
 ghost use Rattle.cil_sources.specs.Files.{bytes_under, all_under, found_all};
 ghost use Rattle.cil_sources.specs.Units.{kept};
 ghost use Rattle.cil_commands.specs.Grammatical.{AreTokens};
-ghost use Rattle.cil_commands.specs.Merge.{file_under, IsMergeAnswer, IsMergedTo, IsRefused, IfRefused};
+ghost use Rattle.cil_commands.specs.Merge.{file_under, IsMergeAnswer, IsWritten, IsMergedTo, IsRefused, IfRefused};
 ghost use Rattle.cil_commands.specs.Merged.{file_in, IsAlone};
 ghost use Rattle.cil_commands.specs.Several.{SaysOfKept, SaysOfUnits, SaysOfLinks};
 ghost use Rattle.cil_commands.specs.Small.{small};
@@ -148,8 +147,8 @@ pub fn merge<F: Files, O: Sink>(
     ensures kind { IsMergeAnswer 1 result }
     ensures names { result ≢ Status.Memory → Begins (name.now ∷ []) names.new }
     ensures files { HasFiles (length names.new) result }
-    ensures done { result ≡ Status.Done → (p : Program) × IsTextOf (Text p) p × Wrote (O.taken out.old) (O.taken out.new) (Text p) × IfSome (file_under (F.told files.old) name.now) (λ unit. IsMergedTo unit p) }
-    ensures part { result ≡ Status.WriteFault → (p : Program) × IsTextOf (Text p) p × Began (O.taken out.old) (O.taken out.new) (Text p) × IfSome (file_under (F.told files.old) name.now) (λ unit. IsMergedTo unit p) }
+    ensures done { result ≡ Status.Done → (p : Program) × IsWritten p × Wrote (O.taken out.old) (O.taken out.new) (Text p) × IfSome (file_under (F.told files.old) name.now) (λ unit. IsMergedTo unit p) }
+    ensures part { result ≡ Status.WriteFault → (p : Program) × IsWritten p × Began (O.taken out.old) (O.taken out.new) (Text p) × IfSome (file_under (F.told files.old) name.now) (λ unit. IsMergedTo unit p) }
     ensures idle { result ≢ Status.Done → result ≢ Status.WriteFault → out.new ≡ out.old }
     ensures refused { IfSome (file_under (F.told files.old) name.now) (λ unit. IfRefused result (λ refusal. IsRefused unit refusal names.new)) }
     ensures read { result ≡ Status.ReadFault → Rose (F.faults files.old) (F.faults files.new) }
@@ -187,8 +186,8 @@ fn merge_sources<O: Sink>(
     ensures links { SaysOfLinks common sources.now.units.items (map string_bytes asked.now) names.new result }
     ensures stays { Stays names.old names.new }
     ensures pool { result ≢ Status.Memory → (first : List ℕ) (more : List (List ℕ)) → names.old ≡ first ∷ more → (rest : List (List ℕ)) × (names.new ≡ first ∷ rest) }
-    ensures done { result ≡ Status.Done → (p : Program) × IsTextOf (Text p) p × Wrote (O.taken out.old) (O.taken out.new) (Text p) }
-    ensures part { result ≡ Status.WriteFault → (p : Program) × IsTextOf (Text p) p × Began (O.taken out.old) (O.taken out.new) (Text p) }
+    ensures done { result ≡ Status.Done → (p : Program) × IsWritten p × Wrote (O.taken out.old) (O.taken out.new) (Text p) }
+    ensures part { result ≡ Status.WriteFault → (p : Program) × IsWritten p × Began (O.taken out.old) (O.taken out.new) (Text p) }
     ensures idle { result ≢ Status.Done → result ≢ Status.WriteFault → out.new ≡ out.old }
     ensures no_read { result ≢ Status.ReadFault }
     ensures write { result ≡ Status.WriteFault → Rose (O.faults out.old) (O.faults out.new) }
@@ -219,8 +218,8 @@ pub fn merge_all<F: Files, O: Sink>(
     ensures files { HasFiles (length names.new) result }
     ensures units { IfSome (all_under (F.told files.old) (map string_bytes asked.now)) (λ units. SaysOfUnits units (map string_bytes asked.now) names.new result) }
     ensures links { IfSome (all_under (F.told files.old) (map string_bytes asked.now)) (λ units. SaysOfLinks common (kept 0 units).units (map string_bytes asked.now) names.new result) }
-    ensures done { result ≡ Status.Done → (p : Program) × IsTextOf (Text p) p × Wrote (O.taken out.old) (O.taken out.new) (Text p) }
-    ensures part { result ≡ Status.WriteFault → (p : Program) × IsTextOf (Text p) p × Began (O.taken out.old) (O.taken out.new) (Text p) }
+    ensures done { result ≡ Status.Done → (p : Program) × IsWritten p × Wrote (O.taken out.old) (O.taken out.new) (Text p) }
+    ensures part { result ≡ Status.WriteFault → (p : Program) × IsWritten p × Began (O.taken out.old) (O.taken out.new) (Text p) }
     ensures idle { result ≢ Status.Done → result ≢ Status.WriteFault → out.new ≡ out.old }
     ensures read { result ≡ Status.ReadFault → Rose (F.faults files.old) (F.faults files.new) }
     ensures calm { result ≢ Status.ReadFault → F.faults files.new ≡ F.faults files.old }

@@ -1,5 +1,6 @@
 ghost use Rattle.std.specs.Prelude.{◌≡◌, ◌≢◌, ◌≤◌, ◌+◌, ◌↔◌, ◌⊎◌, ◌∷◌, ℕ, List, [], Option, None, Some, length, map, unwrap_or, IfSome, IsSome};
 ghost use Rattle.std.specs.String.{string_bytes};
+ghost use Rattle.cil_base.specs.declared.kinds.Abi.TheVariants.{Lp64};
 ghost use Rattle.c_meaning.specs.Grammar.{Expression, IsUnit};
 ghost use Rattle.cil_tree.specs.Tree.{Program};
 ghost use Rattle.cil_tree.specs.Text.{Text};
@@ -19,7 +20,7 @@ ghost use Rattle.outside.specs.Named.{Told};
 ghost use Rattle.cil_words.specs.Command.{command_of, files_of, merged_files, run_file, sample_asked, bound_of, steps_asked, words_given};
 ghost use Rattle.cil_commands.specs.Execute.{text_asked, IsRunAnswer, IsEnd, RanAs, RunSays, AnswersAs};
 ghost use Rattle.cil_sources.specs.Files.{bytes_under, all_under, found_all};
-ghost use Rattle.cil_commands.specs.Merge.{unit_asked, IsMergeAnswer, IsMergedTo, IsNoGrammar, IsRefused, IsRefusedLike, IfRefused};
+ghost use Rattle.cil_commands.specs.Merge.{unit_asked, IsMergeAnswer, IsWritten, IsMergedTo, IsNoGrammar, IsRefused, IsRefusedLike, IfRefused};
 ghost use Rattle.cil_commands.specs.Several.{SaysOfUnits, UnitsSay, LinksSay};
 ghost use Rattle.cil_lines.specs.Messages.{line_of, IsQuiet, HasFiles};
 ghost use Rattle.cil_commands.specs.Messages.{AreNames, SaysWith};
@@ -35,6 +36,7 @@ use sample_command::sample;
 use std::alloc::Global;
 
 /// Does what the words ask for, over these files, standard input, standard output and standard error, and answers how it ended.
+/// Its CIL programs are those of LP64, in which `long` and pointers have 8 bytes.
 ///
 /// `merge [--common] FILE...` reads the files as C translation units and writes the text of the CIL program that they are merged to.
 /// Where it is `Done`, out took the whole text of one well-formed CIL program. Of a file that is merged alone it is further said: it is
@@ -79,7 +81,7 @@ pub fn cil<F: Files, I: Source, O: Sink, E: Sink>(
     ensures usage { (result ≡ Status.Usage) ↔ (command_of (map string_bytes words.now) ≡ None) }
 
     // merge
-    ensures done { sample_asked (map string_bytes words.now) ≡ None → result ≡ Status.Done → (p : Program) × IsTextOf (Text p) p × Wrote (O.taken out.old) (O.taken out.new) (Text p) × IfSome (unit_asked (F.told files.old) (map string_bytes words.now)) (λ unit. IsMergedTo unit p) }
+    ensures done { sample_asked (map string_bytes words.now) ≡ None → result ≡ Status.Done → (p : Program) × IsWritten p × Wrote (O.taken out.old) (O.taken out.new) (Text p) × IfSome (unit_asked (F.told files.old) (map string_bytes words.now)) (λ unit. IsMergedTo unit p) }
     ensures accepted { IfSome (unit_asked (F.told files.old) (map string_bytes words.now)) (λ unit. (e : Expression) → IsUnit unit e → ¬ (Rose (F.faults files.old) (F.faults files.new)) → ¬ (Rose (O.faults out.old) (O.faults out.new)) → (result ≡ Status.Done) ⊎ (result ≡ Status.Memory)) }
     ensures refused { IfSome (unit_asked (F.told files.old) (map string_bytes words.now)) (λ unit. IfRefused result (λ refusal. (names : List (List ℕ)) × IsRefused unit refusal names)) }
     ensures refuses { IfSome (unit_asked (F.told files.old) (map string_bytes words.now)) (λ unit. (refusal : Refusal) (names : List (List ℕ)) → IsNoGrammar unit refusal names → ¬ (Rose (F.faults files.old) (F.faults files.new)) → IsRefusedLike result refusal ⊎ (result ≡ Status.Memory)) }
@@ -87,13 +89,13 @@ pub fn cil<F: Files, I: Source, O: Sink, E: Sink>(
     ensures links { (names : List (List ℕ)) × LinksSay (F.told files.old) (map string_bytes words.now) names result }
 
     // Where a write failed, out took a front of the text of such a program.
-    ensures part { run_file (map string_bytes words.now) ≡ None → sample_asked (map string_bytes words.now) ≡ None → result ≡ Status.WriteFault → (p : Program) × IsTextOf (Text p) p × Began (O.taken out.old) (O.taken out.new) (Text p) × IfSome (unit_asked (F.told files.old) (map string_bytes words.now)) (λ unit. IsMergedTo unit p) }
+    ensures part { run_file (map string_bytes words.now) ≡ None → sample_asked (map string_bytes words.now) ≡ None → result ≡ Status.WriteFault → (p : Program) × IsWritten p × Began (O.taken out.old) (O.taken out.new) (Text p) × IfSome (unit_asked (F.told files.old) (map string_bytes words.now)) (λ unit. IsMergedTo unit p) }
 
     // run
     ensures ran { IfSome (run_file (map string_bytes words.now)) (λ name. RunSays ((input.new ≡ input.old) × (out.new ≡ out.old)) (Rose (F.faults files.old) (F.faults files.new)) ((F.faults files.new ≡ F.faults files.old) × Rose (I.faults input.old) (I.faults input.new)) (bytes_under (F.told files.old) name) (words_given (map string_bytes words.now)) (steps_asked (map string_bytes words.now)) result (I.left input.old) (I.left input.new) (O.taken out.old) (O.taken out.new)) }
-    ensures runs { IfSome (text_asked (F.told files.old) (map string_bytes words.now)) (λ bytes. (p : Program) → IsTextOf bytes p → ¬ (Rose (F.faults files.old) (F.faults files.new)) → ¬ (Rose (I.faults input.old) (I.faults input.new)) → ¬ (Rose (O.faults out.old) (O.faults out.new)) → (IsEnd result × RanAs p (words_given (map string_bytes words.now)) (steps_asked (map string_bytes words.now)) result (I.left input.old) (I.left input.new) (O.taken out.old) (O.taken out.new)) ⊎ (result ≡ Status.Memory)) }
-    ensures answers { IfSome (text_asked (F.told files.old) (map string_bytes words.now)) (λ bytes. IfSome (I.left input.old) (λ given. (p : Program) → IsTextOf bytes p → ¬ (Rose (F.faults files.old) (F.faults files.new)) → ¬ (Rose (I.faults input.old) (I.faults input.new)) → ¬ (Rose (O.faults out.old) (O.faults out.new)) → AnswersAs (RunCil (p ∷ []) (mode_of p) (words_given (map string_bytes words.now)) given (steps_asked (map string_bytes words.now))) result (O.taken out.old) (O.taken out.new) ⊎ (result ≡ Status.Memory))) }
-    ensures not_cil { IfSome (text_asked (F.told files.old) (map string_bytes words.now)) (λ bytes. IsNoText bytes → ¬ (Rose (F.faults files.old) (F.faults files.new)) → (result ≡ Status.NotCil (bad_place bytes)) ⊎ (result ≡ Status.Memory)) }
+    ensures runs { IfSome (text_asked (F.told files.old) (map string_bytes words.now)) (λ bytes. (p : Program) → p.graph.abi ≡ Lp64 → IsTextOf bytes p → ¬ (Rose (F.faults files.old) (F.faults files.new)) → ¬ (Rose (I.faults input.old) (I.faults input.new)) → ¬ (Rose (O.faults out.old) (O.faults out.new)) → (IsEnd result × RanAs p (words_given (map string_bytes words.now)) (steps_asked (map string_bytes words.now)) result (I.left input.old) (I.left input.new) (O.taken out.old) (O.taken out.new)) ⊎ (result ≡ Status.Memory)) }
+    ensures answers { IfSome (text_asked (F.told files.old) (map string_bytes words.now)) (λ bytes. IfSome (I.left input.old) (λ given. (p : Program) → p.graph.abi ≡ Lp64 → IsTextOf bytes p → ¬ (Rose (F.faults files.old) (F.faults files.new)) → ¬ (Rose (I.faults input.old) (I.faults input.new)) → ¬ (Rose (O.faults out.old) (O.faults out.new)) → AnswersAs (RunCil (p ∷ []) (mode_of p) (words_given (map string_bytes words.now)) given (steps_asked (map string_bytes words.now))) result (O.taken out.old) (O.taken out.new) ⊎ (result ≡ Status.Memory))) }
+    ensures not_cil { IfSome (text_asked (F.told files.old) (map string_bytes words.now)) (λ bytes. IsNoText Lp64 bytes → ¬ (Rose (F.faults files.old) (F.faults files.new)) → (result ≡ Status.NotCil (bad_place bytes)) ⊎ (result ≡ Status.Memory)) }
 
     // sample
     ensures sampled { IfSome (sample_asked (map string_bytes words.now)) (λ asked. SampleSays asked.units result (O.taken out.old) (O.taken out.new)) }
@@ -157,7 +159,7 @@ fn run_command<F: Files, I: Source, O: Sink>(
     ensures usage { (result ≡ Status.Usage) ↔ (command_of (map string_bytes words.now) ≡ None) }
     ensures names { result ≢ Status.Memory → AreNames (F.told files.old) (map string_bytes words.now) result names.new }
     ensures files { HasFiles (length names.new) result }
-    ensures done { sample_asked (map string_bytes words.now) ≡ None → result ≡ Status.Done → (p : Program) × IsTextOf (Text p) p × Wrote (O.taken out.old) (O.taken out.new) (Text p) × IfSome (unit_asked (F.told files.old) (map string_bytes words.now)) (λ unit. IsMergedTo unit p) }
+    ensures done { sample_asked (map string_bytes words.now) ≡ None → result ≡ Status.Done → (p : Program) × IsWritten p × Wrote (O.taken out.old) (O.taken out.new) (Text p) × IfSome (unit_asked (F.told files.old) (map string_bytes words.now)) (λ unit. IsMergedTo unit p) }
     ensures accepted { IfSome (unit_asked (F.told files.old) (map string_bytes words.now)) (λ unit. (e : Expression) → IsUnit unit e → ¬ (Rose (F.faults files.old) (F.faults files.new)) → ¬ (Rose (O.faults out.old) (O.faults out.new)) → (result ≡ Status.Done) ⊎ (result ≡ Status.Memory)) }
     ensures refuses { IfSome (unit_asked (F.told files.old) (map string_bytes words.now)) (λ unit. (refusal : Refusal) (names : List (List ℕ)) → IsNoGrammar unit refusal names → ¬ (Rose (F.faults files.old) (F.faults files.new)) → IsRefusedLike result refusal ⊎ (result ≡ Status.Memory)) }
     ensures refused { IfSome (unit_asked (F.told files.old) (map string_bytes words.now)) (λ unit. IfRefused result (λ refusal. (others : List (List ℕ)) × IsRefused unit refusal others)) }
@@ -170,7 +172,7 @@ fn run_command<F: Files, I: Source, O: Sink>(
     ensures write_told { result ≢ Status.WriteFault → O.faults out.new ≡ O.faults out.old }
     ensures units { UnitsSay (F.told files.old) (map string_bytes words.now) names.new result }
     ensures links { LinksSay (F.told files.old) (map string_bytes words.now) names.new result }
-    ensures part { run_file (map string_bytes words.now) ≡ None → sample_asked (map string_bytes words.now) ≡ None → result ≡ Status.WriteFault → (p : Program) × IsTextOf (Text p) p × Began (O.taken out.old) (O.taken out.new) (Text p) × IfSome (unit_asked (F.told files.old) (map string_bytes words.now)) (λ unit. IsMergedTo unit p) }
+    ensures part { run_file (map string_bytes words.now) ≡ None → sample_asked (map string_bytes words.now) ≡ None → result ≡ Status.WriteFault → (p : Program) × IsWritten p × Began (O.taken out.old) (O.taken out.new) (Text p) × IfSome (unit_asked (F.told files.old) (map string_bytes words.now)) (λ unit. IsMergedTo unit p) }
     ensures nothing_written { run_file (map string_bytes words.now) ≡ None → result ≢ Status.Done → result ≢ Status.WriteFault → out.new ≡ out.old }
     ensures nothing_read { result ≡ Status.Usage → files.new ≡ files.old }
     ensures no_files { IfSome (sample_asked (map string_bytes words.now)) (λ _. files.new ≡ files.old) }
@@ -242,13 +244,13 @@ fn merge_words<F: Files, O: Sink>(
     ensures kind { IsMergeAnswer (length (files_of (map string_bytes words.now))) result }
     ensures names { result ≢ Status.Memory → AreNames (F.told files.old) (map string_bytes words.now) result names.new }
     ensures files { HasFiles (length names.new) result }
-    ensures done { result ≡ Status.Done → (p : Program) × IsTextOf (Text p) p × Wrote (O.taken out.old) (O.taken out.new) (Text p) × IfSome (unit_asked (F.told files.old) (map string_bytes words.now)) (λ unit. IsMergedTo unit p) }
+    ensures done { result ≡ Status.Done → (p : Program) × IsWritten p × Wrote (O.taken out.old) (O.taken out.new) (Text p) × IfSome (unit_asked (F.told files.old) (map string_bytes words.now)) (λ unit. IsMergedTo unit p) }
     ensures accepted { IfSome (unit_asked (F.told files.old) (map string_bytes words.now)) (λ unit. (e : Expression) → IsUnit unit e → ¬ (Rose (F.faults files.old) (F.faults files.new)) → ¬ (Rose (O.faults out.old) (O.faults out.new)) → (result ≡ Status.Done) ⊎ (result ≡ Status.Memory)) }
     ensures refuses { IfSome (unit_asked (F.told files.old) (map string_bytes words.now)) (λ unit. (refusal : Refusal) (names : List (List ℕ)) → IsNoGrammar unit refusal names → ¬ (Rose (F.faults files.old) (F.faults files.new)) → IsRefusedLike result refusal ⊎ (result ≡ Status.Memory)) }
     ensures refused { IfSome (unit_asked (F.told files.old) (map string_bytes words.now)) (λ unit. IfRefused result (λ refusal. (others : List (List ℕ)) × IsRefused unit refusal others)) }
     ensures units { IfSome (all_under (F.told files.old) (merged_files (map string_bytes words.now))) (λ units. SaysOfUnits units (merged_files (map string_bytes words.now)) names.new result) }
     ensures links { LinksSay (F.told files.old) (map string_bytes words.now) names.new result }
-    ensures part { result ≡ Status.WriteFault → (p : Program) × IsTextOf (Text p) p × Began (O.taken out.old) (O.taken out.new) (Text p) × IfSome (unit_asked (F.told files.old) (map string_bytes words.now)) (λ unit. IsMergedTo unit p) }
+    ensures part { result ≡ Status.WriteFault → (p : Program) × IsWritten p × Began (O.taken out.old) (O.taken out.new) (Text p) × IfSome (unit_asked (F.told files.old) (map string_bytes words.now)) (λ unit. IsMergedTo unit p) }
     ensures read { result ≡ Status.ReadFault → Rose (F.faults files.old) (F.faults files.new) }
     ensures read_told { result ≢ Status.ReadFault → F.faults files.new ≡ F.faults files.old }
     ensures write { result ≡ Status.WriteFault → Rose (O.faults out.old) (O.faults out.new) }
@@ -284,13 +286,13 @@ fn merge_alone<F: Files, O: Sink>(
     ensures kind { IsMergeAnswer (length (files_of (map string_bytes words.now))) result }
     ensures names { result ≢ Status.Memory → AreNames (F.told files.old) (map string_bytes words.now) result names.new }
     ensures files { HasFiles (length names.new) result }
-    ensures done { result ≡ Status.Done → (p : Program) × IsTextOf (Text p) p × Wrote (O.taken out.old) (O.taken out.new) (Text p) × IfSome (unit_asked (F.told files.old) (map string_bytes words.now)) (λ unit. IsMergedTo unit p) }
+    ensures done { result ≡ Status.Done → (p : Program) × IsWritten p × Wrote (O.taken out.old) (O.taken out.new) (Text p) × IfSome (unit_asked (F.told files.old) (map string_bytes words.now)) (λ unit. IsMergedTo unit p) }
     ensures accepted { IfSome (unit_asked (F.told files.old) (map string_bytes words.now)) (λ unit. (e : Expression) → IsUnit unit e → ¬ (Rose (F.faults files.old) (F.faults files.new)) → ¬ (Rose (O.faults out.old) (O.faults out.new)) → (result ≡ Status.Done) ⊎ (result ≡ Status.Memory)) }
     ensures refuses { IfSome (unit_asked (F.told files.old) (map string_bytes words.now)) (λ unit. (refusal : Refusal) (names : List (List ℕ)) → IsNoGrammar unit refusal names → ¬ (Rose (F.faults files.old) (F.faults files.new)) → IsRefusedLike result refusal ⊎ (result ≡ Status.Memory)) }
     ensures refused { IfSome (unit_asked (F.told files.old) (map string_bytes words.now)) (λ unit. IfRefused result (λ refusal. (others : List (List ℕ)) × IsRefused unit refusal others)) }
     ensures units { IfSome (all_under (F.told files.old) (merged_files (map string_bytes words.now))) (λ units. SaysOfUnits units (merged_files (map string_bytes words.now)) names.new result) }
     ensures links { LinksSay (F.told files.old) (map string_bytes words.now) names.new result }
-    ensures part { result ≡ Status.WriteFault → (p : Program) × IsTextOf (Text p) p × Began (O.taken out.old) (O.taken out.new) (Text p) × IfSome (unit_asked (F.told files.old) (map string_bytes words.now)) (λ unit. IsMergedTo unit p) }
+    ensures part { result ≡ Status.WriteFault → (p : Program) × IsWritten p × Began (O.taken out.old) (O.taken out.new) (Text p) × IfSome (unit_asked (F.told files.old) (map string_bytes words.now)) (λ unit. IsMergedTo unit p) }
     ensures read { result ≡ Status.ReadFault → Rose (F.faults files.old) (F.faults files.new) }
     ensures read_told { result ≢ Status.ReadFault → F.faults files.new ≡ F.faults files.old }
     ensures write { result ≡ Status.WriteFault → Rose (O.faults out.old) (O.faults out.new) }
@@ -322,13 +324,13 @@ fn merge_several<F: Files, O: Sink>(
     ensures kind { IsMergeAnswer (length (files_of (map string_bytes words.now))) result }
     ensures names { result ≢ Status.Memory → AreNames (F.told files.old) (map string_bytes words.now) result names.new }
     ensures files { HasFiles (length names.new) result }
-    ensures done { result ≡ Status.Done → (p : Program) × IsTextOf (Text p) p × Wrote (O.taken out.old) (O.taken out.new) (Text p) × IfSome (unit_asked (F.told files.old) (map string_bytes words.now)) (λ unit. IsMergedTo unit p) }
+    ensures done { result ≡ Status.Done → (p : Program) × IsWritten p × Wrote (O.taken out.old) (O.taken out.new) (Text p) × IfSome (unit_asked (F.told files.old) (map string_bytes words.now)) (λ unit. IsMergedTo unit p) }
     ensures accepted { IfSome (unit_asked (F.told files.old) (map string_bytes words.now)) (λ unit. (e : Expression) → IsUnit unit e → ¬ (Rose (F.faults files.old) (F.faults files.new)) → ¬ (Rose (O.faults out.old) (O.faults out.new)) → (result ≡ Status.Done) ⊎ (result ≡ Status.Memory)) }
     ensures refuses { IfSome (unit_asked (F.told files.old) (map string_bytes words.now)) (λ unit. (refusal : Refusal) (names : List (List ℕ)) → IsNoGrammar unit refusal names → ¬ (Rose (F.faults files.old) (F.faults files.new)) → IsRefusedLike result refusal ⊎ (result ≡ Status.Memory)) }
     ensures refused { IfSome (unit_asked (F.told files.old) (map string_bytes words.now)) (λ unit. IfRefused result (λ refusal. (others : List (List ℕ)) × IsRefused unit refusal others)) }
     ensures units { IfSome (all_under (F.told files.old) (merged_files (map string_bytes words.now))) (λ units. SaysOfUnits units (merged_files (map string_bytes words.now)) names.new result) }
     ensures links { LinksSay (F.told files.old) (map string_bytes words.now) names.new result }
-    ensures part { result ≡ Status.WriteFault → (p : Program) × IsTextOf (Text p) p × Began (O.taken out.old) (O.taken out.new) (Text p) × IfSome (unit_asked (F.told files.old) (map string_bytes words.now)) (λ unit. IsMergedTo unit p) }
+    ensures part { result ≡ Status.WriteFault → (p : Program) × IsWritten p × Began (O.taken out.old) (O.taken out.new) (Text p) × IfSome (unit_asked (F.told files.old) (map string_bytes words.now)) (λ unit. IsMergedTo unit p) }
     ensures read { result ≡ Status.ReadFault → Rose (F.faults files.old) (F.faults files.new) }
     ensures read_told { result ≢ Status.ReadFault → F.faults files.new ≡ F.faults files.old }
     ensures write { result ≡ Status.WriteFault → Rose (O.faults out.old) (O.faults out.new) }

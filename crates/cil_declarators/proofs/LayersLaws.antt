@@ -10,7 +10,7 @@ use Rattle.type_graph.specs.Growth.{Grows}
 use Rattle.type_graph.proofs.ShapeLaws.{kept, shapes_of-same}
 use Rattle.cil_tree.specs.Typing.{unqualified}
 use Rattle.cil_text.specs.Words.{Word, VoidWord, LeftParen, RightParen, Comma, Operator}
-use Rattle.cil_text.specs.ReadTypes.{Reading, skip_one, Mark, Group, Layer, Pointer, Elements, Called, Listed, Named, heads, is_star, is_suffix, is_ellipsis, closed, read_base, read_name, read_decl, declared_as, named_as, tails, popped, layer_first, listed_first, read_suffix, read_called, read_params, read_more, called, without_name}
+use Rattle.cil_text.specs.ReadTypes.{Reading, skip_one, Mark, Group, Layer, Pointer, Elements, Called, Listed, Named, heads, is_star, is_suffix, is_ellipsis, closed, read_base, read_name, read_decl, declared_as, named_as, tails, popped, layer_first, listed_first, read_suffix, read_called, read_params, read_more, called, without_name, Bases}
 use Rattle.cil_declarators.specs.declared.declarators.Mark.{Mark as SeenMark}
 use Rattle.cil_declarators.specs.declared.declarators.Suffix.{Suffix}
 use Rattle.cil_declarators.specs.declared.declarators.Suffix.TheVariants as suffix
@@ -62,19 +62,19 @@ head_end marks words at e =
 
 -- declarations
 
-pub decl_none : (tags : List (List ℕ)) (left : ℕ) (ws : List Word) → left ≡ 0 → read_decl tags left ws ≡ None
-decl_none tags zero ws e = refl
-decl_none tags (suc n) ws e = absurd (omega (arith, e))
+pub decl_none : (bases : Bases) (left : ℕ) (ws : List Word) → left ≡ 0 → read_decl bases left ws ≡ None
+decl_none bases zero ws e = refl
+decl_none bases (suc n) ws e = absurd (omega (arith, e))
 
-decl_next : (tags : List (List ℕ)) (left : ℕ) (ws : List Word) → left ≢ 0 → read_decl tags left ws ≡ option_and_then (declared_as (read_parameter tags (left - 1)) (left - 1)) (read_base tags ws)
-decl_next tags zero ws h = absurd (h refl)
-decl_next tags (suc n) ws h = let e : suc n - 1 ≡ n = omega arith in ap (λ k. option_and_then (declared_as (read_parameter tags k) k) (read_base tags ws)) (sym e)
+decl_next : (bases : Bases) (left : ℕ) (ws : List Word) → left ≢ 0 → read_decl bases left ws ≡ option_and_then (declared_as (read_parameter bases (left - 1)) (left - 1)) (read_base bases ws)
+decl_next bases zero ws h = absurd (h refl)
+decl_next bases (suc n) ws h = let e : suc n - 1 ≡ n = omega arith in ap (λ k. option_and_then (declared_as (read_parameter bases k) k) (read_base bases ws)) (sym e)
 
-pub decl_step : (tags : List (List ℕ)) (left : ℕ) (ws vs : List Word) (s : Shape) → left ≢ 0 → read_base tags ws ≡ Some (s, vs) → read_decl tags left ws ≡ declared_as (read_parameter tags (left - 1)) (left - 1) (s, vs)
-decl_step tags left ws vs s h e = decl_next tags left ws h ∙ ap (option_and_then (declared_as (read_parameter tags (left - 1)) (left - 1))) e
+pub decl_step : (bases : Bases) (left : ℕ) (ws vs : List Word) (s : Shape) → left ≢ 0 → read_base bases ws ≡ Some (s, vs) → read_decl bases left ws ≡ declared_as (read_parameter bases (left - 1)) (left - 1) (s, vs)
+decl_step bases left ws vs s h e = decl_next bases left ws h ∙ ap (option_and_then (declared_as (read_parameter bases (left - 1)) (left - 1))) e
 
-pub decl_fails : (tags : List (List ℕ)) (left : ℕ) (ws : List Word) → left ≢ 0 → read_base tags ws ≡ None → read_decl tags left ws ≡ None
-decl_fails tags left ws h e = decl_next tags left ws h ∙ ap (option_and_then (declared_as (read_parameter tags (left - 1)) (left - 1))) e
+pub decl_fails : (bases : Bases) (left : ℕ) (ws : List Word) → left ≢ 0 → read_base bases ws ≡ None → read_decl bases left ws ≡ None
+decl_fails bases left ws h e = decl_next bases left ws h ∙ ap (option_and_then (declared_as (read_parameter bases (left - 1)) (left - 1))) e
 
 abbrev Built : Type 0
 Built = Option (List Layer × List Word)
@@ -246,19 +246,19 @@ each_pushed n m (u ∷ ts) t h e less = (omega (arith, e.0), each_pushed n m ts 
 pub each_more : (g h : Graph) (ts : List TypeId) (t : TypeId) → Grows g h → EachType (length g.nodes) ts → t.0 < length h.nodes → EachType (length h.nodes) (ts ++ t ∷ [])
 each_more g h ts t e each less = each_pushed (length g.nodes) (length h.nodes) ts t (no_fewer g h e) each less
 
-pub param_gives : (tags : List (List ℕ)) (left : ℕ) (g h : Graph) (ts : List TypeId) (t : TypeId) (name : Option (List ℕ)) (f : Follows) (ws vs us : List Word) → Grows g h → EachType (length g.nodes) ts →
-    read_decl tags left ws ≡ Some ((shape h.nodes t.0, name), vs) → Some (f, us) ≡ behind_parameter vs → param_more (shapes_of (shape g.nodes) ts) (read_parameter tags left ws) ≡ Some (f, (shapes_of (shape h.nodes) (ts ++ t ∷ []), us))
-param_gives tags left g h ts t name f ws vs us e each r end =
+pub param_gives : (bases : Bases) (left : ℕ) (g h : Graph) (ts : List TypeId) (t : TypeId) (name : Option (List ℕ)) (f : Follows) (ws vs us : List Word) → Grows g h → EachType (length g.nodes) ts →
+    read_decl bases left ws ≡ Some ((shape h.nodes t.0, name), vs) → Some (f, us) ≡ behind_parameter vs → param_more (shapes_of (shape g.nodes) ts) (read_parameter bases left ws) ≡ Some (f, (shapes_of (shape h.nodes) (ts ++ t ∷ []), us))
+param_gives bases left g h ts t name f ws vs us e each r end =
     ap (λ o. param_more (shapes_of (shape g.nodes) ts) (option_map without_name o)) r
     ∙ ap (option_map (behind_those (joined (shapes_of (shape g.nodes) ts) (MoreTypes (shape h.nodes t.0) NoTypes)))) (sym end)
     ∙ ap (λ ss. Some (f, (joined ss (MoreTypes (shape h.nodes t.0) NoTypes), us))) (sym (shapes_of-same (shape h.nodes) (shape g.nodes) (length g.nodes) ts each (λ i less. kept g h i e less)))
     ∙ ap (λ ss. Some (f, (ss, us))) (sym (shapes_more (shape h.nodes) ts t))
 
-pub param_open : (tags : List (List ℕ)) (left : ℕ) (ss : Shapes) (x : Named) (ws vs : List Word) → read_decl tags left ws ≡ Some (x, vs) → None ≡ behind_parameter vs → param_more ss (read_parameter tags left ws) ≡ None
-param_open tags left ss x ws vs r end = ap (λ o. param_more ss (option_map without_name o)) r ∙ ap (option_map (behind_those (joined ss (MoreTypes x.0 NoTypes)))) (sym end)
+pub param_open : (bases : Bases) (left : ℕ) (ss : Shapes) (x : Named) (ws vs : List Word) → read_decl bases left ws ≡ Some (x, vs) → None ≡ behind_parameter vs → param_more ss (read_parameter bases left ws) ≡ None
+param_open bases left ss x ws vs r end = ap (λ o. param_more ss (option_map without_name o)) r ∙ ap (option_map (behind_those (joined ss (MoreTypes x.0 NoTypes)))) (sym end)
 
-pub param_fails : (tags : List (List ℕ)) (left : ℕ) (ss : Shapes) (ws : List Word) → read_decl tags left ws ≡ None → param_more ss (read_parameter tags left ws) ≡ None
-param_fails tags left ss ws r = ap (λ o. param_more ss (option_map without_name o)) r
+pub param_fails : (bases : Bases) (left : ℕ) (ss : Shapes) (ws : List Word) → read_decl bases left ws ≡ None → param_more ss (read_parameter bases left ws) ≡ None
+param_fails bases left ss ws r = ap (λ o. param_more ss (option_map without_name o)) r
 
 abbrev called_by : Option (List Word) → Option (List Word) → Reading Layer → Reading Layer
 called_by (Some vs) _ o = Some (Called NoTypes false false, vs)

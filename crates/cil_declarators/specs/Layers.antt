@@ -6,7 +6,7 @@ use Rattle.type_graph.specs.Arena.{EachType}
 use Rattle.type_graph.specs.declared.nodes.Node.{Node}
 use Rattle.type_graph.specs.Shapes.{Shape, Shapes, NoTypes, MoreTypes, shape, shapes_of}
 use Rattle.cil_text.specs.Words.{Word, LeftParen, Operator, RightParen, Comma}
-use Rattle.cil_text.specs.ReadTypes.{Reading, Mark, Points, Group, Layer, Pointer, Elements, Called, Listed, built, is_ellipsis, is_star, closed, skip_one, read_decl, without_name, Named}
+use Rattle.cil_text.specs.ReadTypes.{Reading, Mark, Points, Group, Layer, Pointer, Elements, Called, Listed, built, is_ellipsis, is_star, closed, skip_one, read_decl, without_name, Named, Bases}
 use Rattle.cil_declarators.specs.declared.declarators.Mark.{Mark as SeenMark}
 use Rattle.cil_declarators.specs.declared.declarators.Mark.TheVariants as mark
 use Rattle.cil_declarators.specs.declared.declarators.Suffix.{Suffix}
@@ -41,8 +41,8 @@ LayerBelow n (suffix.Elements bound) = Unit {0}
 LayerBelow n (suffix.Called params proto variadic) = EachType n params.items
 
 -- a parameter's type
-abbrev pub read_parameter : List (List ℕ) → ℕ → List Word → Reading Shape
-read_parameter tags n ws = option_map without_name (read_decl tags n ws)
+abbrev pub read_parameter : Bases → ℕ → List Word → Reading Shape
+read_parameter bases n ws = option_map without_name (read_decl bases n ws)
 
 abbrev pub built_from : Shape → List Layer × List Word → Shape × List Word
 built_from s r = (built r.0 s, r.1)

@@ -4,13 +4,13 @@ ghost use Rattle.cil_text.specs.ReadTypes.{long_base, unsigned_base, signed_base
 ghost use Rattle.type_graph.specs.Shapes.{shape};
 ghost use Rattle.cil_text.specs.TypesOf.{AddsParts};
 ghost use Rattle.cil_scan.specs.Said.{all_said};
-ghost use Rattle.cil_declarators.specs.Bases.{base_shape, BaseBelow};
+ghost use Rattle.cil_declarators.specs.Bases.{base_shape, BaseBelow, base_has_kind, bases_in};
 ghost use Rattle.cil_declarators.specs.Gives.{Gives};
 ghost use Rattle.cil_declarators.specs.Extends.{Extends};
 
 use crate::numbering::Numbering;
 use crate::stop::Stop;
-use cil_base::{AggId, IntKind, Memory, TypeId};
+use cil_base::{Abi, AggId, IntKind, Memory, TypeId};
 use cil_scan::Word;
 use type_graph::{Node, TypeGraph};
 
@@ -33,14 +33,14 @@ fn long_base<'w, 'a>(one: IntKind, two: IntKind, words: &'w [Word<'a>]) -> (Base
 }
 
 /// Behind `unsigned`.
-fn unsigned_base<'w, 'a>(words: &'w [Word<'a>]) -> Option<(Base, &'w [Word<'a>])>
-    ensures read { option_map (λ r. (base_shape r.0, all_said r.1.now)) result ≡ unsigned_base (all_said words.now) }
+fn unsigned_base<'w, 'a>(abi: Abi, words: &'w [Word<'a>]) -> Option<(Base, &'w [Word<'a>])>
+    ensures read { option_map (λ r. (base_shape r.0, all_said r.1.now)) result ≡ unsigned_base abi (all_said words.now) }
 {
     match words {
         [Word::CharWord, rest @ ..] => Some((Base::Int(IntKind::UChar), rest)),
         [Word::ShortWord, rest @ ..] => Some((Base::Int(IntKind::UShort), rest)),
         [Word::IntWord, rest @ ..] => Some((Base::Int(IntKind::UInt), rest)),
-        [Word::LongWord, rest @ ..] => Some(long_base(IntKind::ULong, IntKind::ULLong, rest)),
+        [Word::LongWord, rest @ ..] => Some(long_base(abi.ulong(), IntKind::ULLong, rest)),
         _ => None,
     }
 }
@@ -66,9 +66,13 @@ fn tag_base<'w, 'a>(tags: &Numbering, words: &'w [Word<'a>]) -> Option<(Base, &'
     }
 }
 
-/// The type that a declaration begins with (C11 6.7.2), where the aggregates have these tags.
-fn read_base<'w, 'a>(tags: &Numbering, words: &'w [Word<'a>]) -> Option<(Base, &'w [Word<'a>])>
-    ensures read { option_map (λ r. (base_shape r.0, all_said r.1.now)) result ≡ read_base tags.now (all_said words.now) }
+/// The type that a declaration begins with (C11 6.7.2), in a data model, where the aggregates have these tags.
+fn read_base<'w, 'a>(
+    abi: Abi,
+    tags: &Numbering,
+    words: &'w [Word<'a>],
+) -> Option<(Base, &'w [Word<'a>])>
+    ensures read { option_map (λ r. (base_shape r.0, all_said r.1.now)) result ≡ read_base (bases_in abi tags.now) (all_said words.now) }
     ensures below { IfSome result (λ r. BaseBelow (length tags.now) r.0) }
 {
     match words {
@@ -77,15 +81,25 @@ fn read_base<'w, 'a>(tags: &Numbering, words: &'w [Word<'a>]) -> Option<(Base, &
         [Word::CharWord, rest @ ..] => Some((Base::Int(IntKind::Char), rest)),
         [Word::ShortWord, rest @ ..] => Some((Base::Int(IntKind::Short), rest)),
         [Word::IntWord, rest @ ..] => Some((Base::Int(IntKind::Int), rest)),
-        [Word::LongWord, rest @ ..] => Some(long_base(IntKind::Long, IntKind::LLong, rest)),
+        [Word::LongWord, rest @ ..] => Some(long_base(abi.long(), IntKind::LLong, rest)),
         [Word::SignedWord, rest @ ..] => signed_base(rest),
-        [Word::UnsignedWord, rest @ ..] => unsigned_base(rest),
+        [Word::UnsignedWord, rest @ ..] => unsigned_base(abi, rest),
         [Word::TagWord(_), rest @ ..] => tag_base(tags, rest),
         _ => None,
     }
 }
 
-/// The number of a type without a declarator.
+/// Whether the graph's data model has the kind, if the type is an integer type.
+fn is_of_model(graph: &TypeGraph, base: Base) -> bool
+    ensures { result ≡ base_has_kind graph.now.abi base }
+{
+    match base {
+        Base::Void | Base::Agg(_) => true,
+        Base::Int(kind) => kind.is_of(graph.abi()),
+    }
+}
+
+/// The number of a type without a declarator. Memory also comes for a kind that the graph's data model has not.
 #[tactic(auto, using(crate::proofs::ExtendsLaws::extends_by))]
 fn add_base(graph: &mut TypeGraph, base: Base) -> Result<TypeId, Memory>
     requires { BaseBelow (length graph.old.aggs) base }
@@ -94,6 +108,9 @@ fn add_base(graph: &mut TypeGraph, base: Base) -> Result<TypeId, Memory>
     ensures on { Extends graph.old graph.new }
     ensures adds { IfOk result (λ t. AddsParts graph.old graph.new (shape graph.new.nodes t.0 ∷ [])) }
 {
+    if !is_of_model(graph, base) {
+        return Err(Memory);
+    }
     match base {
         Base::Void => graph.add_node(Node::Void),
         Base::Int(kind) => graph.add_node(Node::Int(kind)),
@@ -101,20 +118,21 @@ fn add_base(graph: &mut TypeGraph, base: Base) -> Result<TypeId, Memory>
     }
 }
 
-/// The type that a declaration begins with, in the graph.
+/// The type that a declaration begins with, in the graph, which has the data model.
 #[tactic(auto, using(crate::proofs::ExtendsLaws::extends_none))]
 pub fn read_base_type<'w, 'a>(
+    abi: Abi,
     tags: &Numbering,
     graph: &mut TypeGraph,
     words: &'w [Word<'a>],
 ) -> Result<(TypeId, &'w [Word<'a>]), Stop>
     requires { length tags.now ≤ length graph.old.aggs }
-    ensures gives { Gives (λ r. (shape graph.new.nodes r.0.0, all_said r.1.now)) result (read_base tags.now (all_said words.now)) }
+    ensures gives { Gives (λ r. (shape graph.new.nodes r.0.0, all_said r.1.now)) result (read_base (bases_in abi tags.now) (all_said words.now)) }
     ensures there { IfOk result (λ r. r.0.0 < length graph.new.nodes) }
     ensures on { Extends graph.old graph.new }
     ensures adds { IfOk result (λ r. AddsParts graph.old graph.new (shape graph.new.nodes r.0.0 ∷ [])) }
 {
-    let Some((base, rest)) = read_base(tags, words) else {
+    let Some((base, rest)) = read_base(abi, tags, words) else {
         return Err(Stop::NotCil);
     };
     Ok((add_base(graph, base)?, rest))

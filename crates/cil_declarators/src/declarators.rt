@@ -6,6 +6,7 @@ ghost use Rattle.type_graph.specs.Shapes.{Shape, shape, shapes_of, PtrType};
 ghost use Rattle.type_graph.specs.Arena.{Graph, EachType};
 ghost use Rattle.cil_tree.specs.Typing.{unqualified};
 ghost use Rattle.cil_scan.specs.Said.{all_said};
+ghost use Rattle.cil_declarators.specs.Bases.{bases_in};
 ghost use Rattle.cil_declarators.specs.Gives.{Gives};
 ghost use Rattle.cil_declarators.specs.Extends.{Extends};
 ghost use Rattle.cil_declarators.specs.Layers.{listed, layer_types, param_more, params_of, is_another, mark_of, head_of, marks_of, layer_of, LayerBelow, wrapped, wrapped_from, named_of, read_parameter, built_from, behind_parameter};
@@ -13,7 +14,7 @@ ghost use Rattle.cil_declarators.specs.Layers.{listed, layer_types, param_more, 
 use crate::bases::read_base_type;
 use crate::numbering::Numbering;
 use crate::stop::Stop;
-use cil_base::{BinOp, Memory, TypeId};
+use cil_base::{Abi, BinOp, Memory, TypeId};
 use cil_forms::{closing, is_star, is_suffix, read_name, void_alone};
 use cil_scan::Word;
 use std::alloc::Global;
@@ -147,13 +148,14 @@ fn add_wrapped(graph: &mut TypeGraph, suffix: Suffix, inner: TypeId) -> Result<T
 #[cycle(declaration)]
 #[tactic(auto, using(crate::proofs::LayersLaws::decl_step, crate::proofs::LayersLaws::decl_fails, crate::proofs::LayersLaws::decl_none, crate::proofs::ExtendsLaws::extends_none, crate::proofs::ExtendsLaws::extends_twice, crate::proofs::ExtendsLaws::extends_aggs))]
 pub fn read_decl<'w, 'a>(
+    abi: Abi,
     tags: &Numbering,
     graph: &mut TypeGraph,
     left: u32,
     words: &'w [Word<'a>],
 ) -> Result<(Named<'a>, &'w [Word<'a>]), Stop>
     requires tags { length tags.now ≤ length graph.old.aggs }
-    ensures gives { Gives (λ r. (named_of graph.new.nodes r.0, all_said r.1.now)) result (read_decl tags.now left (all_said words.now)) }
+    ensures gives { Gives (λ r. (named_of graph.new.nodes r.0, all_said r.1.now)) result (read_decl (bases_in abi tags.now) left (all_said words.now)) }
     ensures there { IfOk result (λ r. r.0.ty.0 < length graph.new.nodes) }
     ensures on { Extends graph.old graph.new }
     ensures adds { IfOk result (λ r. AddsParts graph.old graph.new (shape graph.new.nodes r.0.ty.0 ∷ [])) }
@@ -161,14 +163,15 @@ pub fn read_decl<'w, 'a>(
     if left == 0 {
         return Err(Stop::NotCil);
     }
-    let (base, rest) = read_base_type(tags, graph, words)?;
-    declared_as(tags, graph, left - 1, base, rest)
+    let (base, rest) = read_base_type(abi, tags, graph, words)?;
+    declared_as(abi, tags, graph, left - 1, base, rest)
 }
 
 /// A declarator around a type.
 #[cycle(declaration)]
 #[tactic(auto, using(crate::proofs::LayersLaws::named_gives, crate::proofs::LayersLaws::named_fails, crate::proofs::ExtendsLaws::extends_twice, crate::proofs::ExtendsLaws::extends_grows, crate::proofs::ExtendsLaws::extends_aggs, type_graph::proofs::ShapeLaws::kept, crate::proofs::ExtendsLaws::extends_none))]
 fn declared_as<'w, 'a>(
+    abi: Abi,
     tags: &Numbering,
     graph: &mut TypeGraph,
     left: u32,
@@ -177,7 +180,7 @@ fn declared_as<'w, 'a>(
 ) -> Result<(Named<'a>, &'w [Word<'a>]), Stop>
     requires tags { length tags.now ≤ length graph.old.aggs }
     requires base { base.0 < length graph.old.nodes }
-    ensures gives { Gives (λ r. (named_of graph.new.nodes r.0, all_said r.1.now)) result (declared_as (read_parameter tags.now left) left (shape graph.old.nodes base.0, all_said words.now)) }
+    ensures gives { Gives (λ r. (named_of graph.new.nodes r.0, all_said r.1.now)) result (declared_as (read_parameter (bases_in abi tags.now) left) left (shape graph.old.nodes base.0, all_said words.now)) }
     ensures there { IfOk result (λ r. r.0.ty.0 < length graph.new.nodes) }
     ensures on { Extends graph.old graph.new }
     ensures adds { (f : Graph) (ss : List Shape) → AddsParts f graph.old (shape graph.old.nodes base.0 ∷ ss) → IfOk result (λ r. AddsParts f graph.new (shape graph.new.nodes r.0.ty.0 ∷ ss)) }
@@ -185,7 +188,7 @@ fn declared_as<'w, 'a>(
     let (marks, rest) = heads(graph.alloc(), words)?;
     let (name, rest) = read_name(rest);
     let front = Open { base, marks };
-    let (ty, rest) = tails(tags, graph, left, left, front, rest)?;
+    let (ty, rest) = tails(abi, tags, graph, left, left, front, rest)?;
     Ok((Named { ty, name }, rest))
 }
 
@@ -193,6 +196,7 @@ fn declared_as<'w, 'a>(
 #[cycle(declaration)]
 #[tactic(auto, using(crate::proofs::LayersLaws::tails_none, crate::proofs::LayersLaws::tails_suffix, crate::proofs::LayersLaws::tails_popped, crate::proofs::LayersLaws::suffix_fails, crate::proofs::ExtendsLaws::extends_twice, crate::proofs::ExtendsLaws::extends_grows, crate::proofs::ExtendsLaws::extends_aggs, type_graph::proofs::ShapeLaws::kept, crate::proofs::ExtendsLaws::extends_none))]
 fn tails<'w, 'a>(
+    abi: Abi,
     tags: &Numbering,
     graph: &mut TypeGraph,
     left: u32,
@@ -202,7 +206,7 @@ fn tails<'w, 'a>(
 ) -> Result<(TypeId, &'w [Word<'a>]), Stop>
     requires tags { length tags.now ≤ length graph.old.aggs }
     requires base { front.base.0 < length graph.old.nodes }
-    ensures gives { Gives (λ r. (shape graph.new.nodes r.0.0, all_said r.1.now)) result (option_map (built_from (shape graph.old.nodes front.base.0)) (tails (read_parameter tags.now left) steps (marks_of front.marks.items) (all_said words.now))) }
+    ensures gives { Gives (λ r. (shape graph.new.nodes r.0.0, all_said r.1.now)) result (option_map (built_from (shape graph.old.nodes front.base.0)) (tails (read_parameter (bases_in abi tags.now) left) steps (marks_of front.marks.items) (all_said words.now))) }
     ensures there { IfOk result (λ r. r.0.0 < length graph.new.nodes) }
     ensures on { Extends graph.old graph.new }
     ensures adds { (f : Graph) (ss : List Shape) → AddsParts f graph.old (shape graph.old.nodes front.base.0 ∷ ss) → IfOk result (λ r. AddsParts f graph.new (shape graph.new.nodes r.0.0 ∷ ss)) }
@@ -211,16 +215,17 @@ fn tails<'w, 'a>(
         return Err(Stop::NotCil);
     }
     if !is_suffix(words) {
-        return popped(tags, graph, left, steps - 1, front, words);
+        return popped(abi, tags, graph, left, steps - 1, front, words);
     }
-    let (suffix, rest) = read_suffix(tags, graph, left, steps - 1, words)?;
-    behind_suffix(tags, graph, left, steps - 1, front, suffix, rest)
+    let (suffix, rest) = read_suffix(abi, tags, graph, left, steps - 1, words)?;
+    behind_suffix(abi, tags, graph, left, steps - 1, front, suffix, rest)
 }
 
 /// The type that a suffix makes of what stands behind it.
 #[cycle(declaration)]
 #[tactic(auto, using(crate::proofs::LayersLaws::wrapped_gives, crate::proofs::LayersLaws::wrapped_fails, crate::proofs::LayersLaws::layer_kept, crate::proofs::LayersLaws::layer_below, crate::proofs::ExtendsLaws::extends_twice, crate::proofs::ExtendsLaws::extends_grows, crate::proofs::ExtendsLaws::extends_aggs, type_graph::proofs::ShapeLaws::kept, crate::proofs::AddedLaws::layer_later))]
 fn behind_suffix<'w, 'a>(
+    abi: Abi,
     tags: &Numbering,
     graph: &mut TypeGraph,
     left: u32,
@@ -232,12 +237,12 @@ fn behind_suffix<'w, 'a>(
     requires tags { length tags.now ≤ length graph.old.aggs }
     requires base { front.base.0 < length graph.old.nodes }
     requires suffix { LayerBelow (length graph.old.nodes) suffix }
-    ensures gives { Gives (λ r. (shape graph.new.nodes r.0.0, all_said r.1.now)) result (option_map (wrapped_from (layer_of graph.old.nodes suffix) (shape graph.old.nodes front.base.0)) (tails (read_parameter tags.now left) steps (marks_of front.marks.items) (all_said words.now))) }
+    ensures gives { Gives (λ r. (shape graph.new.nodes r.0.0, all_said r.1.now)) result (option_map (wrapped_from (layer_of graph.old.nodes suffix) (shape graph.old.nodes front.base.0)) (tails (read_parameter (bases_in abi tags.now) left) steps (marks_of front.marks.items) (all_said words.now))) }
     ensures there { IfOk result (λ r. r.0.0 < length graph.new.nodes) }
     ensures on { Extends graph.old graph.new }
     ensures adds { (f : Graph) (ss : List Shape) → AddsParts f graph.old (shape graph.old.nodes front.base.0 ∷ (layer_types (layer_of graph.old.nodes suffix) ++ ss)) → IfOk result (λ r. AddsParts f graph.new (shape graph.new.nodes r.0.0 ∷ ss)) }
 {
-    let (inner, rest) = tails(tags, graph, left, steps, front, words)?;
+    let (inner, rest) = tails(abi, tags, graph, left, steps, front, words)?;
     Ok((add_wrapped(graph, suffix, inner)?, rest))
 }
 
@@ -245,6 +250,7 @@ fn behind_suffix<'w, 'a>(
 #[cycle(declaration)]
 #[tactic(auto, using(crate::proofs::LayersLaws::marks_more, crate::proofs::LayersLaws::pointer_gives, crate::proofs::LayersLaws::pointer_fails, crate::proofs::ExtendsLaws::extends_twice, crate::proofs::ExtendsLaws::extends_grows, crate::proofs::ExtendsLaws::extends_aggs, type_graph::proofs::ShapeLaws::kept, crate::proofs::ExtendsLaws::extends_none))]
 fn popped<'w, 'a>(
+    abi: Abi,
     tags: &Numbering,
     graph: &mut TypeGraph,
     left: u32,
@@ -254,7 +260,7 @@ fn popped<'w, 'a>(
 ) -> Result<(TypeId, &'w [Word<'a>]), Stop>
     requires tags { length tags.now ≤ length graph.old.aggs }
     requires base { front.base.0 < length graph.old.nodes }
-    ensures gives { Gives (λ r. (shape graph.new.nodes r.0.0, all_said r.1.now)) result (option_map (built_from (shape graph.old.nodes front.base.0)) (popped (tails (read_parameter tags.now left) steps) (marks_of front.marks.items) (all_said words.now))) }
+    ensures gives { Gives (λ r. (shape graph.new.nodes r.0.0, all_said r.1.now)) result (option_map (built_from (shape graph.old.nodes front.base.0)) (popped (tails (read_parameter (bases_in abi tags.now) left) steps) (marks_of front.marks.items) (all_said words.now))) }
     ensures there { IfOk result (λ r. r.0.0 < length graph.new.nodes) }
     ensures on { Extends graph.old graph.new }
     ensures adds { (f : Graph) (ss : List Shape) → AddsParts f graph.old (shape graph.old.nodes front.base.0 ∷ ss) → IfOk result (λ r. AddsParts f graph.new (shape graph.new.nodes r.0.0 ∷ ss)) }
@@ -265,12 +271,12 @@ fn popped<'w, 'a>(
         None => Ok((base, words)),
         Some(Mark::Points) => {
             let front = Open { base, marks };
-            let (to, rest) = tails(tags, graph, left, steps, front, words)?;
+            let (to, rest) = tails(abi, tags, graph, left, steps, front, words)?;
             Ok((add_pointer(graph, to)?, rest))
         }
         Some(Mark::Group) => match words {
             [Word::RightParen, rest @ ..] => {
-                tails(tags, graph, left, steps, Open { base, marks }, rest)
+                tails(abi, tags, graph, left, steps, Open { base, marks }, rest)
             }
             _ => Err(Stop::NotCil),
         },
@@ -281,6 +287,7 @@ fn popped<'w, 'a>(
 #[cycle(declaration)]
 #[tactic(auto, using(crate::proofs::ExtendsLaws::extends_none, cil_text::proofs::PartsAdded::adds_none))]
 fn read_suffix<'w, 'a>(
+    abi: Abi,
     tags: &Numbering,
     graph: &mut TypeGraph,
     left: u32,
@@ -288,7 +295,7 @@ fn read_suffix<'w, 'a>(
     words: &'w [Word<'a>],
 ) -> Result<(Suffix, &'w [Word<'a>]), Stop>
     requires tags { length tags.now ≤ length graph.old.aggs }
-    ensures gives { Gives (λ r. (layer_of graph.new.nodes r.0, all_said r.1.now)) result (read_suffix (read_parameter tags.now left) steps (all_said words.now)) }
+    ensures gives { Gives (λ r. (layer_of graph.new.nodes r.0, all_said r.1.now)) result (read_suffix (read_parameter (bases_in abi tags.now) left) steps (all_said words.now)) }
     ensures there { IfOk result (λ r. LayerBelow (length graph.new.nodes) r.0) }
     ensures on { Extends graph.old graph.new }
     ensures adds { IfOk result (λ r. AddsParts graph.old graph.new (layer_types (layer_of graph.new.nodes r.0))) }
@@ -301,7 +308,7 @@ fn read_suffix<'w, 'a>(
             Word::RightBracket,
             rest @ ..,
         ] => Ok((Suffix::Elements(Some(*n)), rest)),
-        [Word::LeftParen, rest @ ..] => read_called(tags, graph, left, steps, rest),
+        [Word::LeftParen, rest @ ..] => read_called(abi, tags, graph, left, steps, rest),
         _ => Err(Stop::NotCil),
     }
 }
@@ -310,6 +317,7 @@ fn read_suffix<'w, 'a>(
 #[cycle(declaration)]
 #[tactic(auto, using(crate::proofs::LayersLaws::called_closing, crate::proofs::LayersLaws::called_void, crate::proofs::LayersLaws::called_next, crate::proofs::ExtendsLaws::extends_none, cil_text::proofs::PartsAdded::adds_none))]
 fn read_called<'w, 'a>(
+    abi: Abi,
     tags: &Numbering,
     graph: &mut TypeGraph,
     left: u32,
@@ -317,7 +325,7 @@ fn read_called<'w, 'a>(
     words: &'w [Word<'a>],
 ) -> Result<(Suffix, &'w [Word<'a>]), Stop>
     requires tags { length tags.now ≤ length graph.old.aggs }
-    ensures gives { Gives (λ r. (layer_of graph.new.nodes r.0, all_said r.1.now)) result (read_called (read_parameter tags.now left) steps (all_said words.now)) }
+    ensures gives { Gives (λ r. (layer_of graph.new.nodes r.0, all_said r.1.now)) result (read_called (read_parameter (bases_in abi tags.now) left) steps (all_said words.now)) }
     ensures there { IfOk result (λ r. LayerBelow (length graph.new.nodes) r.0) }
     ensures on { Extends graph.old graph.new }
     ensures adds { IfOk result (λ r. AddsParts graph.old graph.new (layer_types (layer_of graph.new.nodes r.0))) }
@@ -330,13 +338,14 @@ fn read_called<'w, 'a>(
         let types = Vec::new(graph.alloc());
         return Ok((Suffix::Called(types, true, false), rest));
     }
-    read_params(tags, graph, left, steps, words)
+    read_params(abi, tags, graph, left, steps, words)
 }
 
 /// One parameter more.
 #[cycle(declaration)]
 #[tactic(auto, using(crate::proofs::LayersLaws::param_gives, crate::proofs::LayersLaws::param_open, crate::proofs::LayersLaws::param_fails, crate::proofs::LayersLaws::each_more, crate::proofs::AddedLaws::param_added, crate::proofs::ExtendsLaws::extends_grows))]
 fn one_param<'w, 'a>(
+    abi: Abi,
     tags: &Numbering,
     graph: &mut TypeGraph,
     left: u32,
@@ -344,12 +353,12 @@ fn one_param<'w, 'a>(
 ) -> Result<Params<'w, 'a>, Stop>
     requires tags { length tags.now ≤ length graph.old.aggs }
     requires types { EachType (length graph.old.nodes) params.types.items }
-    ensures gives { Gives (λ r. params_of graph.new.nodes r) result (param_more (shapes_of (shape graph.old.nodes) params.entry.types.items) (read_parameter tags.now left (all_said params.entry.rest.now))) }
+    ensures gives { Gives (λ r. params_of graph.new.nodes r) result (param_more (shapes_of (shape graph.old.nodes) params.entry.types.items) (read_parameter (bases_in abi tags.now) left (all_said params.entry.rest.now))) }
     ensures there { IfOk result (λ r. EachType (length graph.new.nodes) r.types.items) }
     ensures on { Extends graph.old graph.new }
     ensures adds { (f : Graph) → AddsParts f graph.old (listed (shapes_of (shape graph.old.nodes) params.entry.types.items)) → IfOk result (λ r. AddsParts f graph.new (listed (shapes_of (shape graph.new.nodes) r.types.items))) }
 {
-    let (param, rest) = read_decl(tags, graph, left, params.rest)?;
+    let (param, rest) = read_decl(abi, tags, graph, left, params.rest)?;
     let mut types = params.types;
     types.push(param.ty)?;
     match behind_parameter(rest) {
@@ -376,6 +385,7 @@ fn is_another(follows: Follows) -> bool
 #[cycle(declaration)]
 #[tactic(auto, using(crate::proofs::LayersLaws::params_start, crate::proofs::LayersLaws::params_end, crate::proofs::LayersLaws::params_variadic, crate::proofs::LayersLaws::params_over, crate::proofs::LayersLaws::params_stop, crate::proofs::ExtendsLaws::extends_none, crate::proofs::ExtendsLaws::extends_twice, crate::proofs::ExtendsLaws::extends_aggs, cil_text::proofs::PartsAdded::adds_none))]
 fn read_params<'w, 'a>(
+    abi: Abi,
     tags: &Numbering,
     graph: &mut TypeGraph,
     left: u32,
@@ -383,7 +393,7 @@ fn read_params<'w, 'a>(
     words: &'w [Word<'a>],
 ) -> Result<(Suffix, &'w [Word<'a>]), Stop>
     requires tags { length tags.now ≤ length graph.old.aggs }
-    ensures gives { Gives (λ r. (layer_of graph.new.nodes r.0, all_said r.1.now)) result (option_map called (read_params (read_parameter tags.now left) steps (all_said words.now))) }
+    ensures gives { Gives (λ r. (layer_of graph.new.nodes r.0, all_said r.1.now)) result (option_map called (read_params (read_parameter (bases_in abi tags.now) left) steps (all_said words.now))) }
     ensures there { IfOk result (λ r. LayerBelow (length graph.new.nodes) r.0) }
     ensures on { Extends graph.old graph.new }
     ensures adds { IfOk result (λ r. AddsParts graph.old graph.new (layer_types (layer_of graph.new.nodes r.0))) }
@@ -395,7 +405,7 @@ fn read_params<'w, 'a>(
     };
     let mut turns = steps;
     while turns > 0 && is_another(params.follows) {
-        params = one_param(tags, graph, left, params)?;
+        params = one_param(abi, tags, graph, left, params)?;
         turns -= 1;
     }
     let Params {

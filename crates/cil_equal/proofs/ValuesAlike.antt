@@ -61,7 +61,7 @@ unary_alike p q same m Compl (IntType k) v = refl
 unary_alike p q same m op s v = refl
 
 pointers_alike : (p q : Program) → Equal p q → (m : Memory) (op : BinOp) (s : Shape) (v w : Value) → pointers_value p.graph m op s v w ≡ pointers_value q.graph m op s v w
-pointers_alike p q same m Sub s v w = λ i. size_alike p q same s i >>= pointer_difference m v w
+pointers_alike p q same m Sub s v w = λ i. size_alike p q same s i >>= pointer_difference (same.abi i) m v w
 pointers_alike p q same m op s v w = refl
 
 binary_alike : (p q : Program) → Equal p q → (m : Memory) (op : BinOp) (s t : Shape) (v w : Value) → binary_value p.graph m op s t v w ≡ binary_value q.graph m op s t v w

@@ -5,8 +5,8 @@ use Rattle.std.proofs.lemmas.Bool.{le-leb}
 use Rattle.std.proofs.lemmas.List.{append-nil}
 use Rattle.std.proofs.lemmas.Option.{none-some}
 use Rattle.cil_base.specs.declared.kinds.Abi.{Abi}
-use Rattle.cil_base.specs.declared.kinds.Abi.TheVariants.{Lp64}
-use Rattle.cil_base.specs.declared.kinds.IntKind.TheVariants.{Bool as Boolean, Char, SChar, UChar, Short, UShort, Int, UInt, Long, ULong, LLong, ULLong}
+use Rattle.cil_base.specs.declared.kinds.Abi.TheVariants.{Lp64, Ilp32}
+use Rattle.cil_base.specs.declared.kinds.IntKind.TheVariants.{Bool as Boolean, Char, SChar, UChar, Short, UShort, Int, UInt, Long, ULong, LLong, ULLong, Long4, ULong4}
 use Rattle.byte_mem.specs.declared.pointers.ObjName.{ObjName}
 use Rattle.byte_mem.specs.declared.stores.Store.{Store}
 use Rattle.byte_mem.specs.declared.values.Byte.{Byte}
@@ -62,19 +62,22 @@ fresh_changed m n size g h e =
 
 -- a scalar has its place at the beginning of an object of its size
 first_place : (abi : Abi) (s : Scalar) → aligned (pos 0) (scalar_size abi s) (length (replicate (scalar_size abi s) Blank)) ≡ Some 0
-first_place Lp64 (OfKind Boolean) = refl
-first_place Lp64 (OfKind Char) = refl
-first_place Lp64 (OfKind SChar) = refl
-first_place Lp64 (OfKind UChar) = refl
-first_place Lp64 (OfKind Short) = refl
-first_place Lp64 (OfKind UShort) = refl
-first_place Lp64 (OfKind Int) = refl
-first_place Lp64 (OfKind UInt) = refl
-first_place Lp64 (OfKind Long) = refl
-first_place Lp64 (OfKind ULong) = refl
-first_place Lp64 (OfKind LLong) = refl
-first_place Lp64 (OfKind ULLong) = refl
+first_place abi (OfKind Boolean) = refl
+first_place abi (OfKind Char) = refl
+first_place abi (OfKind SChar) = refl
+first_place abi (OfKind UChar) = refl
+first_place abi (OfKind Short) = refl
+first_place abi (OfKind UShort) = refl
+first_place abi (OfKind Int) = refl
+first_place abi (OfKind UInt) = refl
+first_place abi (OfKind Long) = refl
+first_place abi (OfKind ULong) = refl
+first_place abi (OfKind LLong) = refl
+first_place abi (OfKind ULLong) = refl
+first_place abi (OfKind Long4) = refl
+first_place abi (OfKind ULong4) = refl
 first_place Lp64 OfPointer = refl
+first_place Ilp32 OfPointer = refl
 
 written_first : (new : List Byte) (n : ℕ) → length new ≡ n → write_at (new_held n Blank false) (Some 0) new ≡ Some (writable new)
 written_first new n e = ap (λ b. Some (writable b)) (whole_part new n Blank e)

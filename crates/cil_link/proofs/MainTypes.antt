@@ -3,7 +3,7 @@ use Rattle.std.proofs.Common.{◌≡◌, ◌<◌, ◌≤◌, ℕ, Bool, true, fa
 use Rattle.std.specs.declared.vec.Vec.{Vec}
 use Rattle.std.proofs.Common.{Global}
 use Rattle.cil_base.specs.declared.kinds.IntKind.{IntKind}
-use Rattle.cil_base.specs.declared.kinds.IntKind.TheVariants.{Bool as Truth, Char, SChar, UChar, Short, UShort, Int, UInt, Long, ULong, LLong, ULLong}
+use Rattle.cil_base.specs.declared.kinds.IntKind.TheVariants.{Bool as Truth, Char, SChar, UChar, Short, UShort, Int, UInt, Long, ULong, LLong, ULLong, Long4, ULong4}
 use Rattle.cil_base.specs.declared.numbers.TypeId.{TypeId}
 use Rattle.byte_mem.specs.declared.values.Byte.{Byte}
 use Rattle.byte_mem.specs.Steps.{◌>>=◌}
@@ -51,6 +51,8 @@ one_char p q kind more = elim kind as (λ k. words_start (MoreTypes (IntType Int
   | ULong ↦ refl
   | LLong ↦ refl
   | ULLong ↦ refl
+  | Long4 ↦ refl
+  | ULong4 ↦ refl
 ]
 
 one_argv : (t : Shape) (more : Shapes) → words_start (MoreTypes (IntType Int) (MoreTypes t more)) ≡ start_with (is_argv t && is_end more)
@@ -85,6 +87,8 @@ int_argv kind t more = elim kind as (λ k. words_start (MoreTypes (IntType k) (M
   | ULong ↦ refl
   | LLong ↦ refl
   | ULLong ↦ refl
+  | Long4 ↦ refl
+  | ULong4 ↦ refl
 ]
 
 two_argv : (s t : Shape) (more : Shapes) → words_start (MoreTypes s (MoreTypes t more)) ≡ start_with (is_int s && (is_argv t && is_end more))
@@ -109,6 +113,8 @@ int_alone kind = elim kind as (λ k. words_start (MoreTypes (IntType k) NoTypes)
   | ULong ↦ refl
   | LLong ↦ refl
   | ULLong ↦ refl
+  | Long4 ↦ refl
+  | ULong4 ↦ refl
 ]
 
 one_alone : (s : Shape) → words_start (MoreTypes s NoTypes) ≡ NotMain
@@ -181,6 +187,8 @@ int_start kind params proto variadic = elim kind as (λ k. start_of (FuncType (I
   | ULong ↦ refl
   | LLong ↦ refl
   | ULLong ↦ refl
+  | Long4 ↦ refl
+  | ULong4 ↦ refl
 ]
 
 -- how a run begins with a function, by its result

@@ -326,14 +326,14 @@ means_difference c es e f t u p q r d to also_to size is also room means means_t
       (both (λ v w. difference_at c.program.graph.abi (OfKind (long_of c.program.graph.abi)) m v w size) (term_value c.program.graph.abi m act OfPointer t) (scalar_value (activation c es act) m e) (term_value c.program.graph.abi m act OfPointer u) (scalar_value (activation c es act) m f)
       (means.at OfPointer (ap (λ o. o >>= scalar_in c.program.graph) is) m act) (means_too.at OfPointer (ap (λ o. o >>= scalar_in c.program.graph) also) m act)
       ∙ (each m (scalar_value (activation c es act) m e) (scalar_value (activation c es act) m f)
-      ∙ (ap (λ o. scalar_value (activation c es act) m e >>= λ v. scalar_value (activation c es act) m f >>= λ w. o >>= pointer_difference m v w) (sym room)
+      ∙ (ap (λ o. scalar_value (activation c es act) m e >>= λ v. scalar_value (activation c es act) m f >>= λ w. o >>= pointer_difference c.program.graph.abi m v w) (sym room)
       ∙ sym (binary_is (activation c es act) m Sub e f (PtrType r to) (PtrType d also_to) is also))));
 }
   where
-    each : (m : Memory) (o u : Option Value) → (o >>= λ v. u >>= λ w. difference_at c.program.graph.abi (OfKind (long_of c.program.graph.abi)) m v w size) ≡ (o >>= λ v. u >>= λ w. pointer_difference m v w size)
+    each : (m : Memory) (o u : Option Value) → (o >>= λ v. u >>= λ w. difference_at c.program.graph.abi (OfKind (long_of c.program.graph.abi)) m v w size) ≡ (o >>= λ v. u >>= λ w. pointer_difference c.program.graph.abi m v w size)
     each m None u = refl
     each m (Some v) None = refl
-    each m (Some v) (Some w) = of_long (long_of c.program.graph.abi) (pointer_difference m v w size)
+    each m (Some v) (Some w) = of_long (long_of c.program.graph.abi) (pointer_difference c.program.graph.abi m v w size)
 
 unless_int : (g : Graph) (b : Bool) (s : Scalar) → ((if b then None else Some (IntType int)) >>= scalar_in g) ≡ Some s → OfKind int ≡ s
 unless_int g true s h = none-some s h

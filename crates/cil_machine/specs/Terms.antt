@@ -77,7 +77,7 @@ difference_for abi (OfKind kind) v = if same_kind kind (long_of abi) then v else
 difference_for abi OfPointer v = None
 
 abbrev pub difference_at : Abi → Scalar → Memory → Value → Value → ℕ → Option Value
-difference_at abi s m v w size = difference_for abi s (pointer_difference m v w size)
+difference_at abi s m v w size = difference_for abi s (pointer_difference abi m v w size)
 
 -- what an operand, or two of them, give goes on; undefined where one is
 abbrev pub of_one : Option Value → (Value → Option Value) → Option Value

@@ -123,13 +123,9 @@ fn element(mem: &Store, size: u32, kind: IntKind, v: Value, i: Value) -> Option<
 /// The difference of two pointers (C11 6.5.6p9). Elements of no size are as far apart as their bytes where they are
 /// one (own).
 fn difference(mem: &Store, v: Value, w: Value, size: u32) -> Option<Value>
-    ensures difference { result ≡ pointer_difference (memory mem.now) v w size }
+    ensures difference { result ≡ pointer_difference mem.now.abi (memory mem.now) v w size }
     ensures value { IfSome result (IsValue mem.now.abi (Scalar.Int (long_of mem.now.abi))) }
 {
-    let p = v.pointer()?;
-    let q = w.pointer()?;
-    let _ = mem.live_size(p.name)?;
-    let _ = mem.live_size(q.name)?;
     if size == 0 {
         no_elements(mem, v, w)
     } else {
@@ -138,8 +134,9 @@ fn difference(mem: &Store, v: Value, w: Value, size: u32) -> Option<Value>
 }
 
 /// The difference of two pointers to elements of no size, which is 0 where they are one.
+#[tactic(auto, using(cil_base::proofs::KindLaws::zero_fits))]
 fn no_elements(mem: &Store, v: Value, w: Value) -> Option<Value>
-    ensures difference { result ≡ pointer_difference (memory mem.now) v w 0 }
+    ensures difference { result ≡ pointer_difference mem.now.abi (memory mem.now) v w 0 }
     ensures value { IfSome result (IsValue mem.now.abi (Scalar.Int (long_of mem.now.abi))) }
 {
     match mem.pointer_difference(v, w, 1)? {

@@ -68,14 +68,15 @@ fn aggregate(units: &[Fronted], u: UnitNo, a: AggId) -> Result<&Aggregate, Memor
 }
 
 /// An aggregate for each class, in the order of the classes, without members.
-#[tactic(auto, using(crate::proofs::ClassLaws::none_begun, crate::proofs::ClassLaws::begun_next, crate::proofs::ClassLaws::begun_all))]
+#[tactic(auto, using(crate::proofs::ClassLaws::none_begun, crate::proofs::ClassLaws::begun_next, crate::proofs::ClassLaws::begun_all, type_graph::proofs::GrowthLaws::grows_none, type_graph::proofs::GrowthLaws::grows_twice))]
 fn add_classes(
     units: &[Fronted],
     stands: &[(UnitNo, AggId)],
     graph: &mut TypeGraph,
 ) -> Result<(), Memory>
     requires { graph.old.aggs ≡ [] }
-    ensures { OnOk result (AreBegun units.now stands.now (length stands.now) graph.new.aggs) }
+    ensures begun { OnOk result (AreBegun units.now stands.now (length stands.now) graph.new.aggs) }
+    ensures grows { OnOk result (Grows graph.old graph.new) }
 {
     for k in 0..stands.len() {
         let at = stands[k];
@@ -212,14 +213,15 @@ fn complete_classes(
     Ok(())
 }
 
-/// The types of the program that units become, whose aggregates are the classes.
+/// The types of the program that units become, whose aggregates are the classes, in a data model.
 pub(crate) fn arena_of(
     alloc: Global,
     units: &[Fronted],
     classes: &Classes,
     abi: Abi,
 ) -> Result<Arena, Memory>
-    ensures { IfOk result (λ r. HasTypes classes.now units.now r.graph) }
+    ensures types { IfOk result (λ r. HasTypes classes.now units.now r.graph) }
+    ensures model { IfOk result (λ r. r.graph.abi ≡ abi) }
 {
     let mut graph = TypeGraph::new_for(alloc, abi);
     let stands = representatives(alloc, classes)?;

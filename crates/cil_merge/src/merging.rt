@@ -70,7 +70,8 @@ fn joined(
     classes: &Classes,
     mode: Mode,
 ) -> Result<CilUnit, Memory>
-    ensures { IfOk result (IsJoined classes.now units.items) }
+    ensures joined { IfOk result (IsJoined classes.now units.items) }
+    ensures model { IfOk result (λ u. u.graph.abi ≡ mode.abi) }
 {
     let mut arena = arena_of(alloc, &units, classes, mode.abi)?;
     let globals = all_globals(alloc, &units, &arena)?;
@@ -93,6 +94,7 @@ fn merged(
 ) -> Result<CilUnit, Memory>
     ensures stays { Stays names.old names.new }
     ensures merged { IfOk result (IsNamedAndJoined (map (λ l. l.name) links.now.names.items) names.new classes.now units.items) }
+    ensures model { IfOk result (λ u. u.graph.abi ≡ mode.abi) }
 {
     let mut units = units;
     rename(alloc, &mut units, links, classes, names)?;
@@ -116,7 +118,7 @@ fn classes_of(
 }
 
 /// The program that units become (C11 5.1.1.1): each external name is one object or function (6.2.2p2), each class of structs, unions and
-/// enums one type, and every other name is made distinct.
+/// enums one type, and every other name is made distinct. It has the data model of the mode.
 ///
 /// It refuses with `Duplicate` where two units define one name, and else with `Incompatible` where two declare one with types that do not
 /// correspond (6.2.7p2), for the first link that lets the links up to it correspond in no way: at the first declaration in the later unit,
@@ -132,6 +134,7 @@ pub fn merge(
     ensures once { OnOk result (first_twice mode.common (grouped (declared_from 0 units.items)) ≡ None) }
     ensures correspond { OnOk result (Correspond names.old (graphs_of units.items) (grouped (declared_from 0 units.items))) }
     ensures merged { IfOk result (IsMerged mode.common names.old names.new units.items) }
+    ensures model { IfOk result (λ u. u.graph.abi ≡ mode.abi) }
     ensures refused { IfErr result (IsMergeRefusal mode.common names.old (graphs_of units.items) (grouped (declared_from 0 units.items))) }
 {
     let links = links(alloc, &units, mode)?;

@@ -1,7 +1,7 @@
 -- Device: what the parts of declarations are.
 use Rattle.std.proofs.Common.{◌≡◌, ℕ, zero, suc, ◌<◌, ◌≤◌, Bool, true, false, List, [], ◌∷◌, ◌++◌, Option, Some, None, length, slice_get, get_or, drop, codes, refl, sym, ap, ◌∙◌, append-nil, cond, arith}
 use Rattle.cil_base.specs.declared.kinds.IntKind.{IntKind}
-use Rattle.cil_base.specs.declared.kinds.IntKind.TheVariants.{Bool as Boolean, Char, SChar, UChar, Short, UShort, Int as int, UInt, Long, ULong, LLong, ULLong}
+use Rattle.cil_base.specs.declared.kinds.IntKind.TheVariants.{Bool as Boolean, Char, SChar, UChar, Short, UShort, Int as int, UInt, Long, ULong, LLong, ULLong, Long4, ULong4}
 use Rattle.cil_base.specs.declared.numbers.TypeId.{TypeId}
 use Rattle.cil_base.specs.Integer.{words_of}
 use Rattle.type_graph.specs.declared.aggregates.Aggregate.{Aggregate}
@@ -36,6 +36,8 @@ kind_spaced Long = refl
 kind_spaced ULong = refl
 kind_spaced LLong = refl
 kind_spaced ULLong = refl
+kind_spaced Long4 = refl
+kind_spaced ULong4 = refl
 
 pub kind_pushed : (o a : Output) (kind : IntKind) (words : List ℕ) → words ≡ words_of kind → a ≡ puts o (words ∷ []) → a ≡ puts o (kind_words kind)
 unfolding puts
@@ -62,6 +64,8 @@ kind_started Long = refl
 kind_started ULong = refl
 kind_started LLong = refl
 kind_started ULLong = refl
+kind_started Long4 = refl
+kind_started ULong4 = refl
 
 there : {A : Type 0} (xs : List A) (i : ℕ) → i < length xs → (x : A) × (slice_get xs i ≡ Some x)
 there [] i h = absurd (omega arith)

@@ -132,10 +132,13 @@ stepped f s r t xs ys ss grows same first second old new =
     by u (inr a) = new u a
 
 pub added_none : (g : Graph) (names : List (List ℕ)) → AggregatesAdded g g names names
-added_none g names = record { added = λ f m. m }
+added_none g names = record { added = λ f m. m; model = refl }
 
 pub added_twice : (g h i : Graph) (names later last : List (List ℕ)) → AggregatesAdded g h names later → AggregatesAdded h i later last → AggregatesAdded g i names last
-added_twice g h i names later last p q = record { added = λ f m. q.added f (p.added f m) }
+added_twice g h i names later last p q = record { added = λ f m. q.added f (p.added f m); model = q.model ∙ p.model }
+
+pub added_model : (g h : Graph) (names later : List (List ℕ)) → AggregatesAdded g h names later → h.abi ≡ g.abi
+added_model g h names later a = a.model
 
 pub left_added : (s t : Setting) (names : List (List ℕ)) → t.graph ≡ s.graph → AggregatesAdded s.graph t.graph names names
 left_added s t names e = subst (λ (g : Graph). AggregatesAdded s.graph g names names) (sym e) (added_none s.graph names)
@@ -171,7 +174,7 @@ pub enum_added : (s r q t : Setting) (names later last : List (List ℕ)) (k : �
     enumerators_from [] ls ≡ Some (members_in r.graph.nodes later ms, vs) → MembersKnown r.graph later ms → KeepsNames later last → AddsTag r.graph q.graph last Enum tag → a.0 ≡ length r.graph.aggs → completed q.graph a ms ≡ Some t.graph →
     Some (IntType int) ≡ Some (shape r.graph.nodes i.0) → AddsParts s.graph r.graph (shape r.graph.nodes i.0 ∷ []) → AggregatesAdded s.graph t.graph names last
 enum_added s r q t names later last k i a ms tag ls vs h grows same keeps e m keeps' adds at c is int_added =
-    record { added = λ f before. record { part = λ filled. subst (λ (zs : List SeenAggregate). AddsParts f t.graph (member_types zs)) (sym now) (step f before (ap (list_all is_filled) (sym now) ∙ filled)) } }
+    record { added = λ f before. record { part = λ filled. subst (λ (zs : List SeenAggregate). AddsParts f t.graph (member_types zs)) (sym now) (step f before (ap (list_all is_filled) (sym now) ∙ filled)) }; model = ap (λ (g : Graph). g.abi) (completed_some q.graph t.graph a ms c).3 ∙ ap (λ (g : Graph). g.abi) adds.is ∙ grows.abi }
   where
     xs : List SeenAggregate
     xs = aggregates_in s.graph names
@@ -202,7 +205,7 @@ enum_added s r q t names later last k i a ms tag ls vs h grows same keeps e m ke
 
 pub tag_added : (s t : Setting) (names later : List (List ℕ)) (k : ℕ) (kind : AggKind) (tag : List ℕ) → Holds s names k → KeepsNames names later → AddsTag s.graph t.graph later kind tag → AggregatesAdded s.graph t.graph names later
 tag_added s t names later k kind tag h keeps adds =
-    record { added = λ f before. record { part = λ filled. subst (λ (zs : List SeenAggregate). AddsParts f t.graph (member_types zs)) (sym now) (step f before (ap (list_all is_filled) (sym now) ∙ filled)) } }
+    record { added = λ f before. record { part = λ filled. subst (λ (zs : List SeenAggregate). AddsParts f t.graph (member_types zs)) (sym now) (step f before (ap (list_all is_filled) (sym now) ∙ filled)) }; model = ap (λ (g : Graph). g.abi) adds.is }
   where
     xs : List SeenAggregate
     xs = aggregates_in s.graph names
@@ -223,7 +226,7 @@ tag_added s t names later k kind tag h keeps adds =
 pub complete_added : (s r t : Setting) (names later : List (List ℕ)) (a : AggId) (ms : List Member) (x : Names) → Holds s names a.0 → AreOpen (drop a.0 (aggregates_in s.graph names)) → Grows s.graph r.graph → KeepsAggregates s.graph r.graph → KeepsNames names later →
     FieldsKnown r.graph later ms x → AddsParts s.graph r.graph (types_at r.graph.nodes x.types.items) → completed r.graph a ms ≡ Some t.graph → AggregatesAdded s.graph t.graph names later
 complete_added s r t names later a ms x h o grows same keeps k adds c =
-    record { added = λ f before. record { part = λ filled. subst (λ (zs : List SeenAggregate). AddsParts f t.graph (member_types zs)) (sym now) (step f before (ap (list_all is_filled) (sym now) ∙ filled)) } }
+    record { added = λ f before. record { part = λ filled. subst (λ (zs : List SeenAggregate). AddsParts f t.graph (member_types zs)) (sym now) (step f before (ap (list_all is_filled) (sym now) ∙ filled)) }; model = ap (λ (g : Graph). g.abi) found.3 ∙ grows.abi }
   where
     xs : List SeenAggregate
     xs = aggregates_in r.graph later

@@ -10,6 +10,7 @@ use Rattle.std.proofs.lemmas.Option.{slice_get-map}
 use Rattle.std.proofs.lemmas.Slice.Eq.{bytes_eq-Decides}
 use Rattle.std.proofs.Math.ListN.{drop_of_length-le, length-set}
 use Rattle.std.proofs.Math.Seq.{drop-append_seam, take-append_seam}
+use Rattle.cil_base.specs.declared.kinds.Abi.{Abi}
 use Rattle.cil_base.specs.declared.kinds.IntKind.TheVariants.{Int as int}
 use Rattle.cil_base.specs.declared.numbers.AggId.{AggId}
 use Rattle.cil_base.specs.declared.numbers.NameId.{NameId}
@@ -35,19 +36,20 @@ use Rattle.cil_tree.specs.Programs.{SeenMember, SeenAggregate, seen_member, seen
 use Rattle.cil_text.specs.Words.{Word, Comma, Assign, Name, TagWord, Semicolon}
 use Rattle.cil_text.specs.Allowed.{allowed, members_among, is_complete, is_flexible, can_hold, member_name_of, stands_well, stand_well}
 use Rattle.cil_text.specs.Allowed as reading
-use Rattle.cil_text.specs.ReadTypes.{find}
-use Rattle.cil_text.specs.ReadExps.{Env}
+use Rattle.cil_text.specs.ReadTypes.{Bases, find}
+use Rattle.cil_text.specs.ReadExps.{Env, bases}
 use Rattle.cil_text.specs.ReadStmts.{Numbered, read_number}
-use Rattle.cil_text.specs.ReadAggregates.{Lines, LinesReading, enumerator_at, read_enumerator, read_member, member_first, is_close, read_members, opened_tag, lone_tag, enum_with, aggregate_first, read_enums, Tag, tag_first, read_tags, complete_with, incomplete, is_opened, read_structs, tag_of, tag_text_of, all_tags, with_enums, structs_from, first_allowed, read_placed}
-use Rattle.cil_text.specs.ReadGlobals.{seen_field, seen_fields}
+use Rattle.cil_text.specs.ReadAggregates.{Lines, LinesReading, enumerator_at, read_enumerator, read_member, member_first, is_close, read_members, opened_tag, lone_tag, enum_with, aggregate_first, read_enums, Tag, tag_first, read_tags, complete_with, incomplete, is_opened, read_structs, tag_of, tag_text_of, all_tags, all_bases, with_enums, structs_from, first_allowed, read_placed}
+use Rattle.cil_text.specs.ReadGlobals.{seen_field, seen_fields, bases_from}
 use Rattle.cil_reader.specs.declared.names.Names.{Names}
 use Rattle.cil_reader.specs.declared.names.Known.{Known}
 use Rattle.cil_reader.specs.Settings.{Setting, KnownIn, zipped, locals_of, env_of, env_in}
+use Rattle.cil_declarators.specs.Bases.{bases_in}
 use Rattle.cil_declarators.specs.Fresh.{with_new}
 use Rattle.cil_reader.specs.Pools.{KeepsNames}
 use Rattle.cil_reader.specs.Members.{AreThere, may_hold, may_complete, member_in, members_in, MembersKnown, type_number, FieldsKnown, enumerator_with, members_behind, enumerators_from, members_apart, members_from}
-use Rattle.cil_reader.specs.Aggregates.{program_with, aggregates_in, AggregatesKnown, Holds, IsBlank, AddsTag, completed, with_fields, is_number, enum_behind, one_enum, one_more, enum_if, next_enum, tags_apart, enums_from, enums_on, with_tag, tag_before, tag_if, next_tag, tags_behind, tags_from, tags_on, bit, tag_back, AreOpen, ArePlain, first_tag, tag_at, complete_behind, one_complete, own_if, own_members, one_struct, stands_behind, structs_behind, structs_after, tagged_structs}
-use Rattle.cil_reader.proofs.SettingsLaws.{setting_kept}
+use Rattle.cil_reader.specs.Aggregates.{program_with, aggregates_in, AggregatesKnown, Holds, IsBlank, AddsTag, completed, with_fields, is_number, enum_behind, one_enum, one_more, enum_if, next_enum, tags_apart, enums_from, enums_on, with_tag, tag_before, tag_if, next_tag, tags_behind, tags_from, tags_on, bit, tag_back, AreOpen, ArePlain, first_tag, tag_at, complete_behind, one_complete, own_if, own_members, one_struct, stands_behind, structs_behind, structs_after, tagged_structs, AggregatesAdded}
+use Rattle.cil_reader.proofs.SettingsLaws.{setting_kept, setting_model}
 use Rattle.cil_reader.proofs.MemberLaws.{locals_known, both_true, all_joined, different_without, different_more, different_front, new_some, new_none, text_is}
 use Rattle.cil_reader.proofs.PoolLaws.{pool_twice}
 
@@ -143,27 +145,27 @@ locals_kept : (g h : Graph) (k : Known) (x : Names) → Grows g h → KnownIn g 
 unfolding env_in env_of
 locals_kept g h k x r known e = ap (λ (env : Env). env.locals) (setting_kept (setting g (record k { locals = x })) (setting h (record k { locals = x })) r (locals_known g k x known e) refl)
 
-with_more : (nodes : List Node) (k : Known) (v : Vec Names Global) (x : Names) → v.items ≡ k.members.items ++ x ∷ [] → env_of nodes (record k { members = v }) ≡ with_fields (env_of nodes k) (locals_of nodes x)
+with_more : (g : Graph) (k : Known) (v : Vec Names Global) (x : Names) → v.items ≡ k.members.items ++ x ∷ [] → env_of g (record k { members = v }) ≡ with_fields (env_of g k) (locals_of g.nodes x)
 unfolding env_of
-with_more nodes k v x e =
-    ap (λ ms. record { tags = k.tags; members = ms; globals = locals_of nodes k.globals; locals = locals_of nodes k.locals })
-    (ap (map (locals_of nodes)) e ∙ map-append (locals_of nodes) k.members.items (x ∷ []))
+with_more g k v x e =
+    ap (λ ms. record { abi = g.abi; tags = k.tags; members = ms; globals = locals_of g.nodes k.globals; locals = locals_of g.nodes k.locals })
+    (ap (map (locals_of g.nodes)) e ∙ map-append (locals_of g.nodes) k.members.items (x ∷ []))
 
 pub fields_env : (s t : Setting) (v : Vec Names Global) (x : Names) → Grows s.graph t.graph → KnownIn s.graph s.known → EachType (length s.graph.nodes) x.types.items → v.items ≡ s.known.members.items ++ x ∷ [] → t.known ≡ record s.known { members = v } → env_in t ≡ with_fields (env_in s) (locals_of s.graph.nodes x)
 unfolding env_in
 fields_env s t v x r known e is same =
-    ap (env_of t.graph.nodes) same
-    ∙ with_more t.graph.nodes s.known v x is
+    ap (env_of t.graph) same
+    ∙ with_more t.graph s.known v x is
     ∙ ap (λ env. with_fields env (locals_of t.graph.nodes x)) (setting_kept s (record { graph = t.graph; known = s.known }) r known refl)
-    ∙ ap (with_fields (env_of s.graph.nodes s.known)) (locals_kept s.graph t.graph s.known x r known e)
+    ∙ ap (with_fields (env_of s.graph s.known)) (locals_kept s.graph t.graph s.known x r known e)
 
 pub nothing_env : (s t : Setting) (v : Vec Names Global) (x : Names) → t.graph ≡ s.graph → x.numbering ≡ [] → v.items ≡ s.known.members.items ++ x ∷ [] → t.known ≡ record s.known { members = v } → env_in t ≡ with_fields (env_in s) []
 unfolding env_in
 nothing_env s t v x graph none is same =
-    ap (env_of t.graph.nodes) same
-    ∙ ap (λ (g : Graph). env_of g.nodes (record s.known { members = v })) graph
-    ∙ with_more s.graph.nodes s.known v x is
-    ∙ ap (λ ns. with_fields (env_of s.graph.nodes s.known) (zipped s.graph.nodes ns x.types.items)) none
+    ap (env_of t.graph) same
+    ∙ ap (λ (g : Graph). env_of g (record s.known { members = v })) graph
+    ∙ with_more s.graph s.known v x is
+    ∙ ap (λ ns. with_fields (env_of s.graph s.known) (zipped s.graph.nodes ns x.types.items)) none
 
 pub tag_members : (s t : Setting) (ts : List (List ℕ)) → t.graph.nodes ≡ s.graph.nodes → t.known ≡ record s.known { tags = ts } → (env_in t).members ≡ (env_in s).members
 unfolding env_in env_of
@@ -530,28 +532,28 @@ refused_now g names a ms of ls vs o less flat e f =
     ∙ behind_by (take a.0 xs) t (members_in g.nodes names ms) vs false (stands_by (take a.0 xs) t (members_in g.nodes names ms) false true (complete_unfit g names a ms o less f) flat from.1)
 
 pub complete_gives : (s r t : Setting) (names later : List (List ℕ)) (a : AggId) (ms : List Member) (n : ℕ) (ls vs : Lines) → Holds s names a.0 → a.0 < length s.graph.aggs → AreOpen (drop a.0 (aggregates_in s.graph names)) → ArePlain (drop a.0 (aggregates_in s.graph names)) →
-    Grows s.graph r.graph → KeepsAggregates s.graph r.graph → KeepsNames names later → members_from (read_member (env_in s).tags n) [] ls ≡ Some (members_in r.graph.nodes later ms, vs) → completed r.graph a ms ≡ Some t.graph →
-    one_complete (read_member (env_in s).tags n) (take a.0 (aggregates_in s.graph names)) (tag_at a.0 (aggregates_in s.graph names)) ls ≡ Some (take (a.0 + 1) (aggregates_in t.graph later), vs)
+    Grows s.graph r.graph → KeepsAggregates s.graph r.graph → KeepsNames names later → members_from (read_member (bases (env_in s)) n) [] ls ≡ Some (members_in r.graph.nodes later ms, vs) → completed r.graph a ms ≡ Some t.graph →
+    one_complete (read_member (bases (env_in s)) n) (take a.0 (aggregates_in s.graph names)) (tag_at a.0 (aggregates_in s.graph names)) ls ≡ Some (take (a.0 + 1) (aggregates_in t.graph later), vs)
 complete_gives s r t names later a ms n ls vs h less o plain grows same q e f =
     let now = open_later s.graph r.graph names later a.0 h.seen grows same q o in
     let flat = plain_at (aggregates_in r.graph later) a.0 (omega (arith, less, count_in r.graph later, ap length same.0)) (plain_later s.graph r.graph names later a.0 h.seen grows same q plain) in
-    ap (λ xs. one_complete (read_member (env_in s).tags n) (take a.0 xs) (tag_at a.0 xs) ls) (sym (seen_later s.graph r.graph names later h.seen grows same q))
-    ∙ complete_now r.graph t.graph later a ms (read_member (env_in s).tags n) ls vs now flat e f
+    ap (λ xs. one_complete (read_member (bases (env_in s)) n) (take a.0 xs) (tag_at a.0 xs) ls) (sym (seen_later s.graph r.graph names later h.seen grows same q))
+    ∙ complete_now r.graph t.graph later a ms (read_member (bases (env_in s)) n) ls vs now flat e f
     ∙ ap (λ k. Some (take k (aggregates_in t.graph later), vs)) (sym (plus_one a.0))
 
 pub complete_refused : (s r : Setting) (names later : List (List ℕ)) (a : AggId) (ms : List Member) (n : ℕ) (ls vs : Lines) → Holds s names a.0 → a.0 < length s.graph.aggs → AreOpen (drop a.0 (aggregates_in s.graph names)) → ArePlain (drop a.0 (aggregates_in s.graph names)) →
-    Grows s.graph r.graph → KeepsAggregates s.graph r.graph → KeepsNames names later → members_from (read_member (env_in s).tags n) [] ls ≡ Some (members_in r.graph.nodes later ms, vs) → completed r.graph a ms ≡ None →
-    one_complete (read_member (env_in s).tags n) (take a.0 (aggregates_in s.graph names)) (tag_at a.0 (aggregates_in s.graph names)) ls ≡ None
+    Grows s.graph r.graph → KeepsAggregates s.graph r.graph → KeepsNames names later → members_from (read_member (bases (env_in s)) n) [] ls ≡ Some (members_in r.graph.nodes later ms, vs) → completed r.graph a ms ≡ None →
+    one_complete (read_member (bases (env_in s)) n) (take a.0 (aggregates_in s.graph names)) (tag_at a.0 (aggregates_in s.graph names)) ls ≡ None
 complete_refused s r names later a ms n ls vs h less o plain grows same q e f =
     let now = open_later s.graph r.graph names later a.0 h.seen grows same q o in
     let flat = plain_at (aggregates_in r.graph later) a.0 (omega (arith, less, count_in r.graph later, ap length same.0)) (plain_later s.graph r.graph names later a.0 h.seen grows same q plain) in
-    ap (λ xs. one_complete (read_member (env_in s).tags n) (take a.0 xs) (tag_at a.0 xs) ls) (sym (seen_later s.graph r.graph names later h.seen grows same q))
-    ∙ refused_now r.graph later a ms (read_member (env_in s).tags n) ls vs now (omega (arith, less, ap length same.0)) flat e f
+    ap (λ xs. one_complete (read_member (bases (env_in s)) n) (take a.0 xs) (tag_at a.0 xs) ls) (sym (seen_later s.graph r.graph names later h.seen grows same q))
+    ∙ refused_now r.graph later a ms (read_member (bases (env_in s)) n) ls vs now (omega (arith, less, ap length same.0)) flat e f
 
-pub complete_fails : (s : Setting) (names : List (List ℕ)) (a : AggId) (n : ℕ) (ls : Lines) → a.0 < length s.graph.aggs → ArePlain (drop a.0 (aggregates_in s.graph names)) → members_from (read_member (env_in s).tags n) [] ls ≡ None →
-    one_complete (read_member (env_in s).tags n) (take a.0 (aggregates_in s.graph names)) (tag_at a.0 (aggregates_in s.graph names)) ls ≡ None
+pub complete_fails : (s : Setting) (names : List (List ℕ)) (a : AggId) (n : ℕ) (ls : Lines) → a.0 < length s.graph.aggs → ArePlain (drop a.0 (aggregates_in s.graph names)) → members_from (read_member (bases (env_in s)) n) [] ls ≡ None →
+    one_complete (read_member (bases (env_in s)) n) (take a.0 (aggregates_in s.graph names)) (tag_at a.0 (aggregates_in s.graph names)) ls ≡ None
 unfolding members_from
-complete_fails s names a n ls less plain e = by (read_members (read_member (env_in s).tags n) ls) e
+complete_fails s names a n ls less plain e = by (read_members (read_member (bases (env_in s)) n) ls) e
   where
     xs : List SeenAggregate
     xs = aggregates_in s.graph names
@@ -943,24 +945,31 @@ tags_next_at a xs less =
     ∙ ap (λ ys. first_tag ys ∷ map tag_back (drop (suc a) xs)) (sym e)
     ∙ ap (λ k. tag_at a xs ∷ map tag_back (drop k xs)) (sym (plus_one a))
 
-pub structs_begin : (s : Setting) (names : List (List ℕ)) (k n : ℕ) (xs : List SeenAggregate) (ls vs : Lines) → Holds s names k → tags_from xs ls ≡ Some (aggregates_in s.graph names, vs) →
-    structs_behind (read_member (env_in s).tags n) (take k (aggregates_in s.graph names)) (map tag_back (drop k (aggregates_in s.graph names))) vs ≡ tagged_structs n k xs ls
-structs_begin s names k n xs ls vs h e =
+-- what base words are read by, where the tags are those of all aggregates
+read_by : (s : Setting) (names : List (List ℕ)) (k : ℕ) (abi : Abi) → Holds s names k → s.graph.abi ≡ abi → bases (env_in s) ≡ bases_from abi (aggregates_in s.graph names)
+read_by s names k abi h model = ap (λ (a : Abi). bases_in a (env_in s).tags) (setting_model s ∙ model) ∙ ap (bases_in abi) h.tags
+
+read_alike : (s t : Setting) → (env_in t).tags ≡ (env_in s).tags → t.graph.abi ≡ s.graph.abi → bases (env_in t) ≡ bases (env_in s)
+read_alike s t tags model = ap (λ (a : Abi). bases_in a (env_in t).tags) (setting_model t ∙ model ∙ sym (setting_model s)) ∙ ap (bases_in (env_in s).abi) tags
+
+pub structs_begin : (f : Graph) (s : Setting) (old names : List (List ℕ)) (k n : ℕ) (xs : List SeenAggregate) (ls vs : Lines) → AggregatesAdded f s.graph old names → Holds s names k → tags_from xs ls ≡ Some (aggregates_in s.graph names, vs) →
+    structs_behind (read_member (bases (env_in s)) n) (take k (aggregates_in s.graph names)) (map tag_back (drop k (aggregates_in s.graph names))) vs ≡ tagged_structs f.abi n k xs ls
+structs_begin f s old names k n xs ls vs a h e =
     let ys = aggregates_in s.graph names in
-    ap (λ ts. structs_behind (read_member ts n) (take k ys) (map tag_back (drop k ys)) vs) h.tags ∙ sym (ap (option_and_then (structs_after n k)) e)
+    ap (λ (b : Bases). structs_behind (read_member b n) (take k ys) (map tag_back (drop k ys)) vs) (read_by s names k f.abi h a.model) ∙ sym (ap (option_and_then (structs_after f.abi n k)) e)
 
-pub structs_none : (n k : ℕ) (xs : List SeenAggregate) (ls : Lines) → tags_from xs ls ≡ None → tagged_structs n k xs ls ≡ None
-structs_none n k xs ls e = ap (option_and_then (structs_after n k)) e
+pub structs_none : (abi : Abi) (n k : ℕ) (xs : List SeenAggregate) (ls : Lines) → tags_from xs ls ≡ None → tagged_structs abi n k xs ls ≡ None
+structs_none abi n k xs ls e = ap (option_and_then (structs_after abi n k)) e
 
-pub structs_next : (s t : Setting) (names later : List (List ℕ)) (n a : ℕ) (ls vs : Lines) (whole : LinesReading (List SeenAggregate)) → a < length s.graph.aggs → (env_in t).tags ≡ (env_in s).tags →
-    one_struct (read_member (env_in s).tags n) (take a (aggregates_in s.graph names)) (tag_at a (aggregates_in s.graph names)) ls ≡ Some (take (a + 1) (aggregates_in t.graph later), vs) → drop (a + 1) (aggregates_in t.graph later) ≡ drop (a + 1) (aggregates_in s.graph names) →
-    structs_behind (read_member (env_in s).tags n) (take a (aggregates_in s.graph names)) (map tag_back (drop a (aggregates_in s.graph names))) ls ≡ whole →
-    structs_behind (read_member (env_in t).tags n) (take (a + 1) (aggregates_in t.graph later)) (map tag_back (drop (a + 1) (aggregates_in t.graph later))) vs ≡ whole
-structs_next s t names later n a ls vs whole less same e rest inv =
+pub structs_next : (s t : Setting) (names later : List (List ℕ)) (n a : ℕ) (ls vs : Lines) (whole : LinesReading (List SeenAggregate)) → a < length s.graph.aggs → (env_in t).tags ≡ (env_in s).tags → AggregatesAdded s.graph t.graph names later →
+    one_struct (read_member (bases (env_in s)) n) (take a (aggregates_in s.graph names)) (tag_at a (aggregates_in s.graph names)) ls ≡ Some (take (a + 1) (aggregates_in t.graph later), vs) → drop (a + 1) (aggregates_in t.graph later) ≡ drop (a + 1) (aggregates_in s.graph names) →
+    structs_behind (read_member (bases (env_in s)) n) (take a (aggregates_in s.graph names)) (map tag_back (drop a (aggregates_in s.graph names))) ls ≡ whole →
+    structs_behind (read_member (bases (env_in t)) n) (take (a + 1) (aggregates_in t.graph later)) (map tag_back (drop (a + 1) (aggregates_in t.graph later))) vs ≡ whole
+structs_next s t names later n a ls vs whole less same added e rest inv =
     let xs = aggregates_in s.graph names in
     let ys = aggregates_in t.graph later in
-    let of = read_member (env_in s).tags n in
-    ap (λ ts. structs_behind (read_member ts n) (take (a + 1) ys) (map tag_back (drop (a + 1) ys)) vs) same
+    let of = read_member (bases (env_in s)) n in
+    ap (λ (b : Bases). structs_behind (read_member b n) (take (a + 1) ys) (map tag_back (drop (a + 1) ys)) vs) (read_alike s t same added.model)
     ∙ ap (λ zs. structs_behind of (take (a + 1) ys) (map tag_back zs) vs) rest
     ∙ sym (
     ap (λ zs. structs_behind of (take a xs) zs ls) (tags_next_at a xs (omega (arith, less, count_in s.graph names)))
@@ -969,24 +978,24 @@ structs_next s t names later n a ls vs whole less same e rest inv =
     ∙ inv
 
 pub structs_fail : (s : Setting) (names : List (List ℕ)) (n a : ℕ) (ls : Lines) (whole : LinesReading (List SeenAggregate)) → a < length s.graph.aggs →
-    one_struct (read_member (env_in s).tags n) (take a (aggregates_in s.graph names)) (tag_at a (aggregates_in s.graph names)) ls ≡ None →
-    structs_behind (read_member (env_in s).tags n) (take a (aggregates_in s.graph names)) (map tag_back (drop a (aggregates_in s.graph names))) ls ≡ whole → whole ≡ None
+    one_struct (read_member (bases (env_in s)) n) (take a (aggregates_in s.graph names)) (tag_at a (aggregates_in s.graph names)) ls ≡ None →
+    structs_behind (read_member (bases (env_in s)) n) (take a (aggregates_in s.graph names)) (map tag_back (drop a (aggregates_in s.graph names))) ls ≡ whole → whole ≡ None
 structs_fail s names n a ls whole less e inv =
     let xs = aggregates_in s.graph names in
-    let of = read_member (env_in s).tags n in
+    let of = read_member (bases (env_in s)) n in
     sym inv
     ∙ ap (λ zs. structs_behind of (take a xs) zs ls) (tags_next_at a xs (omega (arith, less, count_in s.graph names)))
     ∙ structs_by of (take a xs) (tag_at a xs) (map tag_back (drop (a + 1) xs)) ls
     ∙ ap (option_and_then (structs_on of (map tag_back (drop (a + 1) xs)))) e
 
 pub structs_end : (s : Setting) (names : List (List ℕ)) (n a : ℕ) (ls : Lines) (whole : LinesReading (List SeenAggregate)) → length s.graph.aggs ≤ a →
-    structs_behind (read_member (env_in s).tags n) (take a (aggregates_in s.graph names)) (map tag_back (drop a (aggregates_in s.graph names))) ls ≡ whole → whole ≡ Some (aggregates_in s.graph names, ls)
+    structs_behind (read_member (bases (env_in s)) n) (take a (aggregates_in s.graph names)) (map tag_back (drop a (aggregates_in s.graph names))) ls ≡ whole → whole ≡ Some (aggregates_in s.graph names, ls)
 unfolding structs_behind
 structs_end s names n a ls whole less inv =
     let xs = aggregates_in s.graph names in
     let past : length xs ≤ a = omega (arith, less, count_in s.graph names) in
     sym inv
-    ∙ ap (λ zs. structs_behind (read_member (env_in s).tags n) (take a xs) (map tag_back zs) ls) (drop_of_length-le xs past)
+    ∙ ap (λ zs. structs_behind (read_member (bases (env_in s)) n) (take a xs) (map tag_back zs) ls) (drop_of_length-le xs past)
     ∙ ap (λ zs. Some (zs, ls)) (append-nil (take a xs) ∙ take_all a xs past)
 
 pub structs_open : (a : ℕ) (xs ys : List SeenAggregate) → AreOpen (drop a xs) → a < length xs → drop (a + 1) ys ≡ drop (a + 1) xs → AreOpen (drop (a + 1) ys)
@@ -1156,11 +1165,11 @@ enums_stand (suc n) (line ∷ ls) before r e = by (opened_tag line) (λ ks zs u.
     by None again f = let same : ([], line ∷ ls) ≡ r = cc in ap (λ (u : List SeenAggregate × Lines). stand_well before u.0) (sym same)
     by (Some tag) again f = all tag (read_members read_enumerator ls) again refl f
 
-abbrev whole_by : ℕ → List SeenAggregate → List Tag × Lines → LinesReading (List SeenAggregate)
-whole_by n es t = option_and_then (allowed first_allowed) (structs_from n es t)
+abbrev whole_by : Abi → ℕ → List SeenAggregate → List Tag × Lines → LinesReading (List SeenAggregate)
+whole_by abi n es t = option_and_then (allowed first_allowed) (structs_from abi n es t)
 
-whole_is : (n : ℕ) (ls vs : Lines) (es : List SeenAggregate) → read_enums n ls ≡ Some (es, vs) → read_placed n ls ≡ whole_by n es (read_tags vs)
-whole_is n ls vs es e = ap (λ o. option_and_then (allowed first_allowed) (option_and_then (λ (r : List SeenAggregate × Lines). structs_from n r.0 (read_tags r.1)) o)) e
+whole_is : (abi : Abi) (n : ℕ) (ls vs : Lines) (es : List SeenAggregate) → read_enums n ls ≡ Some (es, vs) → read_placed abi n ls ≡ whole_by abi n es (read_tags vs)
+whole_is abi n ls vs es e = ap (λ o. option_and_then (allowed first_allowed) (option_and_then (λ (r : List SeenAggregate × Lines). structs_from abi n r.0 (read_tags r.1)) o)) e
 
 allowed_by : (xs : List SeenAggregate) (vs : Lines) (b c : Bool) → are_different (map tag_of xs) ≡ b → stand_well [] xs ≡ c → allowed first_allowed (xs, vs) ≡ cond {A = LinesReading (List SeenAggregate)} (b && c) (Some (xs, vs)) None
 allowed_by xs vs b c e f =
@@ -1189,20 +1198,19 @@ all_are : (es ys : List SeenAggregate) (ts : List Tag) → ys ≡ es ++ map inco
 all_are es ys ts e = ap (λ us. map tag_of es ++ us) (sym (tag_texts ts)) ∙ sym (map-append tag_of es (map incomplete ts)) ∙ ap (map tag_of) (sym e)
 
 -- what is left of the reading behind the tags
-whole_left : (n : ℕ) (ls ls1 ls2 : Lines) (es ys : List SeenAggregate) (k : ℕ) → enums_from n [] ls ≡ Some (es, ls1) → tags_from es ls1 ≡ Some (ys, ls2) → k ≡ length es →
-    read_placed n ls ≡ structs_after n k (ys, ls2)
+whole_left : (abi : Abi) (n : ℕ) (ls ls1 ls2 : Lines) (es ys : List SeenAggregate) (k : ℕ) → enums_from n [] ls ≡ Some (es, ls1) → tags_from es ls1 ≡ Some (ys, ls2) → k ≡ length es →
+    read_placed abi n ls ≡ structs_after abi n k (ys, ls2)
 unfolding structs_behind
-whole_left n ls ls1 ls2 es ys k e f c =
+whole_left abi n ls ls1 ls2 es ys k e f c =
     let enums = enums_some n ls ls1 es e in
     let tags = tags_some es ys ls1 ls2 f in
     let ts = (read_tags ls1).0 in
-    let of = read_member (all_tags es ts) n in
-    whole_is n ls ls1 es enums.0
-    ∙ whole_structs es ts (read_structs of ts (read_tags ls1).1) (enums_stand n ls [] (es, ls1) enums.0) (ap (λ us. are_different (map tag_of us)) (sym tags.all) ∙ tags.apart) (structs_tags of ts (read_tags ls1).1)
-    ∙ ap (λ us. option_and_then (stands_behind es) (read_structs (read_member us n) ts (read_tags ls1).1)) (all_are es ys ts tags.all)
-    ∙ ap (λ vs. option_and_then (stands_behind es) (read_structs (read_member (map tag_of ys) n) ts vs)) (sym tags.rest)
-    ∙ ap (λ us. option_and_then (stands_behind es) (read_structs (read_member (map tag_of ys) n) us ls2)) (sym (ap (map tag_back) (drop_read es ys ls1 ls2 k tags c) ∙ backs ts))
-    ∙ ap (λ us. option_and_then (stands_behind us) (read_structs (read_member (map tag_of ys) n) (map tag_back (drop k ys)) ls2)) (sym (take_read es ys ls1 ls2 k tags c))
+    whole_is abi n ls ls1 es enums.0
+    ∙ whole_structs es ts (read_structs (read_member (all_bases abi es ts) n) ts (read_tags ls1).1) (enums_stand n ls [] (es, ls1) enums.0) (ap (λ us. are_different (map tag_of us)) (sym tags.all) ∙ tags.apart) (structs_tags (read_member (all_bases abi es ts) n) ts (read_tags ls1).1)
+    ∙ ap (λ us. option_and_then (stands_behind es) (read_structs (read_member (bases_in abi us) n) ts (read_tags ls1).1)) (all_are es ys ts tags.all)
+    ∙ ap (λ vs. option_and_then (stands_behind es) (read_structs (read_member (bases_from abi ys) n) ts vs)) (sym tags.rest)
+    ∙ ap (λ us. option_and_then (stands_behind es) (read_structs (read_member (bases_from abi ys) n) us ls2)) (sym (ap (map tag_back) (drop_read es ys ls1 ls2 k tags c) ∙ backs ts))
+    ∙ ap (λ us. option_and_then (stands_behind us) (read_structs (read_member (bases_from abi ys) n) (map tag_back (drop k ys)) ls2)) (sym (take_read es ys ls1 ls2 k tags c))
 
 -- tags that are alike
 refused_by : (es : List SeenAggregate) (o : LinesReading (List SeenAggregate)) → ((r : List SeenAggregate × Lines) → o ≡ Some r → are_different (map tag_of (es ++ r.0)) ≡ false) → option_and_then (allowed first_allowed) (option_map (with_enums es) o) ≡ None
@@ -1216,48 +1224,54 @@ apart_none xs vs e = by (are_different (map tag_of xs)) e
     by true f = absurd (cc f)
     by false f = refl
 
-pub whole_fails : (s : Setting) (names : List (List ℕ)) (n : ℕ) (ls : Lines) → IsBlank s → enums_from n (aggregates_in s.graph names) ls ≡ None → read_placed n ls ≡ None
+pub whole_fails : (s : Setting) (names : List (List ℕ)) (abi : Abi) (n : ℕ) (ls : Lines) → IsBlank s → enums_from n (aggregates_in s.graph names) ls ≡ None → read_placed abi n ls ≡ None
 unfolding enums_from
-whole_fails s names n ls b e = by (read_enums n ls) (ap (λ xs. enums_from n xs ls) (sym (blank_none s names b)) ∙ e)
+whole_fails s names abi n ls b e = by (read_enums n ls) (ap (λ xs. enums_from n xs ls) (sym (blank_none s names b)) ∙ e)
   where
-    one : (r : List SeenAggregate × Lines) → are_different (map tag_of r.0) ≡ false → whole_by n r.0 (read_tags r.1) ≡ None
-    one r d = refused_by r.0 (read_structs (read_member (all_tags r.0 (read_tags r.1).0) n) (read_tags r.1).0 (read_tags r.1).1)
+    one : (r : List SeenAggregate × Lines) → are_different (map tag_of r.0) ≡ false → whole_by abi n r.0 (read_tags r.1) ≡ None
+    one r d = refused_by r.0 (read_structs (read_member (all_bases abi r.0 (read_tags r.1).0) n) (read_tags r.1).0 (read_tags r.1).1)
         (λ q _. ap are_different (map-append tag_of r.0 q.0) ∙ different_front (map tag_of r.0) (map tag_of q.0) d)
 
-    by : (o : LinesReading (List SeenAggregate)) → option_and_then tags_apart (option_map (with_enums []) o) ≡ None → option_and_then (allowed first_allowed) (option_and_then (λ (r : List SeenAggregate × Lines). structs_from n r.0 (read_tags r.1)) o) ≡ None
+    by : (o : LinesReading (List SeenAggregate)) → option_and_then tags_apart (option_map (with_enums []) o) ≡ None → option_and_then (allowed first_allowed) (option_and_then (λ (r : List SeenAggregate × Lines). structs_from abi n r.0 (read_tags r.1)) o) ≡ None
     by None f = refl
     by (Some r) f = one r (apart_none r.0 r.1 f)
 
-twice : (n : ℕ) (ls ls1 : Lines) (es : List SeenAggregate) → enums_from n [] ls ≡ Some (es, ls1) → tags_from es ls1 ≡ None → read_placed n ls ≡ None
+twice : (abi : Abi) (n : ℕ) (ls ls1 : Lines) (es : List SeenAggregate) → enums_from n [] ls ≡ Some (es, ls1) → tags_from es ls1 ≡ None → read_placed abi n ls ≡ None
 unfolding tags_from
-twice n ls ls1 es e f = whole_is n ls ls1 es (enums_some n ls ls1 es e).0 ∙ refused_by es (read_structs of ts (read_tags ls1).1) alike
+twice abi n ls ls1 es e f = whole_is abi n ls ls1 es (enums_some n ls ls1 es e).0 ∙ refused_by es (read_structs of ts (read_tags ls1).1) alike
   where
     ts : List Tag
     ts = (read_tags ls1).0
 
     of : List Word → Option SeenMember
-    of = read_member (all_tags es ts) n
+    of = read_member (all_bases abi es ts) n
 
     alike : (r : List SeenAggregate × Lines) → read_structs of ts (read_tags ls1).1 ≡ Some r → are_different (map tag_of (es ++ r.0)) ≡ false
     alike r p =
         ap are_different (map-append tag_of es r.0 ∙ ap (λ us. map tag_of es ++ us) (structs_tags of ts (read_tags ls1).1 r p ∙ sym (tag_texts ts)) ∙ sym (map-append tag_of es (map incomplete ts)))
         ∙ apart_none (es ++ map incomplete ts) (read_tags ls1).1 f
 
-whole_both : (n : ℕ) (ls ls1 : Lines) (es : List SeenAggregate) (k : ℕ) → enums_from n [] ls ≡ Some (es, ls1) → k ≡ length es → read_placed n ls ≡ tagged_structs n k es ls1
-whole_both n ls ls1 es k e c = by (tags_from es ls1) refl
+whole_both : (abi : Abi) (n : ℕ) (ls ls1 : Lines) (es : List SeenAggregate) (k : ℕ) → enums_from n [] ls ≡ Some (es, ls1) → k ≡ length es → read_placed abi n ls ≡ tagged_structs abi n k es ls1
+whole_both abi n ls ls1 es k e c = by (tags_from es ls1) refl
   where
-    by : (o : LinesReading (List SeenAggregate)) → tags_from es ls1 ≡ o → read_placed n ls ≡ option_and_then (structs_after n k) o
-    by None f = twice n ls ls1 es e f
-    by (Some t) f = whole_left n ls ls1 t.1 es t.0 k e f c
+    by : (o : LinesReading (List SeenAggregate)) → tags_from es ls1 ≡ o → read_placed abi n ls ≡ option_and_then (structs_after abi n k) o
+    by None f = twice abi n ls ls1 es e f
+    by (Some t) f = whole_left abi n ls ls1 t.1 es t.0 k e f c
 
 -- the whole is what the code's parts give
-pub whole_gives : (s q : Setting) (names next : List (List ℕ)) (n k : ℕ) (ls ls1 : Lines) (r : List SeenAggregate × Lines) → IsBlank s → enums_from n (aggregates_in s.graph names) ls ≡ Some (aggregates_in q.graph next, ls1) → k ≡ length q.graph.aggs →
-    tagged_structs n k (aggregates_in q.graph next) ls1 ≡ Some r → read_placed n ls ≡ Some r
-whole_gives s q names next n k ls ls1 r b e c g = whole_both n ls ls1 (aggregates_in q.graph next) k (ap (λ xs. enums_from n xs ls) (sym (blank_none s names b)) ∙ e) (c ∙ sym (count_in q.graph next)) ∙ g
+pub whole_gives : (s q : Setting) (names next : List (List ℕ)) (n k : ℕ) (ls ls1 : Lines) (r : List SeenAggregate × Lines) → IsBlank s → enums_from n (aggregates_in s.graph names) ls ≡ Some (aggregates_in q.graph next, ls1) → AggregatesAdded s.graph q.graph names next → k ≡ length q.graph.aggs →
+    tagged_structs q.graph.abi n k (aggregates_in q.graph next) ls1 ≡ Some r → read_placed s.graph.abi n ls ≡ Some r
+whole_gives s q names next n k ls ls1 r b e added c g =
+    whole_both s.graph.abi n ls ls1 (aggregates_in q.graph next) k (ap (λ xs. enums_from n xs ls) (sym (blank_none s names b)) ∙ e) (c ∙ sym (count_in q.graph next))
+    ∙ ap (λ (abi : Abi). tagged_structs abi n k (aggregates_in q.graph next) ls1) (sym added.model)
+    ∙ g
 
-pub whole_refused : (s q : Setting) (names next : List (List ℕ)) (n k : ℕ) (ls ls1 : Lines) → IsBlank s → enums_from n (aggregates_in s.graph names) ls ≡ Some (aggregates_in q.graph next, ls1) → k ≡ length q.graph.aggs →
-    tagged_structs n k (aggregates_in q.graph next) ls1 ≡ None → read_placed n ls ≡ None
-whole_refused s q names next n k ls ls1 b e c g = whole_both n ls ls1 (aggregates_in q.graph next) k (ap (λ xs. enums_from n xs ls) (sym (blank_none s names b)) ∙ e) (c ∙ sym (count_in q.graph next)) ∙ g
+pub whole_refused : (s q : Setting) (names next : List (List ℕ)) (n k : ℕ) (ls ls1 : Lines) → IsBlank s → enums_from n (aggregates_in s.graph names) ls ≡ Some (aggregates_in q.graph next, ls1) → AggregatesAdded s.graph q.graph names next → k ≡ length q.graph.aggs →
+    tagged_structs q.graph.abi n k (aggregates_in q.graph next) ls1 ≡ None → read_placed s.graph.abi n ls ≡ None
+whole_refused s q names next n k ls ls1 b e added c g =
+    whole_both s.graph.abi n ls ls1 (aggregates_in q.graph next) k (ap (λ xs. enums_from n xs ls) (sym (blank_none s names b)) ∙ e) (c ∙ sym (count_in q.graph next))
+    ∙ ap (λ (abi : Abi). tagged_structs abi n k (aggregates_in q.graph next) ls1) (sym added.model)
+    ∙ g
 
 -- the aggregate that a line opens
 
@@ -1334,21 +1348,21 @@ struct_by s names a of (line ∷ ls) h less = by (opened_tag line)
     by (Some tag) = one (bytes_eq tag x.1) ∙ ap (λ b. struct_with of before x (line ∷ ls) (cond b (Some ls) None)) (sym (tag_found s names a tag h less))
 
 pub struct_complete : (s : Setting) (names : List (List ℕ)) (a : ℕ) (n : ℕ) (ls vs ws : Lines) (ys : List SeenAggregate) → Holds s names a → a < length s.graph.aggs → Some vs ≡ own_members (env_in s).tags a ls →
-    one_complete (read_member (env_in s).tags n) (take a (aggregates_in s.graph names)) (tag_at a (aggregates_in s.graph names)) vs ≡ Some (ys, ws) → one_struct (read_member (env_in s).tags n) (take a (aggregates_in s.graph names)) (tag_at a (aggregates_in s.graph names)) ls ≡ Some (ys, ws)
+    one_complete (read_member (bases (env_in s)) n) (take a (aggregates_in s.graph names)) (tag_at a (aggregates_in s.graph names)) vs ≡ Some (ys, ws) → one_struct (read_member (bases (env_in s)) n) (take a (aggregates_in s.graph names)) (tag_at a (aggregates_in s.graph names)) ls ≡ Some (ys, ws)
 struct_complete s names a n ls vs ws ys h less e f =
-    let of = read_member (env_in s).tags n in
+    let of = read_member (bases (env_in s)) n in
     struct_by s names a of ls h less ∙ ap (struct_with of (take a (aggregates_in s.graph names)) (tag_at a (aggregates_in s.graph names)) ls) (sym e) ∙ f
 
 pub struct_bad : (s : Setting) (names : List (List ℕ)) (a : ℕ) (n : ℕ) (ls vs : Lines) → Holds s names a → a < length s.graph.aggs → Some vs ≡ own_members (env_in s).tags a ls →
-    one_complete (read_member (env_in s).tags n) (take a (aggregates_in s.graph names)) (tag_at a (aggregates_in s.graph names)) vs ≡ None → one_struct (read_member (env_in s).tags n) (take a (aggregates_in s.graph names)) (tag_at a (aggregates_in s.graph names)) ls ≡ None
+    one_complete (read_member (bases (env_in s)) n) (take a (aggregates_in s.graph names)) (tag_at a (aggregates_in s.graph names)) vs ≡ None → one_struct (read_member (bases (env_in s)) n) (take a (aggregates_in s.graph names)) (tag_at a (aggregates_in s.graph names)) ls ≡ None
 struct_bad s names a n ls vs h less e f =
-    let of = read_member (env_in s).tags n in
+    let of = read_member (bases (env_in s)) n in
     struct_by s names a of ls h less ∙ ap (struct_with of (take a (aggregates_in s.graph names)) (tag_at a (aggregates_in s.graph names)) ls) (sym e) ∙ f
 
 pub struct_left : (s : Setting) (names : List (List ℕ)) (a : ℕ) (n : ℕ) (ls : Lines) (ys : List SeenAggregate) → Holds s names a → a < length s.graph.aggs → None ≡ own_members (env_in s).tags a ls →
-    Some (take a (aggregates_in s.graph names) ++ incomplete (tag_at a (aggregates_in s.graph names)) ∷ []) ≡ Some ys → one_struct (read_member (env_in s).tags n) (take a (aggregates_in s.graph names)) (tag_at a (aggregates_in s.graph names)) ls ≡ Some (ys, ls)
+    Some (take a (aggregates_in s.graph names) ++ incomplete (tag_at a (aggregates_in s.graph names)) ∷ []) ≡ Some ys → one_struct (read_member (bases (env_in s)) n) (take a (aggregates_in s.graph names)) (tag_at a (aggregates_in s.graph names)) ls ≡ Some (ys, ls)
 struct_left s names a n ls ys h less e f =
-    let of = read_member (env_in s).tags n in
+    let of = read_member (bases (env_in s)) n in
     let xs = aggregates_in s.graph names in
     struct_by s names a of ls h less ∙ ap (struct_with of (take a xs) (tag_at a xs) ls) (sym e) ∙ ap (option_map (λ (zs : List SeenAggregate). (zs, ls))) f
 

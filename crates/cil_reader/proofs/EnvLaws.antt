@@ -19,7 +19,7 @@ pub globals_env : (g : Graph) (k : Known) (s t : Setting) (x y : Names) → sett
 unfolding env_in env_of
 globals_env g k s t x y is none e =
     ap (λ (v : Setting). env_in v) e
-    ∙ ap (λ (ls : List Local). record { tags = k.tags; members = map (locals_of g.nodes) k.members.items; globals = locals_of g.nodes x; locals = ls }) (no_names g y none)
+    ∙ ap (λ (ls : List Local). record { abi = g.abi; tags = k.tags; members = map (locals_of g.nodes) k.members.items; globals = locals_of g.nodes x; locals = ls }) (no_names g y none)
     ∙ ap (λ (v : Setting). outside (with_globals (env_in v) (locals_of v.graph.nodes x))) is
 
 pub locals_env : (g : Graph) (k : Known) (s t : Setting) (x : Names) → setting g k ≡ s → t ≡ setting g (record k { locals = x }) → env_in t ≡ with_locals (env_in s) (locals_of s.graph.nodes x)

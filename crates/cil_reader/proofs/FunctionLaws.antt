@@ -23,8 +23,8 @@ use Rattle.cil_tree.specs.Names.{is_among, are_different, local_name_of}
 use Rattle.cil_tree.specs.View.{text_at, local_of, stmts_of, body_of, global_of}
 use Rattle.cil_text.specs.Allowed.{allowed}
 use Rattle.cil_text.specs.Words.{Word, Semicolon}
-use Rattle.cil_text.specs.ReadTypes.{Reading, Named, read_decl}
-use Rattle.cil_text.specs.ReadExps.{Env, is_base}
+use Rattle.cil_text.specs.ReadTypes.{Reading, Bases, Named, read_decl}
+use Rattle.cil_text.specs.ReadExps.{Env, bases, is_base}
 use Rattle.cil_text.specs.ReadStmts.{Head, Nested, is_label, label_text, read_heads, read_nested}
 use Rattle.cil_text.specs.ReadAggregates.{Lines, LinesReading}
 use Rattle.cil_text.specs.ReadGlobals.{Declaration, local_first, read_locals, params_of, labels_in, are_apart, body_with, read_stmts, read_body, Bodies, body_first, begins_with, behind_first, split_block, header_names, read_bodies}
@@ -86,32 +86,32 @@ one_fails o ls e = ap (λ p. option_and_then (local_behind ls) (option_and_then 
 
 -- locals behind others
 
-abbrev local_line : List (List ℕ) → ℕ → List Word → Option Local
-local_line tags n ws = option_and_then reading.local_of (read_decl tags n ws)
+abbrev local_line : Bases → ℕ → List Word → Option Local
+local_line bases n ws = option_and_then reading.local_of (read_decl bases n ws)
 
-abbrev locals_on : List (List ℕ) → ℕ → Lines → Option Local → LinesReading (List Local)
-locals_on tags n rest o = option_and_then (λ (x : Local). option_map (local_first x) (read_locals tags n rest)) o
+abbrev locals_on : Bases → ℕ → Lines → Option Local → LinesReading (List Local)
+locals_on bases n rest o = option_and_then (λ (x : Local). option_map (local_first x) (read_locals bases n rest)) o
 
-locals_line : (tags : List (List ℕ)) (n : ℕ) (ws : List Word) (rest : Lines) → is_base ws ≡ true → read_locals tags n (ws ∷ rest) ≡ locals_on tags n rest (local_line tags n ws)
-locals_line tags n ws rest e = ap (λ b. cond b (locals_on tags n rest (local_line tags n ws)) (Some ([], ws ∷ rest))) e
+locals_line : (bases : Bases) (n : ℕ) (ws : List Word) (rest : Lines) → is_base ws ≡ true → read_locals bases n (ws ∷ rest) ≡ locals_on bases n rest (local_line bases n ws)
+locals_line bases n ws rest e = ap (λ b. cond b (locals_on bases n rest (local_line bases n ws)) (Some ([], ws ∷ rest))) e
 
-no_local : (tags : List (List ℕ)) (n : ℕ) (ws : List Word) (rest : Lines) → is_base ws ≡ false → read_locals tags n (ws ∷ rest) ≡ Some ([], ws ∷ rest)
-no_local tags n ws rest e = ap (λ b. cond b (locals_on tags n rest (local_line tags n ws)) (Some ([], ws ∷ rest))) e
+no_local : (bases : Bases) (n : ℕ) (ws : List Word) (rest : Lines) → is_base ws ≡ false → read_locals bases n (ws ∷ rest) ≡ Some ([], ws ∷ rest)
+no_local bases n ws rest e = ap (λ b. cond b (locals_on bases n rest (local_line bases n ws)) (Some ([], ws ∷ rest))) e
 
 behind_first_local : (ls : List Local) (x : Local) (o : LinesReading (List Local)) → option_map (locals_behind ls) (option_map (local_first x) o) ≡ option_map (locals_behind (ls ++ x ∷ [])) o
 behind_first_local ls x None = refl
 behind_first_local ls x (Some r) = ap (λ (zs : List Local). Some (zs, r.1)) (sym (append_assoc ls (x ∷ []) r.0))
 
-pub locals_next : (tags : List (List ℕ)) (n : ℕ) (ls ms : List Local) (ws : List Word) (rest : Lines) (whole : LinesReading (List Local)) → is_base ws ≡ true →
-    option_and_then (local_behind ls) (option_and_then reading.local_of (read_decl tags n ws)) ≡ Some ms → option_map (locals_behind ls) (read_locals tags n (ws ∷ rest)) ≡ whole → option_map (locals_behind ms) (read_locals tags n rest) ≡ whole
-locals_next tags n ls ms ws rest whole base e inv = by (local_line tags n ws) refl e
+pub locals_next : (bases : Bases) (n : ℕ) (ls ms : List Local) (ws : List Word) (rest : Lines) (whole : LinesReading (List Local)) → is_base ws ≡ true →
+    option_and_then (local_behind ls) (option_and_then reading.local_of (read_decl bases n ws)) ≡ Some ms → option_map (locals_behind ls) (read_locals bases n (ws ∷ rest)) ≡ whole → option_map (locals_behind ms) (read_locals bases n rest) ≡ whole
+locals_next bases n ls ms ws rest whole base e inv = by (local_line bases n ws) refl e
   where
-    by : (o : Option Local) → local_line tags n ws ≡ o → option_and_then (local_behind ls) o ≡ Some ms → option_map (locals_behind ms) (read_locals tags n rest) ≡ whole
+    by : (o : Option Local) → local_line bases n ws ≡ o → option_and_then (local_behind ls) o ≡ Some ms → option_map (locals_behind ms) (read_locals bases n rest) ≡ whole
     by None f g = absurd (cc g)
     by (Some x) f g =
-        ap (λ zs. option_map (locals_behind zs) (read_locals tags n rest)) (behind_cases ls ms x g).1
-        ∙ sym (behind_first_local ls x (read_locals tags n rest))
-        ∙ sym (ap (option_map (locals_behind ls)) (locals_line tags n ws rest base ∙ ap (locals_on tags n rest) f))
+        ap (λ zs. option_map (locals_behind zs) (read_locals bases n rest)) (behind_cases ls ms x g).1
+        ∙ sym (behind_first_local ls x (read_locals bases n rest))
+        ∙ sym (ap (option_map (locals_behind ls)) (locals_line bases n ws rest base ∙ ap (locals_on bases n rest) f))
         ∙ inv
 
 pub apart_next : (ls ms : List Local) (o : Option Local) → apart ls ≡ true → option_and_then (local_behind ls) o ≡ Some ms → apart ms ≡ true
@@ -121,58 +121,58 @@ apart_next ls ms (Some x) d e = apart_more ls ms x d e
 abbrev told_apart : LinesReading (List Local) → LinesReading (List Local)
 told_apart o = option_and_then (allowed first_apart) o
 
-pub locals_fail : (tags : List (List ℕ)) (n : ℕ) (ls : List Local) (ws : List Word) (rest : Lines) (whole : LinesReading (List Local)) → is_base ws ≡ true →
-    option_and_then (local_behind ls) (option_and_then reading.local_of (read_decl tags n ws)) ≡ None → option_map (locals_behind ls) (read_locals tags n (ws ∷ rest)) ≡ whole → option_and_then (allowed first_apart) whole ≡ None
-locals_fail tags n ls ws rest whole base e inv = ap told_apart (sym inv ∙ ap (option_map (locals_behind ls)) (locals_line tags n ws rest base)) ∙ by (local_line tags n ws) e
+pub locals_fail : (bases : Bases) (n : ℕ) (ls : List Local) (ws : List Word) (rest : Lines) (whole : LinesReading (List Local)) → is_base ws ≡ true →
+    option_and_then (local_behind ls) (option_and_then reading.local_of (read_decl bases n ws)) ≡ None → option_map (locals_behind ls) (read_locals bases n (ws ∷ rest)) ≡ whole → option_and_then (allowed first_apart) whole ≡ None
+locals_fail bases n ls ws rest whole base e inv = ap told_apart (sym inv ∙ ap (option_map (locals_behind ls)) (locals_line bases n ws rest base)) ∙ by (local_line bases n ws) e
   where
     on : (x : Local) → local_behind ls x ≡ None → (o : LinesReading (List Local)) → told_apart (option_map (locals_behind ls) (option_map (local_first x) o)) ≡ None
     on x g None = refl
     on x g (Some r) = ap (λ b. cond b (Some (ls ++ x ∷ r.0, r.1)) None) (not_apart ls r.0 x g)
 
-    by : (o : Option Local) → option_and_then (local_behind ls) o ≡ None → told_apart (option_map (locals_behind ls) (locals_on tags n rest o)) ≡ None
+    by : (o : Option Local) → option_and_then (local_behind ls) o ≡ None → told_apart (option_map (locals_behind ls) (locals_on bases n rest o)) ≡ None
     by None g = refl
-    by (Some x) g = on x g (read_locals tags n rest)
+    by (Some x) g = on x g (read_locals bases n rest)
 
 nothing_more : (ls : List Local) (rest : Lines) → apart ls ≡ true → told_apart (option_map (locals_behind ls) (Some ([], rest))) ≡ Some (ls, rest)
 nothing_more ls rest d = ap (λ zs. told_apart (Some (zs, rest))) (append-nil ls) ∙ ap (λ b. cond b (Some (ls, rest)) None) d
 
-pub locals_end : (tags : List (List ℕ)) (n : ℕ) (ls : List Local) (ws : List Word) (rest : Lines) (whole : LinesReading (List Local)) → is_base ws ≡ false → apart ls ≡ true →
-    option_map (locals_behind ls) (read_locals tags n (ws ∷ rest)) ≡ whole → option_and_then (allowed first_apart) whole ≡ Some (ls, ws ∷ rest)
-locals_end tags n ls ws rest whole base d inv = ap told_apart (sym inv ∙ ap (option_map (locals_behind ls)) (no_local tags n ws rest base)) ∙ nothing_more ls (ws ∷ rest) d
+pub locals_end : (bases : Bases) (n : ℕ) (ls : List Local) (ws : List Word) (rest : Lines) (whole : LinesReading (List Local)) → is_base ws ≡ false → apart ls ≡ true →
+    option_map (locals_behind ls) (read_locals bases n (ws ∷ rest)) ≡ whole → option_and_then (allowed first_apart) whole ≡ Some (ls, ws ∷ rest)
+locals_end bases n ls ws rest whole base d inv = ap told_apart (sym inv ∙ ap (option_map (locals_behind ls)) (no_local bases n ws rest base)) ∙ nothing_more ls (ws ∷ rest) d
 
-pub locals_done : (tags : List (List ℕ)) (n : ℕ) (ls : List Local) (lines : Lines) (whole : LinesReading (List Local)) → lines ≡ [] → apart ls ≡ true →
-    option_map (locals_behind ls) (read_locals tags n lines) ≡ whole → option_and_then (allowed first_apart) whole ≡ Some (ls, lines)
-locals_done tags n ls lines whole none d inv =
-    ap told_apart (sym inv ∙ ap (λ zs. option_map (locals_behind ls) (read_locals tags n zs)) none) ∙ nothing_more ls [] d ∙ ap (λ zs. Some (ls, zs)) (sym none)
+pub locals_done : (bases : Bases) (n : ℕ) (ls : List Local) (lines : Lines) (whole : LinesReading (List Local)) → lines ≡ [] → apart ls ≡ true →
+    option_map (locals_behind ls) (read_locals bases n lines) ≡ whole → option_and_then (allowed first_apart) whole ≡ Some (ls, lines)
+locals_done bases n ls lines whole none d inv =
+    ap told_apart (sym inv ∙ ap (λ zs. option_map (locals_behind ls) (read_locals bases n zs)) none) ∙ nothing_more ls [] d ∙ ap (λ zs. Some (ls, zs)) (sym none)
 
 -- the same in the loop
 
 pub locals_step : (env now : Env) (n : ℕ) (ls ms : List Local) (lines : List (Vec Seen Global)) (i : ℕ) (d : Vec Seen Global) (whole : LinesReading (List Local)) → i < length lines → now ≡ env → is_base (all_said (get_or lines i d).items) ≡ true →
-    option_and_then (local_behind ls) (option_and_then reading.local_of (read_decl now.tags n (all_said (get_or lines i d).items))) ≡ Some ms → option_map (locals_behind ls) (read_locals env.tags n (all_lines (drop i lines))) ≡ whole →
-    option_map (locals_behind ms) (read_locals env.tags n (all_lines (drop (i + 1) lines))) ≡ whole
+    option_and_then (local_behind ls) (option_and_then reading.local_of (read_decl (bases now) n (all_said (get_or lines i d).items))) ≡ Some ms → option_map (locals_behind ls) (read_locals (bases env) n (all_lines (drop i lines))) ≡ whole →
+    option_map (locals_behind ms) (read_locals (bases env) n (all_lines (drop (i + 1) lines))) ≡ whole
 locals_step env now n ls ms lines i d whole less same base e inv =
-    locals_next env.tags n ls ms (all_said (get_or lines i d).items) (all_lines (drop (i + 1) lines)) whole base
-    (ap (λ (v : Env). option_and_then (local_behind ls) (option_and_then reading.local_of (read_decl v.tags n (all_said (get_or lines i d).items)))) (sym same) ∙ e)
-    (ap (λ zs. option_map (locals_behind ls) (read_locals env.tags n zs)) (sym (lines_at lines i d less)) ∙ inv)
+    locals_next (bases env) n ls ms (all_said (get_or lines i d).items) (all_lines (drop (i + 1) lines)) whole base
+    (ap (λ (v : Env). option_and_then (local_behind ls) (option_and_then reading.local_of (read_decl (bases v) n (all_said (get_or lines i d).items)))) (sym same) ∙ e)
+    (ap (λ zs. option_map (locals_behind ls) (read_locals (bases env) n zs)) (sym (lines_at lines i d less)) ∙ inv)
 
 pub locals_refused : (env now : Env) (n : ℕ) (ls : List Local) (lines : List (Vec Seen Global)) (i : ℕ) (d : Vec Seen Global) (whole : LinesReading (List Local)) → i < length lines → now ≡ env → is_base (all_said (get_or lines i d).items) ≡ true →
-    option_and_then (local_behind ls) (option_and_then reading.local_of (read_decl now.tags n (all_said (get_or lines i d).items))) ≡ None → option_map (locals_behind ls) (read_locals env.tags n (all_lines (drop i lines))) ≡ whole →
+    option_and_then (local_behind ls) (option_and_then reading.local_of (read_decl (bases now) n (all_said (get_or lines i d).items))) ≡ None → option_map (locals_behind ls) (read_locals (bases env) n (all_lines (drop i lines))) ≡ whole →
     option_and_then (allowed first_apart) whole ≡ None
 locals_refused env now n ls lines i d whole less same base e inv =
-    locals_fail env.tags n ls (all_said (get_or lines i d).items) (all_lines (drop (i + 1) lines)) whole base
-    (ap (λ (v : Env). option_and_then (local_behind ls) (option_and_then reading.local_of (read_decl v.tags n (all_said (get_or lines i d).items)))) (sym same) ∙ e)
-    (ap (λ zs. option_map (locals_behind ls) (read_locals env.tags n zs)) (sym (lines_at lines i d less)) ∙ inv)
+    locals_fail (bases env) n ls (all_said (get_or lines i d).items) (all_lines (drop (i + 1) lines)) whole base
+    (ap (λ (v : Env). option_and_then (local_behind ls) (option_and_then reading.local_of (read_decl (bases v) n (all_said (get_or lines i d).items)))) (sym same) ∙ e)
+    (ap (λ zs. option_map (locals_behind ls) (read_locals (bases env) n zs)) (sym (lines_at lines i d less)) ∙ inv)
 
 pub locals_stop : (env : Env) (n : ℕ) (ls : List Local) (lines : List (Vec Seen Global)) (i : ℕ) (d : Vec Seen Global) (whole : LinesReading (List Local)) → i < length lines → is_base (all_said (get_or lines i d).items) ≡ false → apart ls ≡ true →
-    option_map (locals_behind ls) (read_locals env.tags n (all_lines (drop i lines))) ≡ whole → option_and_then (allowed first_apart) whole ≡ Some (ls, all_lines (take (length lines - i) (drop i lines)))
+    option_map (locals_behind ls) (read_locals (bases env) n (all_lines (drop i lines))) ≡ whole → option_and_then (allowed first_apart) whole ≡ Some (ls, all_lines (take (length lines - i) (drop i lines)))
 locals_stop env n ls lines i d whole less base apart_ inv =
-    locals_end env.tags n ls (all_said (get_or lines i d).items) (all_lines (drop (i + 1) lines)) whole base apart_ (ap (λ zs. option_map (locals_behind ls) (read_locals env.tags n zs)) (sym (lines_at lines i d less)) ∙ inv)
+    locals_end (bases env) n ls (all_said (get_or lines i d).items) (all_lines (drop (i + 1) lines)) whole base apart_ (ap (λ zs. option_map (locals_behind ls) (read_locals (bases env) n zs)) (sym (lines_at lines i d less)) ∙ inv)
     ∙ ap (λ (zs : Lines). Some (ls, zs)) (sym (lines_at lines i d less) ∙ ap all_lines (sym (take_rest lines i)))
 
 pub locals_over : (env : Env) (n : ℕ) (ls : List Local) (lines : List (Vec Seen Global)) (i : ℕ) (whole : LinesReading (List Local)) → length lines ≤ i → apart ls ≡ true →
-    option_map (locals_behind ls) (read_locals env.tags n (all_lines (drop i lines))) ≡ whole → option_and_then (allowed first_apart) whole ≡ Some (ls, all_lines (take (length lines - length lines) (drop (length lines) lines)))
+    option_map (locals_behind ls) (read_locals (bases env) n (all_lines (drop i lines))) ≡ whole → option_and_then (allowed first_apart) whole ≡ Some (ls, all_lines (take (length lines - length lines) (drop (length lines) lines)))
 locals_over env n ls lines i whole end apart_ inv =
-    locals_done env.tags n ls (all_lines (drop i lines)) whole (ap all_lines (past lines i end)) apart_ inv
+    locals_done (bases env) n ls (all_lines (drop i lines)) whole (ap all_lines (past lines i end)) apart_ inv
     ∙ ap (λ (zs : Lines). Some (ls, zs)) (ap all_lines (past lines i end ∙ sym (past lines (length lines) (omega arith)) ∙ sym (take_rest lines (length lines))))
 
 -- labels
@@ -287,7 +287,7 @@ abbrev body_of_locals : Env → ℕ → List (List ℕ) → List Local × Lines 
 body_of_locals env n params l = option_and_then (body_from params l.0 (labels_in l.1)) (stmts_in env n l.0 (labels_in l.1) l.1)
 
 abbrev body_by : Env → ℕ → Shape → List (List ℕ) → Lines → Option Body
-body_by env n type params lines = option_and_then (body_of_locals env n params) (option_map (locals_behind (reading.param_locals (params_of type) params)) (read_locals env.tags n lines))
+body_by env n type params lines = option_and_then (body_of_locals env n params) (option_map (locals_behind (reading.param_locals (params_of type) params)) (read_locals (bases env) n lines))
 
 body_on : (env : Env) (n : ℕ) (params : List (List ℕ)) (ps : List Local) (o : LinesReading (List Local)) →
     option_and_then (λ (l : List Local × Lines). read_stmts (outside env) n params (ps ++ l.0) l.1) o ≡ option_and_then (body_of_locals env n params) (option_map (locals_behind ps) o)
@@ -295,7 +295,7 @@ body_on env n params ps None = refl
 body_on env n params ps (Some l) = body_stmts params (ps ++ l.0) (labels_in l.1) (option_and_then (read_nested n) (read_heads (with_locals env (ps ++ l.0)) (labels_in l.1) n l.1))
 
 body_is : (env : Env) (n : ℕ) (type : Shape) (params : List (List ℕ)) (lines : Lines) → read_body (outside env) n type params lines ≡ body_by env n type params lines
-body_is env n type params lines = body_on env n params (reading.param_locals (params_of type) params) (read_locals env.tags n lines)
+body_is env n type params lines = body_on env n params (reading.param_locals (params_of type) params) (read_locals (bases env) n lines)
 
 -- a body whose locals are not apart is none
 not_apart_none : (env : Env) (n : ℕ) (params : List (List ℕ)) (l : List Local × Lines) → apart l.0 ≡ false → body_of_locals env n params l ≡ None
@@ -328,24 +328,24 @@ allowed_not f x e = by (f x) refl e
     by false a g = a
 
 body_read : (env : Env) (n : ℕ) (type : Shape) (params : List (List ℕ)) (lines : Lines) (ps : List Local) → allowed apart (reading.param_locals (params_of type) params) ≡ Some ps →
-    read_body (outside env) n type params lines ≡ option_and_then (body_of_locals env n params) (told_apart (option_map (locals_behind ps) (read_locals env.tags n lines)))
+    read_body (outside env) n type params lines ≡ option_and_then (body_of_locals env n params) (told_apart (option_map (locals_behind ps) (read_locals (bases env) n lines)))
 body_read env n type params lines ps p =
     let same = (allowed_is apart (reading.param_locals (params_of type) params) ps p).1 in
     body_is env n type params lines
-    ∙ ap (λ zs. option_and_then (body_of_locals env n params) (option_map (locals_behind zs) (read_locals env.tags n lines))) (sym same)
-    ∙ apart_by env n params (option_map (locals_behind ps) (read_locals env.tags n lines))
+    ∙ ap (λ zs. option_and_then (body_of_locals env n params) (option_map (locals_behind zs) (read_locals (bases env) n lines))) (sym same)
+    ∙ apart_by env n params (option_map (locals_behind ps) (read_locals (bases env) n lines))
 
 told_first : (o : LinesReading (List Local)) (l : List Local × Lines) → told_apart o ≡ Some l → apart l.0 ≡ true
 told_first None l e = absurd (cc e)
 told_first (Some k) l e = let c = allowed_is first_apart k l e in ap first_apart c.1 ∙ c.0
 
 pub body_gives : (env : Env) (n : ℕ) (type : Shape) (params labels : List (List ℕ)) (lines rest : Lines) (ps ls : List Local) (ss : Stmts) →
-    allowed apart (reading.param_locals (params_of type) params) ≡ Some ps → option_and_then (allowed first_apart) (option_map (locals_behind ps) (read_locals env.tags n lines)) ≡ Some (ls, rest) → allowed are_different (labels_in rest) ≡ Some labels →
+    allowed apart (reading.param_locals (params_of type) params) ≡ Some ps → option_and_then (allowed first_apart) (option_map (locals_behind ps) (read_locals (bases env) n lines)) ≡ Some (ls, rest) → allowed are_different (labels_in rest) ≡ Some labels →
     option_and_then whole_stmts (option_and_then (read_nested n) (read_heads (with_locals env ls) labels n rest)) ≡ Some ss →
     read_body (outside env) n type params lines ≡ Some (body_made params ls labels ss)
 body_gives env n type params labels lines rest ps ls ss p l b s =
     let c = allowed_is are_different (labels_in rest) labels b in
-    let d = told_first (option_map (locals_behind ps) (read_locals env.tags n lines)) (ls, rest) l in
+    let d = told_first (option_map (locals_behind ps) (read_locals (bases env) n lines)) (ls, rest) l in
     body_read env n type params lines ps p
     ∙ ap (option_and_then (body_of_locals env n params)) l
     ∙ ap (λ ts. option_and_then (body_from params ls ts) (stmts_in env n ls ts rest)) (sym c.1)
@@ -354,7 +354,7 @@ body_gives env n type params labels lines rest ps ls ss p l b s =
     ∙ ap (λ v. cond v (Some (body_made params ls labels ss)) None) (ap are_different c.1 ∙ c.0)
 
 pub body_stmts_fail : (env : Env) (n : ℕ) (type : Shape) (params labels : List (List ℕ)) (lines rest : Lines) (ps ls : List Local) →
-    allowed apart (reading.param_locals (params_of type) params) ≡ Some ps → option_and_then (allowed first_apart) (option_map (locals_behind ps) (read_locals env.tags n lines)) ≡ Some (ls, rest) → allowed are_different (labels_in rest) ≡ Some labels →
+    allowed apart (reading.param_locals (params_of type) params) ≡ Some ps → option_and_then (allowed first_apart) (option_map (locals_behind ps) (read_locals (bases env) n lines)) ≡ Some (ls, rest) → allowed are_different (labels_in rest) ≡ Some labels →
     option_and_then whole_stmts (option_and_then (read_nested n) (read_heads (with_locals env ls) labels n rest)) ≡ None →
     read_body (outside env) n type params lines ≡ None
 body_stmts_fail env n type params labels lines rest ps ls p l b s =
@@ -365,7 +365,7 @@ body_stmts_fail env n type params labels lines rest ps ls p l b s =
     ∙ ap (option_and_then (body_from params ls labels)) s
 
 pub body_labels_fail : (env : Env) (n : ℕ) (type : Shape) (params : List (List ℕ)) (lines rest : Lines) (ps ls : List Local) →
-    allowed apart (reading.param_locals (params_of type) params) ≡ Some ps → option_and_then (allowed first_apart) (option_map (locals_behind ps) (read_locals env.tags n lines)) ≡ Some (ls, rest) → allowed are_different (labels_in rest) ≡ None →
+    allowed apart (reading.param_locals (params_of type) params) ≡ Some ps → option_and_then (allowed first_apart) (option_map (locals_behind ps) (read_locals (bases env) n lines)) ≡ Some (ls, rest) → allowed are_different (labels_in rest) ≡ None →
     read_body (outside env) n type params lines ≡ None
 body_labels_fail env n type params lines rest ps ls p l b =
     body_read env n type params lines ps p ∙ ap (option_and_then (body_of_locals env n params)) l ∙ by (stmts_in env n ls (labels_in rest) rest)
@@ -379,7 +379,7 @@ body_labels_fail env n type params lines rest ps ls p l b =
     by (Some ss) = ap (λ v. cond v (Some (body_made params ls (labels_in rest) ss)) None) (ap (λ v. apart ls && v) (allowed_not are_different (labels_in rest) b) ∙ and_false (apart ls))
 
 pub body_locals_fail : (env : Env) (n : ℕ) (type : Shape) (params : List (List ℕ)) (lines : Lines) (ps : List Local) →
-    allowed apart (reading.param_locals (params_of type) params) ≡ Some ps → option_and_then (allowed first_apart) (option_map (locals_behind ps) (read_locals env.tags n lines)) ≡ None → read_body (outside env) n type params lines ≡ None
+    allowed apart (reading.param_locals (params_of type) params) ≡ Some ps → option_and_then (allowed first_apart) (option_map (locals_behind ps) (read_locals (bases env) n lines)) ≡ None → read_body (outside env) n type params lines ≡ None
 body_locals_fail env n type params lines ps p l = body_read env n type params lines ps p ∙ ap (option_and_then (body_of_locals env n params)) l
 
 among_front : (ts us : List (List ℕ)) (t : List ℕ) → is_among ts t ≡ true → is_among (ts ++ us) t ≡ true
@@ -412,7 +412,7 @@ never_apart env n params ps e (Some l) = not_apart_none env n params (ps ++ l.0,
 pub body_params_fail : (env : Env) (n : ℕ) (type : Shape) (params : List (List ℕ)) (lines : Lines) → allowed apart (reading.param_locals (params_of type) params) ≡ None → read_body (outside env) n type params lines ≡ None
 body_params_fail env n type params lines p =
     body_is env n type params lines
-    ∙ never_apart env n params (reading.param_locals (params_of type) params) (allowed_not apart (reading.param_locals (params_of type) params) p) (read_locals env.tags n lines)
+    ∙ never_apart env n params (reading.param_locals (params_of type) params) (allowed_not apart (reading.param_locals (params_of type) params) p) (read_locals (bases env) n lines)
 
 -- a body that is seen as one tree
 

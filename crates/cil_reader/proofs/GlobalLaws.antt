@@ -25,8 +25,8 @@ use Rattle.cil_tree.specs.View.{type_at, definition_of, global_of}
 use Rattle.cil_text.specs.TypesOf.{AddsParts}
 use Rattle.cil_text.proofs.PartsAdded.{adds_none, adds_twice}
 use Rattle.cil_text.specs.Words.{Word, Semicolon, ExternWord, StaticWord}
-use Rattle.cil_text.specs.ReadTypes.{Reading, Named, read_decl}
-use Rattle.cil_text.specs.ReadExps.{Env}
+use Rattle.cil_text.specs.ReadTypes.{Reading, Bases, Named, read_decl}
+use Rattle.cil_text.specs.ReadExps.{Env, bases}
 use Rattle.cil_text.specs.ReadAggregates.{Lines, LinesReading}
 use Rattle.cil_text.specs.ReadGlobals.{Declaration, declares, declared_with, only_function, declaration_from, declaration_first, read_declarations, without_static, own_name, is_called, object_defined, own_definition, image_end, defined_by, default_of, Definitions, definition_first, read_objects, declared_name, declared_local}
 use Rattle.cil_reader.specs.declared.globals.Declaration.{Declaration as SeenDeclaration}
@@ -142,20 +142,20 @@ function_not o d e f = ap (option_and_then only_function) e ∙ ap (λ b. cond b
 pub function_fails : (o : Option Declaration) → o ≡ None → option_and_then only_function o ≡ None
 function_fails o e = ap (option_and_then only_function) e
 
-abbrev stored_by : List (List ℕ) → ℕ → List Word → Option (Bool × List Word) → Option Declaration
-stored_by tags n ws (Some x) = option_and_then (declared_with x.0) (read_decl tags n x.1)
-stored_by tags n ws None = option_and_then only_function (option_and_then (declared_with false) (read_decl tags n ws))
+abbrev stored_by : Bases → ℕ → List Word → Option (Bool × List Word) → Option Declaration
+stored_by bases n ws (Some x) = option_and_then (declared_with x.0) (read_decl bases n x.1)
+stored_by bases n ws None = option_and_then only_function (option_and_then (declared_with false) (read_decl bases n ws))
 
-storage_is : (tags : List (List ℕ)) (n : ℕ) (ws : List Word) → declaration_from tags n ws ≡ stored_by tags n ws (storage ws)
-storage_is tags n (ExternWord ∷ ws) = refl
-storage_is tags n (StaticWord ∷ ws) = refl
-storage_is tags n _ = refl
+storage_is : (bases : Bases) (n : ℕ) (ws : List Word) → declaration_from bases n ws ≡ stored_by bases n ws (storage ws)
+storage_is bases n (ExternWord ∷ ws) = refl
+storage_is bases n (StaticWord ∷ ws) = refl
+storage_is bases n _ = refl
 
-pub stored_next : (tags : List (List ℕ)) (n : ℕ) (b : Bool) (ws vs : List Word) → Some (b, vs) ≡ storage ws → declaration_from tags n ws ≡ option_and_then (declared_with b) (read_decl tags n vs)
-stored_next tags n b ws vs e = storage_is tags n ws ∙ ap (stored_by tags n ws) (sym e)
+pub stored_next : (bases : Bases) (n : ℕ) (b : Bool) (ws vs : List Word) → Some (b, vs) ≡ storage ws → declaration_from bases n ws ≡ option_and_then (declared_with b) (read_decl bases n vs)
+stored_next bases n b ws vs e = storage_is bases n ws ∙ ap (stored_by bases n ws) (sym e)
 
-pub alone_next : (tags : List (List ℕ)) (n : ℕ) (ws : List Word) → None ≡ storage ws → declaration_from tags n ws ≡ option_and_then only_function (option_and_then (declared_with false) (read_decl tags n ws))
-alone_next tags n ws e = storage_is tags n ws ∙ ap (stored_by tags n ws) (sym e)
+pub alone_next : (bases : Bases) (n : ℕ) (ws : List Word) → None ≡ storage ws → declaration_from bases n ws ≡ option_and_then only_function (option_and_then (declared_with false) (read_decl bases n ws))
+alone_next bases n ws e = storage_is bases n ws ∙ ap (stored_by bases n ws) (sym e)
 
 -- declarations
 
@@ -163,11 +163,11 @@ declarations_more : (nodes : List Node) (ds : List SeenDeclaration) (d : SeenDec
 declarations_more nodes [] d = refl
 declarations_more nodes (x ∷ ds) d = ap (λ ys. declaration_of nodes x ∷ ys) (declarations_more nodes ds d)
 
-abbrev declarations_from : List (List ℕ) → ℕ → Lines → Option Declaration → LinesReading (List Declaration)
-declarations_from tags n lines o = option_and_then (λ (d : Declaration). option_map (declaration_first d) (read_declarations tags n lines)) o
+abbrev declarations_from : Bases → ℕ → Lines → Option Declaration → LinesReading (List Declaration)
+declarations_from bases n lines o = option_and_then (λ (d : Declaration). option_map (declaration_first d) (read_declarations bases n lines)) o
 
-declarations_is : (tags : List (List ℕ)) (n : ℕ) (line : List Word) (lines : Lines) (b : Bool) → declares line ≡ b → read_declarations tags n (line ∷ lines) ≡ cond b (declarations_from tags n lines (declaration_from tags n line)) (Some ([], line ∷ lines))
-declarations_is tags n line lines b e = ap (λ v. cond v (declarations_from tags n lines (declaration_from tags n line)) (Some ([], line ∷ lines))) e
+declarations_is : (bases : Bases) (n : ℕ) (line : List Word) (lines : Lines) (b : Bool) → declares line ≡ b → read_declarations bases n (line ∷ lines) ≡ cond b (declarations_from bases n lines (declaration_from bases n line)) (Some ([], line ∷ lines))
+declarations_is bases n line lines b e = ap (λ v. cond v (declarations_from bases n lines (declaration_from bases n line)) (Some ([], line ∷ lines))) e
 
 all_behind : (o : LinesReading (List Declaration)) → option_map (declarations_behind []) o ≡ o
 all_behind None = refl
@@ -193,60 +193,60 @@ lines_from (line ∷ lines) (suc i) d h = lines_from lines i d (omega arith)
 lines_at : (lines : List (Vec Seen Global)) (i : ℕ) (d : Vec Seen Global) → i < length lines → all_lines (drop i lines) ≡ all_said (get_or lines i d).items ∷ all_lines (drop (i + 1) lines)
 lines_at lines i d h = let e : suc i ≡ i + 1 = omega arith in lines_from lines i d h ∙ ap (λ j. all_said (get_or lines i d).items ∷ all_lines (drop j lines)) e
 
-pub declarations_end : (tags : List (List ℕ)) (n : ℕ) (ds : List Declaration) (lines : List (Vec Seen Global)) (i : ℕ) (whole : LinesReading (List Declaration)) → length lines ≤ i → option_map (declarations_behind ds) (read_declarations tags n (all_lines (drop i lines))) ≡ whole →
+pub declarations_end : (bases : Bases) (n : ℕ) (ds : List Declaration) (lines : List (Vec Seen Global)) (i : ℕ) (whole : LinesReading (List Declaration)) → length lines ≤ i → option_map (declarations_behind ds) (read_declarations bases n (all_lines (drop i lines))) ≡ whole →
     whole ≡ Some (ds, all_lines (take (length lines - length lines) (drop (length lines) lines)))
-declarations_end tags n ds lines i whole h inv =
+declarations_end bases n ds lines i whole h inv =
     sym inv
-    ∙ ap (λ ls. option_map (declarations_behind ds) (read_declarations tags n (all_lines ls))) (past lines i h)
+    ∙ ap (λ ls. option_map (declarations_behind ds) (read_declarations bases n (all_lines ls))) (past lines i h)
     ∙ ap (λ (xs : List Declaration). Some (xs, [])) (append-nil ds)
     ∙ ap (λ (ls : List (Vec Seen Global)). Some (ds, all_lines ls)) (sym (tail_of lines (length lines) ∙ past lines (length lines) (omega arith)))
 
-pub declarations_stop : (tags : List (List ℕ)) (n : ℕ) (ds : List Declaration) (lines : List (Vec Seen Global)) (i : ℕ) (d : Vec Seen Global) (whole : LinesReading (List Declaration)) → i < length lines → declares (all_said (get_or lines i d).items) ≡ false →
-    option_map (declarations_behind ds) (read_declarations tags n (all_lines (drop i lines))) ≡ whole → whole ≡ Some (ds, all_lines (take (length lines - i) (drop i lines)))
-declarations_stop tags n ds lines i d whole less e inv =
+pub declarations_stop : (bases : Bases) (n : ℕ) (ds : List Declaration) (lines : List (Vec Seen Global)) (i : ℕ) (d : Vec Seen Global) (whole : LinesReading (List Declaration)) → i < length lines → declares (all_said (get_or lines i d).items) ≡ false →
+    option_map (declarations_behind ds) (read_declarations bases n (all_lines (drop i lines))) ≡ whole → whole ≡ Some (ds, all_lines (take (length lines - i) (drop i lines)))
+declarations_stop bases n ds lines i d whole less e inv =
     let line = all_said (get_or lines i d).items in
     let rest = all_lines (drop (i + 1) lines) in
     sym inv
-    ∙ ap (option_map (declarations_behind ds)) (ap (read_declarations tags n) (lines_at lines i d less) ∙ declarations_is tags n line rest false e)
+    ∙ ap (option_map (declarations_behind ds)) (ap (read_declarations bases n) (lines_at lines i d less) ∙ declarations_is bases n line rest false e)
     ∙ ap (λ (xs : List Declaration). Some (xs, line ∷ rest)) (append-nil ds)
     ∙ ap (λ (ls : Lines). Some (ds, ls)) (sym (ap all_lines (tail_of lines i) ∙ lines_at lines i d less))
 
-abbrev declarations_on : List (List ℕ) → ℕ → Lines → List Declaration → LinesReading (List Declaration)
-declarations_on tags n lines es = option_map (declarations_behind es) (read_declarations tags n lines)
+abbrev declarations_on : Bases → ℕ → Lines → List Declaration → LinesReading (List Declaration)
+declarations_on bases n lines es = option_map (declarations_behind es) (read_declarations bases n lines)
 
-declarations_by : (tags : List (List ℕ)) (n : ℕ) (ds : List Declaration) (line : List Word) (lines : Lines) → declares line ≡ true →
-    option_map (declarations_behind ds) (read_declarations tags n (line ∷ lines)) ≡ option_and_then (declarations_on tags n lines) (option_map (declaration_behind ds) (declaration_from tags n line))
-declarations_by tags n ds line lines e = ap (option_map (declarations_behind ds)) (declarations_is tags n line lines true e) ∙ by (declaration_from tags n line)
+declarations_by : (bases : Bases) (n : ℕ) (ds : List Declaration) (line : List Word) (lines : Lines) → declares line ≡ true →
+    option_map (declarations_behind ds) (read_declarations bases n (line ∷ lines)) ≡ option_and_then (declarations_on bases n lines) (option_map (declaration_behind ds) (declaration_from bases n line))
+declarations_by bases n ds line lines e = ap (option_map (declarations_behind ds)) (declarations_is bases n line lines true e) ∙ by (declaration_from bases n line)
   where
     one : (d : Declaration) (o : LinesReading (List Declaration)) → option_map (declarations_behind ds) (option_map (declaration_first d) o) ≡ option_map (declarations_behind (ds ++ d ∷ [])) o
     one d None = refl
     one d (Some r) = ap (λ (ys : List Declaration). Some (ys, r.1)) (sym (append_assoc ds (d ∷ []) r.0))
 
-    by : (o : Option Declaration) → option_map (declarations_behind ds) (declarations_from tags n lines o) ≡ option_and_then (declarations_on tags n lines) (option_map (declaration_behind ds) o)
+    by : (o : Option Declaration) → option_map (declarations_behind ds) (declarations_from bases n lines o) ≡ option_and_then (declarations_on bases n lines) (option_map (declaration_behind ds) o)
     by None = refl
-    by (Some d) = one d (read_declarations tags n lines)
+    by (Some d) = one d (read_declarations bases n lines)
 
-declarations_at : (tags : List (List ℕ)) (n : ℕ) (ds : List Declaration) (lines : List (Vec Seen Global)) (i : ℕ) (d : Vec Seen Global) → i < length lines → declares (all_said (get_or lines i d).items) ≡ true →
-    option_map (declarations_behind ds) (read_declarations tags n (all_lines (drop i lines))) ≡ option_and_then (declarations_on tags n (all_lines (drop (i + 1) lines))) (option_map (declaration_behind ds) (declaration_from tags n (all_said (get_or lines i d).items)))
-declarations_at tags n ds lines i d less e =
-    ap (λ ls. option_map (declarations_behind ds) (read_declarations tags n ls)) (lines_at lines i d less) ∙ declarations_by tags n ds (all_said (get_or lines i d).items) (all_lines (drop (i + 1) lines)) e
+declarations_at : (bases : Bases) (n : ℕ) (ds : List Declaration) (lines : List (Vec Seen Global)) (i : ℕ) (d : Vec Seen Global) → i < length lines → declares (all_said (get_or lines i d).items) ≡ true →
+    option_map (declarations_behind ds) (read_declarations bases n (all_lines (drop i lines))) ≡ option_and_then (declarations_on bases n (all_lines (drop (i + 1) lines))) (option_map (declaration_behind ds) (declaration_from bases n (all_said (get_or lines i d).items)))
+declarations_at bases n ds lines i d less e =
+    ap (λ ls. option_map (declarations_behind ds) (read_declarations bases n ls)) (lines_at lines i d less) ∙ declarations_by bases n ds (all_said (get_or lines i d).items) (all_lines (drop (i + 1) lines)) e
 
-pub declarations_fail : (env now : Env) (n : ℕ) (ds : List Declaration) (lines : List (Vec Seen Global)) (i : ℕ) (d : Vec Seen Global) (whole : LinesReading (List Declaration)) → i < length lines → now ≡ env → option_map (declaration_behind ds) (declaration_from now.tags n (all_said (get_or lines i d).items)) ≡ None →
-    declares (all_said (get_or lines i d).items) ≡ true → option_map (declarations_behind ds) (read_declarations env.tags n (all_lines (drop i lines))) ≡ whole → whole ≡ None
+pub declarations_fail : (env now : Env) (n : ℕ) (ds : List Declaration) (lines : List (Vec Seen Global)) (i : ℕ) (d : Vec Seen Global) (whole : LinesReading (List Declaration)) → i < length lines → now ≡ env → option_map (declaration_behind ds) (declaration_from (bases now) n (all_said (get_or lines i d).items)) ≡ None →
+    declares (all_said (get_or lines i d).items) ≡ true → option_map (declarations_behind ds) (read_declarations (bases env) n (all_lines (drop i lines))) ≡ whole → whole ≡ None
 declarations_fail env now n ds lines i d whole less same told e inv =
-    sym inv ∙ declarations_at env.tags n ds lines i d less e
-    ∙ ap (option_and_then (declarations_on env.tags n (all_lines (drop (i + 1) lines)))) (ap (λ v. option_map (declaration_behind ds) (declaration_from v.tags n (all_said (get_or lines i d).items))) (sym same) ∙ told)
+    sym inv ∙ declarations_at (bases env) n ds lines i d less e
+    ∙ ap (option_and_then (declarations_on (bases env) n (all_lines (drop (i + 1) lines)))) (ap (λ v. option_map (declaration_behind ds) (declaration_from (bases v) n (all_said (get_or lines i d).items))) (sym same) ∙ told)
 
-pub declarations_stops : (env now : Env) (n : ℕ) (ds : List Declaration) (lines : List (Vec Seen Global)) (i : ℕ) (d : Vec Seen Global) (whole : LinesReading (List Declaration)) (e : Stop) → i < length lines → now ≡ env → Fails e (option_map (declaration_behind ds) (declaration_from now.tags n (all_said (get_or lines i d).items))) →
-    declares (all_said (get_or lines i d).items) ≡ true → option_map (declarations_behind ds) (read_declarations env.tags n (all_lines (drop i lines))) ≡ whole → Fails e whole
+pub declarations_stops : (env now : Env) (n : ℕ) (ds : List Declaration) (lines : List (Vec Seen Global)) (i : ℕ) (d : Vec Seen Global) (whole : LinesReading (List Declaration)) (e : Stop) → i < length lines → now ≡ env → Fails e (option_map (declaration_behind ds) (declaration_from (bases now) n (all_said (get_or lines i d).items))) →
+    declares (all_said (get_or lines i d).items) ≡ true → option_map (declarations_behind ds) (read_declarations (bases env) n (all_lines (drop i lines))) ≡ whole → Fails e whole
 declarations_stops env now n ds lines i d whole NotCil less same told e inv = declarations_fail env now n ds lines i d whole less same told e inv
 declarations_stops env now n ds lines i d whole WantOfMemory less same told e inv = tt
 
-pub declarations_next : (env now : Env) (n : ℕ) (ds es : List Declaration) (lines : List (Vec Seen Global)) (i : ℕ) (d : Vec Seen Global) (whole : LinesReading (List Declaration)) → i < length lines → now ≡ env → option_map (declaration_behind ds) (declaration_from now.tags n (all_said (get_or lines i d).items)) ≡ Some es →
-    declares (all_said (get_or lines i d).items) ≡ true → option_map (declarations_behind ds) (read_declarations env.tags n (all_lines (drop i lines))) ≡ whole → option_map (declarations_behind es) (read_declarations env.tags n (all_lines (drop (i + 1) lines))) ≡ whole
+pub declarations_next : (env now : Env) (n : ℕ) (ds es : List Declaration) (lines : List (Vec Seen Global)) (i : ℕ) (d : Vec Seen Global) (whole : LinesReading (List Declaration)) → i < length lines → now ≡ env → option_map (declaration_behind ds) (declaration_from (bases now) n (all_said (get_or lines i d).items)) ≡ Some es →
+    declares (all_said (get_or lines i d).items) ≡ true → option_map (declarations_behind ds) (read_declarations (bases env) n (all_lines (drop i lines))) ≡ whole → option_map (declarations_behind es) (read_declarations (bases env) n (all_lines (drop (i + 1) lines))) ≡ whole
 declarations_next env now n ds es lines i d whole less same told e inv =
-    sym (declarations_at env.tags n ds lines i d less e
-    ∙ ap (option_and_then (declarations_on env.tags n (all_lines (drop (i + 1) lines)))) (ap (λ v. option_map (declaration_behind ds) (declaration_from v.tags n (all_said (get_or lines i d).items))) (sym same) ∙ told))
+    sym (declarations_at (bases env) n ds lines i d less e
+    ∙ ap (option_and_then (declarations_on (bases env) n (all_lines (drop (i + 1) lines)))) (ap (λ v. option_map (declaration_behind ds) (declaration_from (bases v) n (all_said (get_or lines i d).items))) (sym same) ∙ told))
     ∙ inv
 
 -- one declaration more
@@ -426,8 +426,8 @@ names_end nodes x ds i whole h inv = sym inv ∙ ap (λ es. names_on (locals_of 
 
 -- an object by its own line
 
-own_is : (env : Env) (n : ℕ) (d : Declaration) (ws : List Word) → own_definition env n d ws ≡ option_and_then (defined_by env n d.type) (typed env.tags n d.type (without_static ws))
-own_is env n d ws = by (read_decl env.tags n (without_static ws))
+own_is : (env : Env) (n : ℕ) (d : Declaration) (ws : List Word) → own_definition env n d ws ≡ option_and_then (defined_by env n d.type) (typed (bases env) n d.type (without_static ws))
+own_is env n d ws = by (read_decl (bases env) n (without_static ws))
   where
     called : (b : Bool) (vs : List Word) → cond {A = Option Definition} b (defined_by env n d.type vs) None ≡ option_and_then (defined_by env n d.type) (cond b (Some vs) None)
     called true vs = refl
@@ -437,14 +437,14 @@ own_is env n d ws = by (read_decl env.tags n (without_static ws))
     by None = refl
     by (Some r) = called (same_shape r.0.0 d.type) r.1
 
-pub own_gives : (g h : Graph) (env : Env) (n : ℕ) (d : SeenDeclaration) (ws vs : List Word) → Grows g h → d.ty.0 < length g.nodes → typed env.tags n (shape g.nodes d.ty.0) (without_static ws) ≡ Some vs →
+pub own_gives : (g h : Graph) (env : Env) (n : ℕ) (d : SeenDeclaration) (ws vs : List Word) → Grows g h → d.ty.0 < length g.nodes → typed (bases env) n (shape g.nodes d.ty.0) (without_static ws) ≡ Some vs →
     own_definition env n (declaration_of g.nodes d) ws ≡ defined_by env n (shape h.nodes d.ty.0) vs
 own_gives g h env n d ws vs grows low e =
     own_is env n (declaration_of g.nodes d) ws
     ∙ ap (option_and_then (defined_by env n (shape g.nodes d.ty.0))) e
     ∙ ap (λ s. defined_by env n s vs) (sym (kept g h d.ty.0 grows low))
 
-pub own_fails : (env : Env) (n : ℕ) (d : Declaration) (ws : List Word) → typed env.tags n d.type (without_static ws) ≡ None → own_definition env n d ws ≡ None
+pub own_fails : (env : Env) (n : ℕ) (d : Declaration) (ws : List Word) → typed (bases env) n d.type (without_static ws) ≡ None → own_definition env n d ws ≡ None
 own_fails env n d ws e = own_is env n d ws ∙ ap (option_and_then (defined_by env n d.type)) e
 
 image_by : (items : List Item) (ws : List Word) → image_end (items, ws) ≡ cond (is_end ws) (Some (Image items)) None

@@ -2,7 +2,9 @@
 use Rattle.std.proofs.Common.{◌≡◌, ℕ, zero, suc, true, false, cond, List, [], ◌∷◌, ◌++◌, length, drop, get_or, append_assoc, append-nil, ◌+◌, ◌<◌, ◌≤◌, Vec, Box, Option, Some, None, refl, sym, ap, ◌∙◌, subst, arith, ℤ}
 use Rattle.std.specs.Option.{option_map, option_and_then}
 use Rattle.std.specs.Global.{Global}
+use Rattle.cil_base.specs.declared.kinds.Abi.{Abi}
 use Rattle.cil_base.specs.declared.kinds.IntKind.{IntKind}
+use Rattle.cil_base.specs.Integer.{kind_in}
 use Rattle.cil_base.specs.declared.numbers.LabelId.{LabelId}
 use Rattle.type_graph.specs.declared.nodes.Node.{Node}
 use Rattle.type_graph.specs.Arena.{Graph}
@@ -90,20 +92,22 @@ return_fails env n ws more h = return_by env n ws more ∙ ap (λ o. option_map 
 
 -- `case`
 
-case_by : (x : Numbered) (ws : List Word) → case_of (x, ws) ≡ cond (ends_case ws) (Some (Whole (plain.Case x.0 x.1))) None
-case_by x (Colon ∷ Semicolon ∷ []) = refl
-case_by x (Colon ∷ Semicolon ∷ w ∷ ws) = refl
-case_by x (Colon ∷ _) = refl
-case_by x _ = refl
+case_by : (abi : Abi) (x : Numbered) (ws : List Word) → case_of abi (x, ws) ≡ cond (ends_case ws) (Some (Whole (plain.Case (kind_in abi x.0) x.1))) None
+case_by abi x (Colon ∷ Semicolon ∷ []) = refl
+case_by abi x (Colon ∷ Semicolon ∷ w ∷ ws) = refl
+case_by abi x (Colon ∷ _) = refl
+case_by abi x _ = refl
 
-pub case_gives : (o : Reading Numbered) (kind : IntKind) (v : ℤ) (ws : List Word) → Some ((kind, v), ws) ≡ o → ends_case ws ≡ true → Some (Whole (plain.Case kind v)) ≡ option_and_then case_of o
-case_gives o kind v ws h end = sym (ap (option_and_then case_of) (sym h) ∙ case_by (kind, v) ws ∙ ap (λ b. cond b (Some (Whole (plain.Case kind v))) None) end)
+pub case_gives : (abi : Abi) (o : Reading Numbered) (kind own : IntKind) (v : ℤ) (ws : List Word) → Some ((kind, v), ws) ≡ o → ends_case ws ≡ true → own ≡ kind_in abi kind → Some (Whole (plain.Case own v)) ≡ option_and_then (case_of abi) o
+case_gives abi o kind own v ws h end is =
+    ap (λ (k : IntKind). Some (Whole (plain.Case k v))) is
+    ∙ sym (ap (option_and_then (case_of abi)) (sym h) ∙ case_by abi (kind, v) ws ∙ ap (λ b. cond b (Some (Whole (plain.Case (kind_in abi kind) v))) None) end)
 
-pub case_open : (o : Reading Numbered) (x : Numbered) (ws : List Word) → Some (x, ws) ≡ o → ends_case ws ≡ false → None ≡ option_and_then case_of o
-case_open o x ws h end = sym (ap (option_and_then case_of) (sym h) ∙ case_by x ws ∙ ap (λ b. cond b (Some (Whole (plain.Case x.0 x.1))) None) end)
+pub case_open : (abi : Abi) (o : Reading Numbered) (x : Numbered) (ws : List Word) → Some (x, ws) ≡ o → ends_case ws ≡ false → None ≡ option_and_then (case_of abi) o
+case_open abi o x ws h end = sym (ap (option_and_then (case_of abi)) (sym h) ∙ case_by abi x ws ∙ ap (λ b. cond b (Some (Whole (plain.Case (kind_in abi x.0) x.1))) None) end)
 
-pub case_fails : (o : Reading Numbered) → None ≡ o → None ≡ option_and_then case_of o
-case_fails o h = sym (ap (option_and_then case_of) (sym h))
+pub case_fails : (abi : Abi) (o : Reading Numbered) → None ≡ o → None ≡ option_and_then (case_of abi) o
+case_fails abi o h = sym (ap (option_and_then (case_of abi)) (sym h))
 
 -- labels and instructions
 

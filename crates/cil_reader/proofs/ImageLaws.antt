@@ -1,12 +1,16 @@
 -- Device: steps of the readings of initialised objects.
-use Rattle.std.proofs.Common.{◌≡◌, ℕ, suc, ◌-◌, ◌+◌, ◌<◌, ◌≤◌, Bool, true, false, cond, List, [], ◌∷◌, ◌++◌, Option, Some, None, refl, sym, ap, ◌∙◌, map, arith, length, append_assoc, append-nil, Vec, ℤ}
+use Rattle.std.proofs.Common.{◌≡◌, ℕ, suc, ◌-◌, ◌+◌, ◌<◌, ◌≤◌, Bool, true, false, cond, List, [], ◌∷◌, ◌++◌, Option, Some, None, refl, sym, ap, ◌∙◌, map, arith, length, append_assoc, append-nil, Vec, ℤ, ◌<ℤ◌, int_le, ◌&&◌}
+use Rattle.std.proofs.lemmas.Int.{ints}
 use Rattle.std.specs.Option.{option_map, option_and_then}
 use Rattle.std.specs.Global.{Global}
 use Rattle.cil_base.specs.declared.numbers.EntityId.{EntityId}
 use Rattle.cil_base.specs.declared.constants.Constant.{Constant}
 use Rattle.cil_base.specs.declared.constants.Constant.TheVariants.{Address}
+use Rattle.cil_base.specs.declared.kinds.Abi.{Abi}
+use Rattle.cil_base.specs.declared.kinds.Abi.TheVariants.{Lp64, Ilp32}
 use Rattle.cil_base.specs.declared.kinds.IntKind.{IntKind}
-use Rattle.cil_base.specs.declared.kinds.IntKind.TheVariants.{Int as int, Long}
+use Rattle.cil_base.specs.declared.kinds.IntKind.TheVariants.{Int as int, Long, Long4}
+use Rattle.cil_base.specs.Integer.{least, greatest, long_of}
 use Rattle.cil_base.specs.Arithmetic.{fits}
 use Rattle.cil_base.specs.declared.numbers.TypeId.{TypeId}
 use Rattle.type_graph.specs.Arena.{Graph}
@@ -20,7 +24,7 @@ use Rattle.cil_tree.specs.Typing.{same_shape}
 use Rattle.cil_tree.specs.View.{step_of, item_of}
 use Rattle.cil_text.specs.Words.{Word, RightParen, LeftBracket, RightBracket, RightBrace, Dot, Comma, Assign, Number, Name}
 use Rattle.cil_text.specs.ReadTypes.{Reading, Named, skip_one, closed, read_decl}
-use Rattle.cil_text.specs.ReadExps.{Env, find_named, type_of_named, fields, enclosed}
+use Rattle.cil_text.specs.ReadExps.{Env, bases, find_named, type_of_named, fields, enclosed}
 use Rattle.cil_text.specs.ReadStmts.{Numbered, read_number}
 use Rattle.cil_text.specs.ReadImages.{Path, step_first, read_path, integer_of, address_at, offset_at, read_pointer, converted_to, read_converted, read_constant, item_at, read_item, item_first, next_item, read_items, only_item, is_brace, read_image}
 use Rattle.cil_reader.specs.declared.reader.Scalar.TheVariants.{Int, Pointer, Other}
@@ -118,8 +122,8 @@ closed_is x _ = refl
 abbrev moved_to : ℕ → Numbered → List Word → ℤ → Constant × List Word
 moved_to n x vs v = (Address (record { 0 = n }) v, vs)
 
-offset_by : (n : ℕ) (x : Numbered) (ws : List Word) → offset_at n (x, ws) ≡ option_and_then (λ (v : ℤ). option_map (λ (vs : List Word). moved_to n x vs v) (closing ws)) (offset_in x.1)
-offset_by n x ws = by (fits Long x.1)
+offset_by : (abi : Abi) (n : ℕ) (x : Numbered) (ws : List Word) → offset_at abi n (x, ws) ≡ option_and_then (λ (v : ℤ). option_map (λ (vs : List Word). moved_to n x vs v) (closing ws)) (offset_in abi x.1)
+offset_by abi n x ws = by (fits (long_of abi) x.1)
   where
     by : (b : Bool) → cond {A = Reading Constant} b (closed (address_at n x) ws) None ≡ option_and_then (λ (v : ℤ). option_map (λ (vs : List Word). moved_to n x vs v) (closing ws)) (cond {A = Option ℤ} b (Some x.1) None)
     by true = closed_is (address_at n x) ws
@@ -128,29 +132,48 @@ offset_by n x ws = by (fits Long x.1)
 abbrev offset_from : ℕ → Numbered → Option (List Word) → Option ℤ → Reading Constant
 offset_from n x o p = option_and_then (λ (v : ℤ). option_map (λ (vs : List Word). moved_to n x vs v) o) p
 
-pub address_gives : (e : EntityId) (o : Reading Numbered) (kind : IntKind) (v w : ℤ) (ws vs : List Word) → Some ((kind, v), ws) ≡ o → Some vs ≡ closing ws → Some w ≡ offset_in v → Some (Address e w, vs) ≡ option_and_then (offset_at e.0) o
-address_gives e o kind v w ws vs h c p = sym (
-    ap (option_and_then (offset_at e.0)) (sym h)
-    ∙ offset_by e.0 (kind, v) ws
-    ∙ ap (λ q. offset_from e.0 (kind, v) q (offset_in v)) (sym c)
+pub address_gives : (abi : Abi) (e : EntityId) (o : Reading Numbered) (kind : IntKind) (v w : ℤ) (ws vs : List Word) → Some ((kind, v), ws) ≡ o → Some vs ≡ closing ws → Some w ≡ offset_in abi v → Some (Address e w, vs) ≡ option_and_then (offset_at abi e.0) o
+address_gives abi e o kind v w ws vs h c p = sym (
+    ap (option_and_then (offset_at abi e.0)) (sym h)
+    ∙ offset_by abi e.0 (kind, v) ws
+    ∙ ap (λ q. offset_from e.0 (kind, v) q (offset_in abi v)) (sym c)
     ∙ ap (offset_from e.0 (kind, v) (Some vs)) (sym p))
 
-pub address_far : (e : EntityId) (o : Reading Numbered) (kind : IntKind) (v : ℤ) (ws : List Word) → Some ((kind, v), ws) ≡ o → None ≡ offset_in v → None ≡ option_and_then (offset_at e.0) o
-address_far e o kind v ws h p = sym (ap (option_and_then (offset_at e.0)) (sym h) ∙ offset_by e.0 (kind, v) ws ∙ ap (offset_from e.0 (kind, v) (closing ws)) (sym p))
+pub address_far : (abi : Abi) (e : EntityId) (o : Reading Numbered) (kind : IntKind) (v : ℤ) (ws : List Word) → Some ((kind, v), ws) ≡ o → None ≡ offset_in abi v → None ≡ option_and_then (offset_at abi e.0) o
+address_far abi e o kind v ws h p = sym (ap (option_and_then (offset_at abi e.0)) (sym h) ∙ offset_by abi e.0 (kind, v) ws ∙ ap (offset_from e.0 (kind, v) (closing ws)) (sym p))
 
 nowhere : (n : ℕ) (x : Numbered) (p : Option ℤ) → offset_from n x None p ≡ None
 nowhere n x None = refl
 nowhere n x (Some v) = refl
 
-pub address_open : (e : EntityId) (o : Reading Numbered) (x : Numbered) (ws : List Word) → Some (x, ws) ≡ o → None ≡ closing ws → None ≡ option_and_then (offset_at e.0) o
-address_open e o x ws h c = sym (
-    ap (option_and_then (offset_at e.0)) (sym h)
-    ∙ offset_by e.0 x ws
-    ∙ ap (λ q. offset_from e.0 x q (offset_in x.1)) (sym c)
-    ∙ nowhere e.0 x (offset_in x.1))
+pub address_open : (abi : Abi) (e : EntityId) (o : Reading Numbered) (x : Numbered) (ws : List Word) → Some (x, ws) ≡ o → None ≡ closing ws → None ≡ option_and_then (offset_at abi e.0) o
+address_open abi e o x ws h c = sym (
+    ap (option_and_then (offset_at abi e.0)) (sym h)
+    ∙ offset_by abi e.0 x ws
+    ∙ ap (λ q. offset_from e.0 x q (offset_in abi x.1)) (sym c)
+    ∙ nowhere e.0 x (offset_in abi x.1))
 
-pub address_fails : (e : EntityId) (o : Reading Numbered) → None ≡ o → None ≡ option_and_then (offset_at e.0) o
-address_fails e o h = sym (ap (option_and_then (offset_at e.0)) (sym h))
+pub address_fails : (abi : Abi) (e : EntityId) (o : Reading Numbered) → None ≡ o → None ≡ option_and_then (offset_at abi e.0) o
+address_fails abi e o h = sym (ap (option_and_then (offset_at abi e.0)) (sym h))
+
+-- an offset is in 8 bytes, whatever bytes long has
+
+not_least : (b c : Bool) (v : ℤ) → b ≡ false → None ≡ cond {A = Option ℤ} (b && c) (Some v) None
+not_least true c v e = absurd (cc e)
+not_least false c v e = refl
+
+not_greatest : (b c : Bool) (v : ℤ) → c ≡ false → None ≡ cond {A = Option ℤ} (b && c) (Some v) None
+not_greatest true true v e = absurd (cc e)
+not_greatest true false v e = refl
+not_greatest false c v e = refl
+
+pub offset_below : (abi : Abi) (v : ℤ) → v <ℤ least Long → None ≡ offset_in abi v
+offset_below Lp64 v h = not_least (int_le (least Long) v) (int_le v (greatest Long)) v (grind (arith, ints))
+offset_below Ilp32 v h = not_least (int_le (least Long4) v) (int_le v (greatest Long4)) v (grind (arith, ints))
+
+pub offset_above : (abi : Abi) (v : ℤ) → greatest Long <ℤ v → None ≡ offset_in abi v
+offset_above Lp64 v h = not_greatest (int_le (least Long) v) (int_le v (greatest Long)) v (grind (arith, ints))
+offset_above Ilp32 v h = not_greatest (int_le (least Long4) v) (int_le v (greatest Long4)) v (grind (arith, ints))
 
 -- scalars
 
@@ -183,8 +206,8 @@ scalar_other env n (AggType a) ws e = absurd (cc e)
 abbrev behind_cast : Env → List Word → Reading Constant
 behind_cast env vs = option_and_then (read_pointer env) (closing vs)
 
-converted_is : (env : Env) (n : ℕ) (s : Shape) (ws : List Word) → converted_from env n s ws ≡ option_and_then (behind_cast env) (typed env.tags n s ws)
-converted_is env n s ws = by (read_decl env.tags n ws)
+converted_is : (env : Env) (n : ℕ) (s : Shape) (ws : List Word) → converted_from env n s ws ≡ option_and_then (behind_cast env) (typed (bases env) n s ws)
+converted_is env n s ws = by (read_decl (bases env) n ws)
   where
     both : (t : Shape) (o : Option (List Word)) (vs : List Word) (b : Bool) → o ≡ closing vs → same_shape t s ≡ b → option_and_then (converted_to env s) (option_map (λ (us : List Word). (t, us)) o) ≡ option_and_then (behind_cast env) (cond b (Some vs) None)
     both t None vs true e f = ap (option_and_then (read_pointer env)) e
@@ -196,13 +219,13 @@ converted_is env n s ws = by (read_decl env.tags n ws)
     by None = refl
     by (Some r) = ap (option_and_then (converted_to env s)) (closed_is r.0.0 r.1) ∙ both r.0.0 (closing r.1) r.1 (same_shape r.0.0 s) refl refl
 
-pub converted_next : (env : Env) (n : ℕ) (s : Shape) (ws vs us : List Word) → typed env.tags n s ws ≡ Some vs → Some us ≡ closing vs → converted_from env n s ws ≡ read_pointer env us
+pub converted_next : (env : Env) (n : ℕ) (s : Shape) (ws vs us : List Word) → typed (bases env) n s ws ≡ Some vs → Some us ≡ closing vs → converted_from env n s ws ≡ read_pointer env us
 converted_next env n s ws vs us e h = converted_is env n s ws ∙ ap (option_and_then (behind_cast env)) e ∙ ap (option_and_then (read_pointer env)) (sym h)
 
-pub converted_open : (env : Env) (n : ℕ) (s : Shape) (ws vs : List Word) → typed env.tags n s ws ≡ Some vs → None ≡ closing vs → converted_from env n s ws ≡ None
+pub converted_open : (env : Env) (n : ℕ) (s : Shape) (ws vs : List Word) → typed (bases env) n s ws ≡ Some vs → None ≡ closing vs → converted_from env n s ws ≡ None
 converted_open env n s ws vs e h = converted_is env n s ws ∙ ap (option_and_then (behind_cast env)) e ∙ ap (option_and_then (read_pointer env)) (sym h)
 
-pub converted_fails : (env : Env) (n : ℕ) (s : Shape) (ws : List Word) → typed env.tags n s ws ≡ None → converted_from env n s ws ≡ None
+pub converted_fails : (env : Env) (n : ℕ) (s : Shape) (ws : List Word) → typed (bases env) n s ws ≡ None → converted_from env n s ws ≡ None
 converted_fails env n s ws e = converted_is env n s ws ∙ ap (option_and_then (behind_cast env)) e
 
 -- items

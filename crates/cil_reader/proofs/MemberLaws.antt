@@ -28,8 +28,8 @@ use Rattle.cil_tree.specs.Names.{is_among, are_different}
 use Rattle.cil_tree.specs.Programs.{SeenMember}
 use Rattle.cil_text.specs.Words.{Word, Comma, Semicolon}
 use Rattle.cil_text.specs.Allowed.{allowed, member_name_of}
-use Rattle.cil_text.specs.ReadTypes.{Reading, read_decl}
-use Rattle.cil_text.specs.ReadExps.{Env}
+use Rattle.cil_text.specs.ReadTypes.{Reading, Bases, read_decl}
+use Rattle.cil_text.specs.ReadExps.{Env, bases}
 use Rattle.cil_text.specs.ReadStmts.{Numbered}
 use Rattle.cil_text.proofs.AggregatesBack.{other_way, neither}
 use Rattle.cil_text.specs.ReadAggregates.{Lines, LinesReading, enumerator_at, read_enumerator, member_at, read_member, member_first, is_close, read_members}
@@ -417,17 +417,17 @@ ends_by s name (Semicolon ∷ []) = refl
 ends_by s name (Semicolon ∷ w ∷ ws) = refl
 ends_by s name _ = refl
 
-pub declared_gives : (tags : List (List ℕ)) (n : ℕ) (ws rs : List Word) (s : Shape) (text : List ℕ) → read_decl tags n ws ≡ Some ((s, Some text), rs) → is_end rs ≡ true → read_member tags n ws ≡ Some (member_with text s)
-declared_gives tags n ws rs s text e end = ap (option_and_then member_at) e ∙ ends_by s text rs ∙ ap (λ b. cond b (Some (member_with text s)) None) end
+pub declared_gives : (bases : Bases) (n : ℕ) (ws rs : List Word) (s : Shape) (text : List ℕ) → read_decl bases n ws ≡ Some ((s, Some text), rs) → is_end rs ≡ true → read_member bases n ws ≡ Some (member_with text s)
+declared_gives bases n ws rs s text e end = ap (option_and_then member_at) e ∙ ends_by s text rs ∙ ap (λ b. cond b (Some (member_with text s)) None) end
 
-pub declared_open : (tags : List (List ℕ)) (n : ℕ) (ws rs : List Word) (s : Shape) (text : List ℕ) → read_decl tags n ws ≡ Some ((s, Some text), rs) → is_end rs ≡ false → read_member tags n ws ≡ None
-declared_open tags n ws rs s text e end = ap (option_and_then member_at) e ∙ ends_by s text rs ∙ ap (λ b. cond b (Some (member_with text s)) None) end
+pub declared_open : (bases : Bases) (n : ℕ) (ws rs : List Word) (s : Shape) (text : List ℕ) → read_decl bases n ws ≡ Some ((s, Some text), rs) → is_end rs ≡ false → read_member bases n ws ≡ None
+declared_open bases n ws rs s text e end = ap (option_and_then member_at) e ∙ ends_by s text rs ∙ ap (λ b. cond b (Some (member_with text s)) None) end
 
-pub declared_nameless : (tags : List (List ℕ)) (n : ℕ) (ws rs : List Word) (s : Shape) → read_decl tags n ws ≡ Some ((s, None), rs) → read_member tags n ws ≡ None
-declared_nameless tags n ws rs s e = ap (option_and_then member_at) e
+pub declared_nameless : (bases : Bases) (n : ℕ) (ws rs : List Word) (s : Shape) → read_decl bases n ws ≡ Some ((s, None), rs) → read_member bases n ws ≡ None
+declared_nameless bases n ws rs s e = ap (option_and_then member_at) e
 
-pub declared_fails : (tags : List (List ℕ)) (n : ℕ) (ws : List Word) → read_decl tags n ws ≡ None → read_member tags n ws ≡ None
-declared_fails tags n ws e = ap (option_and_then member_at) e
+pub declared_fails : (bases : Bases) (n : ℕ) (ws : List Word) → read_decl bases n ws ≡ None → read_member bases n ws ≡ None
+declared_fails bases n ws e = ap (option_and_then member_at) e
 
 others_by : (b : Bool) (ms : List SeenMember) (m : SeenMember) → b ≡ false → cond b None (Some (ms ++ m ∷ [])) ≡ Some (ms ++ m ∷ [])
 others_by true ms m e = absurd (cc e)
@@ -473,16 +473,16 @@ fields_later g h names ms x e k = record {
   apart = k.apart;
 }
 
-pub more_gives : (g h : Graph) (names : List (List ℕ)) (ms : List Member) (x : Names) (tags : List (List ℕ)) (n : ℕ) (ws : List Word) (m : SeenMember) (ns : List SeenMember) → FieldsKnown g names ms x → Grows g h → read_member tags n ws ≡ Some m →
-    with_other (members_in h.nodes names ms) m ≡ Some ns → member_more (read_member tags n) (members_in g.nodes names ms) ws ≡ Some ns
-more_gives g h names ms x tags n ws m ns k r e f = ap (option_and_then (with_other (members_in g.nodes names ms))) e ∙ ap (λ xs. with_other xs m) (sym (k.members.steady h names r (pool_same names))) ∙ f
+pub more_gives : (g h : Graph) (names : List (List ℕ)) (ms : List Member) (x : Names) (bases : Bases) (n : ℕ) (ws : List Word) (m : SeenMember) (ns : List SeenMember) → FieldsKnown g names ms x → Grows g h → read_member bases n ws ≡ Some m →
+    with_other (members_in h.nodes names ms) m ≡ Some ns → member_more (read_member bases n) (members_in g.nodes names ms) ws ≡ Some ns
+more_gives g h names ms x bases n ws m ns k r e f = ap (option_and_then (with_other (members_in g.nodes names ms))) e ∙ ap (λ xs. with_other xs m) (sym (k.members.steady h names r (pool_same names))) ∙ f
 
-pub more_refused : (g h : Graph) (names : List (List ℕ)) (ms : List Member) (x : Names) (tags : List (List ℕ)) (n : ℕ) (ws : List Word) (m : SeenMember) → FieldsKnown g names ms x → Grows g h → read_member tags n ws ≡ Some m →
-    with_other (members_in h.nodes names ms) m ≡ None → member_more (read_member tags n) (members_in g.nodes names ms) ws ≡ None
-more_refused g h names ms x tags n ws m k r e f = ap (option_and_then (with_other (members_in g.nodes names ms))) e ∙ ap (λ xs. with_other xs m) (sym (k.members.steady h names r (pool_same names))) ∙ f
+pub more_refused : (g h : Graph) (names : List (List ℕ)) (ms : List Member) (x : Names) (bases : Bases) (n : ℕ) (ws : List Word) (m : SeenMember) → FieldsKnown g names ms x → Grows g h → read_member bases n ws ≡ Some m →
+    with_other (members_in h.nodes names ms) m ≡ None → member_more (read_member bases n) (members_in g.nodes names ms) ws ≡ None
+more_refused g h names ms x bases n ws m k r e f = ap (option_and_then (with_other (members_in g.nodes names ms))) e ∙ ap (λ xs. with_other xs m) (sym (k.members.steady h names r (pool_same names))) ∙ f
 
-pub more_fails : (tags : List (List ℕ)) (n : ℕ) (ms : List SeenMember) (ws : List Word) → read_member tags n ws ≡ None → member_more (read_member tags n) ms ws ≡ None
-more_fails tags n ms ws e = ap (option_and_then (with_other ms)) e
+pub more_fails : (bases : Bases) (n : ℕ) (ms : List SeenMember) (ws : List Word) → read_member bases n ws ≡ None → member_more (read_member bases n) ms ws ≡ None
+more_fails bases n ms ws e = ap (option_and_then (with_other ms)) e
 
 pub no_fields : (g : Graph) (names : List (List ℕ)) (ms : List Member) (x : Names) → ms ≡ [] → x.numbering ≡ [] → x.types.items ≡ [] → FieldsKnown g names ms x
 unfolding members_in
@@ -530,38 +530,38 @@ members_by of ms (line ∷ ls) d = by (is_close line) (of line)
 apart_of : (g : Graph) (names : List (List ℕ)) (ms : List Member) (x : Names) → FieldsKnown g names ms x → are_different (map member_name_of (members_in g.nodes names ms)) ≡ true
 apart_of g names ms x k = ap are_different (sym k.named) ∙ k.apart
 
-pub members_begin : (tags : List (List ℕ)) (n : ℕ) (nodes : List Node) (names : List (List ℕ)) (xs : List Member) (b : Bool) (ns : List SeenMember) (ls vs : Lines) → xs ≡ [] →
-    next_line (member_more (read_member tags n) (members_in nodes names xs)) (members_in nodes names xs) ls ≡ Some (b, (ns, vs)) → members_on (read_member tags n) (b, (ns, vs)) ≡ members_from (read_member tags n) [] ls
+pub members_begin : (bases : Bases) (n : ℕ) (nodes : List Node) (names : List (List ℕ)) (xs : List Member) (b : Bool) (ns : List SeenMember) (ls vs : Lines) → xs ≡ [] →
+    next_line (member_more (read_member bases n) (members_in nodes names xs)) (members_in nodes names xs) ls ≡ Some (b, (ns, vs)) → members_on (read_member bases n) (b, (ns, vs)) ≡ members_from (read_member bases n) [] ls
 unfolding members_in
-members_begin tags n nodes names xs b ns ls vs e f =
-    let of = read_member tags n in
+members_begin bases n nodes names xs b ns ls vs e f =
+    let of = read_member bases n in
     sym (members_by of [] ls refl ∙ ap (option_and_then (members_on of)) (ap (λ ys. next_line (member_more of (map (member_in nodes names) ys)) (map (member_in nodes names) ys) ls) (sym e) ∙ f))
 
-pub members_none : (tags : List (List ℕ)) (n : ℕ) (nodes : List Node) (names : List (List ℕ)) (xs : List Member) (ls : Lines) → xs ≡ [] → next_line (member_more (read_member tags n) (members_in nodes names xs)) (members_in nodes names xs) ls ≡ None → members_from (read_member tags n) [] ls ≡ None
+pub members_none : (bases : Bases) (n : ℕ) (nodes : List Node) (names : List (List ℕ)) (xs : List Member) (ls : Lines) → xs ≡ [] → next_line (member_more (read_member bases n) (members_in nodes names xs)) (members_in nodes names xs) ls ≡ None → members_from (read_member bases n) [] ls ≡ None
 unfolding members_in
-members_none tags n nodes names xs ls e f =
-    let of = read_member tags n in
+members_none bases n nodes names xs ls e f =
+    let of = read_member bases n in
     members_by of [] ls refl ∙ ap (option_and_then (members_on of)) (ap (λ ys. next_line (member_more of (map (member_in nodes names) ys)) (map (member_in nodes names) ys) ls) (sym e) ∙ f)
 
 pub members_next : (s r : Setting) (n : ℕ) (names : List (List ℕ)) (xs : List Member) (x : Names) (m b : Bool) (ns : List SeenMember) (ls vs : Lines) (whole : LinesReading (List SeenMember)) → FieldsKnown r.graph names xs x → env_in r ≡ env_in s → m ≡ true →
-    next_line (member_more (read_member (env_in r).tags n) (members_in r.graph.nodes names xs)) (members_in r.graph.nodes names xs) ls ≡ Some (b, (ns, vs)) →
-    members_on (read_member (env_in s).tags n) (m, (members_in r.graph.nodes names xs, ls)) ≡ whole → members_on (read_member (env_in s).tags n) (b, (ns, vs)) ≡ whole
+    next_line (member_more (read_member (bases (env_in r)) n) (members_in r.graph.nodes names xs)) (members_in r.graph.nodes names xs) ls ≡ Some (b, (ns, vs)) →
+    members_on (read_member (bases (env_in s)) n) (m, (members_in r.graph.nodes names xs, ls)) ≡ whole → members_on (read_member (bases (env_in s)) n) (b, (ns, vs)) ≡ whole
 members_next s r n names xs x m b ns ls vs whole k same h e inv =
     let ms = members_in r.graph.nodes names xs in
-    let of = read_member (env_in s).tags n in
-    let f : next_line (member_more of ms) ms ls ≡ Some (b, (ns, vs)) = ap (λ (v : Env). next_line (member_more (read_member v.tags n) ms) ms ls) (sym same) ∙ e in
+    let of = read_member (bases (env_in s)) n in
+    let f : next_line (member_more of ms) ms ls ≡ Some (b, (ns, vs)) = ap (λ (v : Env). next_line (member_more (read_member (bases v) n) ms) ms ls) (sym same) ∙ e in
     sym (ap (λ c. members_on of (c, (ms, ls))) h ∙ members_by of ms ls (apart_of r.graph names xs x k) ∙ ap (option_and_then (members_on of)) f) ∙ inv
 
-pub members_end : (tags : List (List ℕ)) (n : ℕ) (m : Bool) (ms : List SeenMember) (ls : Lines) (whole : LinesReading (List SeenMember)) → m ≡ false → members_on (read_member tags n) (m, (ms, ls)) ≡ whole → whole ≡ Some (ms, ls)
-members_end tags n m ms ls whole h inv = sym inv ∙ ap (λ c. members_on (read_member tags n) (c, (ms, ls))) h
+pub members_end : (bases : Bases) (n : ℕ) (m : Bool) (ms : List SeenMember) (ls : Lines) (whole : LinesReading (List SeenMember)) → m ≡ false → members_on (read_member bases n) (m, (ms, ls)) ≡ whole → whole ≡ Some (ms, ls)
+members_end bases n m ms ls whole h inv = sym inv ∙ ap (λ c. members_on (read_member bases n) (c, (ms, ls))) h
 
 pub members_fail : (s r : Setting) (g : Graph) (n : ℕ) (names : List (List ℕ)) (xs : List Member) (x : Names) (m : Bool) (ls : Lines) (whole : LinesReading (List SeenMember)) → FieldsKnown g names xs x → env_in r ≡ env_in s → m ≡ true →
-    next_line (member_more (read_member (env_in r).tags n) (members_in g.nodes names xs)) (members_in g.nodes names xs) ls ≡ None →
-    members_on (read_member (env_in s).tags n) (m, (members_in g.nodes names xs, ls)) ≡ whole → whole ≡ None
+    next_line (member_more (read_member (bases (env_in r)) n) (members_in g.nodes names xs)) (members_in g.nodes names xs) ls ≡ None →
+    members_on (read_member (bases (env_in s)) n) (m, (members_in g.nodes names xs, ls)) ≡ whole → whole ≡ None
 members_fail s r g n names xs x m ls whole k same h e inv =
     let ms = members_in g.nodes names xs in
-    let of = read_member (env_in s).tags n in
-    let f : next_line (member_more of ms) ms ls ≡ None = ap (λ (v : Env). next_line (member_more (read_member v.tags n) ms) ms ls) (sym same) ∙ e in
+    let of = read_member (bases (env_in s)) n in
+    let f : next_line (member_more of ms) ms ls ≡ None = ap (λ (v : Env). next_line (member_more (read_member (bases v) n) ms) ms ls) (sym same) ∙ e in
     sym inv ∙ ap (λ c. members_on of (c, (ms, ls))) h ∙ members_by of ms ls (apart_of g names xs x k) ∙ ap (option_and_then (members_on of)) f
 
 fails_so : {A B : Type 0} (e : Stop) (o : Option A) (p : Option B) → (o ≡ None → p ≡ None) → Fails e o → Fails e p

@@ -2,15 +2,17 @@
 use Rattle.std.proofs.Common.{◌≡◌, ◌≢◌, ℕ, suc, Bool, true, false, cond, List, [], ◌∷◌, length, map, Option, Some, None, refl, sym, ap, ◌∙◌, arith, Vec}
 use Rattle.std.specs.Global.{Global}
 use Rattle.std.specs.Option.{option_map, option_and_then}
+use Rattle.cil_base.specs.declared.kinds.Abi.{Abi}
 use Rattle.type_graph.specs.Arena.{Graph}
 use Rattle.type_graph.specs.Growth.{Grows, KeepsAggregates}
 use Rattle.type_graph.specs.declared.aggregates.Aggregate.{Aggregate}
 use Rattle.cil_tree.specs.Tree.{Local, Body, Definition, GlobalDecl}
 use Rattle.cil_tree.specs.Names.{are_different}
 use Rattle.cil_tree.specs.Programs.{SeenAggregate, seen_aggregate}
-use Rattle.cil_text.specs.ReadExps.{Env}
+use Rattle.cil_text.specs.ReadExps.{Env, bases}
 use Rattle.cil_text.specs.ReadAggregates.{Lines, LinesReading, tag_of, read_aggregates}
-use Rattle.cil_text.specs.ReadGlobals.{Declaration, Definitions, Bodies, body_first, begins_with, header_names, behind_first, split_block, read_body, read_declarations, read_objects, read_bodies, declared_name, declared_local, seen_fields, env_from, definition_with, assembled, Seen, seen_end, read_defined, read_lines}
+use Rattle.cil_text.specs.ReadGlobals.{Declaration, Definitions, Bodies, body_first, begins_with, header_names, behind_first, split_block, read_body, read_declarations, read_objects, read_bodies, declared_name, declared_local, seen_fields, bases_from, env_from, definition_with, assembled, Seen, seen_end, read_defined, read_lines}
+use Rattle.cil_declarators.specs.Bases.{bases_in}
 use Rattle.cil_scan.specs.declared.words.Word.{Word as SeenWord}
 use Rattle.cil_scan.specs.Said.{all_lines}
 use Rattle.cil_reader.specs.Settings.{Setting, with_globals, outside}
@@ -77,7 +79,7 @@ defined_more env f n ds es lines rest behind xs ys same kept o b some = defined_
 
 -- declarations before them
 
-pub globals_give : (env e f : Env) (n : ℕ) (lines rest : Lines) (ds : List Declaration) (ls : List Local) → read_declarations env.tags n lines ≡ Some (ds, rest) → named_apart ds ≡ Some ls → e ≡ env → f ≡ outside (with_globals e ls) →
+pub globals_give : (env e f : Env) (n : ℕ) (lines rest : Lines) (ds : List Declaration) (ls : List Local) → read_declarations (bases env) n lines ≡ Some (ds, rest) → named_apart ds ≡ Some ls → e ≡ env → f ≡ outside (with_globals e ls) →
     globals_read env n lines ≡ defined_read f n ds rest
 unfolding globals_read
 globals_give env e f n lines rest ds ls d named same is =
@@ -85,11 +87,11 @@ globals_give env e f n lines rest ds ls d named same is =
     ∙ ap (option_and_then (λ (ms : List Local). defined_read (outside (with_globals env ms)) n ds rest)) named
     ∙ ap (λ (v : Env). defined_read v n ds rest) (ap (λ (v : Env). outside (with_globals v ls)) (sym same) ∙ sym is)
 
-pub globals_alike : (env : Env) (n : ℕ) (lines rest : Lines) (ds : List Declaration) → read_declarations env.tags n lines ≡ Some (ds, rest) → named_apart ds ≡ None → globals_read env n lines ≡ None
+pub globals_alike : (env : Env) (n : ℕ) (lines rest : Lines) (ds : List Declaration) → read_declarations (bases env) n lines ≡ Some (ds, rest) → named_apart ds ≡ None → globals_read env n lines ≡ None
 unfolding globals_read
 globals_alike env n lines rest ds d named = ap (option_and_then (declared_read env n)) d ∙ ap (option_and_then (λ (ms : List Local). defined_read (outside (with_globals env ms)) n ds rest)) named
 
-pub globals_fail : (env : Env) (n : ℕ) (lines : Lines) → read_declarations env.tags n lines ≡ None → globals_read env n lines ≡ None
+pub globals_fail : (env : Env) (n : ℕ) (lines : Lines) → read_declarations (bases env) n lines ≡ None → globals_read env n lines ≡ None
 unfolding globals_read
 globals_fail env n lines d = ap (option_and_then (declared_read env n)) d
 
@@ -135,8 +137,8 @@ assembled_is (d ∷ ds) (x ∷ xs) (b ∷ bs) e = ap (λ (gs : List GlobalDecl).
 
 -- a whole text
 
-abbrev env_with : List (List ℕ) → List (List Local) → List Local → Env
-env_with ts ms gs = record { tags = ts; members = ms; globals = gs; locals = [] }
+abbrev env_with : Abi → List (List ℕ) → List (List Local) → List Local → Env
+env_with abi ts ms gs = record { abi = abi; tags = ts; members = ms; globals = gs; locals = [] }
 
 bodies_seen : (aggs : List SeenAggregate) (ds : List Declaration) (xs : Definitions) (o : LinesReading Bodies) → Counted ds o →
     option_and_then (seen_end aggs ds xs) o ≡ option_map (with_aggregates aggs) (option_and_then whole_globals (option_map (bodied 0 (globals_from ds xs)) o))
@@ -151,55 +153,61 @@ objects_seen aggs env n ds (Some r) e =
     bodies_seen aggs ds r.0 (read_bodies env n ds r.1) (as_many env n ds r.1)
     ∙ ap (λ (v : Env). option_map (with_aggregates aggs) (option_and_then whole_globals (option_map (bodied 0 (globals_from ds r.0)) (read_bodies v n ds r.1)))) (sym e)
 
-env_is : (env : Env) (aggs : List SeenAggregate) (ds : List Declaration) → env.tags ≡ map tag_of aggs → env.members ≡ map seen_fields aggs → outside (with_globals env (map declared_local ds)) ≡ env_from aggs ds
-env_is env aggs ds tags members =
-    ap (λ (ts : List (List ℕ)). env_with ts env.members (map declared_local ds)) tags
-    ∙ ap (λ (ms : List (List Local)). env_with (map tag_of aggs) ms (map declared_local ds)) members
+env_is : (env : Env) (abi : Abi) (aggs : List SeenAggregate) (ds : List Declaration) → env.abi ≡ abi → env.tags ≡ map tag_of aggs → env.members ≡ map seen_fields aggs → outside (with_globals env (map declared_local ds)) ≡ env_from abi aggs ds
+env_is env abi aggs ds model tags members =
+    ap (λ (v : Abi). env_with v env.tags env.members (map declared_local ds)) model
+    ∙ ap (λ (ts : List (List ℕ)). env_with abi ts env.members (map declared_local ds)) tags
+    ∙ ap (λ (ms : List (List Local)). env_with abi (map tag_of aggs) ms (map declared_local ds)) members
 
 abbrev seen_from : ℕ → List SeenAggregate → List Declaration × Lines → Env → Option Seen
 seen_from n aggs r e = option_and_then (λ (o : Definitions × Lines). option_and_then (seen_end aggs r.0 o.0) (read_bodies e n r.0 o.1)) (read_objects e n r.0 r.1)
 
-defined_by : (env : Env) (n : ℕ) (aggs : List SeenAggregate) (r : List Declaration × Lines) (b : Bool) → env.tags ≡ map tag_of aggs → env.members ≡ map seen_fields aggs →
-    cond b (seen_from n aggs r (env_from aggs r.0)) None ≡ option_map (with_aggregates aggs) (option_and_then (λ (ms : List Local). defined_read (outside (with_globals env ms)) n r.0 r.1) (cond b (Some (map declared_local r.0)) None))
+defined_by : (env : Env) (abi : Abi) (n : ℕ) (aggs : List SeenAggregate) (r : List Declaration × Lines) (b : Bool) → env.abi ≡ abi → env.tags ≡ map tag_of aggs → env.members ≡ map seen_fields aggs →
+    cond b (seen_from n aggs r (env_from abi aggs r.0)) None ≡ option_map (with_aggregates aggs) (option_and_then (λ (ms : List Local). defined_read (outside (with_globals env ms)) n r.0 r.1) (cond b (Some (map declared_local r.0)) None))
 unfolding defined_read
-defined_by env n aggs r true tags members =
+defined_by env abi n aggs r true model tags members =
     let e = outside (with_globals env (map declared_local r.0)) in
-    ap (seen_from n aggs r) (sym (env_is env aggs r.0 tags members)) ∙ objects_seen aggs e n r.0 (read_objects e n r.0 r.1) refl
-defined_by env n aggs r false tags members = refl
+    ap (seen_from n aggs r) (sym (env_is env abi aggs r.0 model tags members)) ∙ objects_seen aggs e n r.0 (read_objects e n r.0 r.1) refl
+defined_by env abi n aggs r false model tags members = refl
 
-defined_seen : (env : Env) (n : ℕ) (aggs : List SeenAggregate) (r : List Declaration × Lines) → env.tags ≡ map tag_of aggs → env.members ≡ map seen_fields aggs → read_defined n aggs r ≡ option_map (with_aggregates aggs) (declared_read env n r)
-defined_seen env n aggs r tags members = defined_by env n aggs r (are_different (map declared_name r.0)) tags members
+defined_seen : (env : Env) (abi : Abi) (n : ℕ) (aggs : List SeenAggregate) (r : List Declaration × Lines) → env.abi ≡ abi → env.tags ≡ map tag_of aggs → env.members ≡ map seen_fields aggs → read_defined abi n aggs r ≡ option_map (with_aggregates aggs) (declared_read env n r)
+defined_seen env abi n aggs r model tags members = defined_by env abi n aggs r (are_different (map declared_name r.0)) model tags members
 
-all_seen : (env : Env) (n : ℕ) (aggs : List SeenAggregate) (o : LinesReading (List Declaration)) → env.tags ≡ map tag_of aggs → env.members ≡ map seen_fields aggs → option_and_then (read_defined n aggs) o ≡ option_map (with_aggregates aggs) (option_and_then (declared_read env n) o)
-all_seen env n aggs None tags members = refl
-all_seen env n aggs (Some r) tags members = defined_seen env n aggs r tags members
+all_seen : (env : Env) (abi : Abi) (n : ℕ) (aggs : List SeenAggregate) (o : LinesReading (List Declaration)) → env.abi ≡ abi → env.tags ≡ map tag_of aggs → env.members ≡ map seen_fields aggs →
+    option_and_then (read_defined abi n aggs) o ≡ option_map (with_aggregates aggs) (option_and_then (declared_read env n) o)
+all_seen env abi n aggs None model tags members = refl
+all_seen env abi n aggs (Some r) model tags members = defined_seen env abi n aggs r model tags members
 
-abbrev text_behind : ℕ → List SeenAggregate × Lines → Option Seen
-text_behind n r = option_and_then (read_defined n r.0) (read_declarations (map tag_of r.0) n r.1)
+abbrev text_behind : Abi → ℕ → List SeenAggregate × Lines → Option Seen
+text_behind abi n r = option_and_then (read_defined abi n r.0) (read_declarations (bases_from abi r.0) n r.1)
 
-pub text_gives : (env : Env) (n : ℕ) (words lines rest : Lines) (aggs seen : List SeenAggregate) (gs : List GlobalDecl) → lines ≡ words → read_aggregates n lines ≡ Some (aggs, rest) → env.tags ≡ map tag_of aggs → env.members ≡ map seen_fields aggs →
-    globals_read env n rest ≡ Some gs → seen ≡ aggs → read_lines n words ≡ Some (seen, gs)
+-- behind the aggregates, where what is known is of the data model and of these aggregates
+behind_seen : (env : Env) (abi : Abi) (n : ℕ) (rest : Lines) (aggs : List SeenAggregate) → env.abi ≡ abi → env.tags ≡ map tag_of aggs → env.members ≡ map seen_fields aggs → text_behind abi n (aggs, rest) ≡ option_map (with_aggregates aggs) (globals_read env n rest)
 unfolding globals_read
-text_gives env n words lines rest aggs seen gs told a tags members g same =
-    ap (read_lines n) (sym told)
-    ∙ ap (option_and_then (text_behind n)) a
-    ∙ ap (λ (ts : List (List ℕ)). option_and_then (read_defined n aggs) (read_declarations ts n rest)) (sym tags)
-    ∙ all_seen env n aggs (read_declarations env.tags n rest) tags members
+behind_seen env abi n rest aggs model tags members =
+    ap (λ (ts : List (List ℕ)). option_and_then (read_defined abi n aggs) (read_declarations (bases_in abi ts) n rest)) (sym tags)
+    ∙ ap (λ (v : Abi). option_and_then (read_defined abi n aggs) (read_declarations (bases_in v env.tags) n rest)) (sym model)
+    ∙ all_seen env abi n aggs (read_declarations (bases env) n rest) model tags members
+
+pub text_gives : (env : Env) (abi : Abi) (n : ℕ) (words lines rest : Lines) (aggs seen : List SeenAggregate) (gs : List GlobalDecl) → lines ≡ words → read_aggregates abi n lines ≡ Some (aggs, rest) → env.abi ≡ abi → env.tags ≡ map tag_of aggs → env.members ≡ map seen_fields aggs →
+    globals_read env n rest ≡ Some gs → seen ≡ aggs → read_lines abi n words ≡ Some (seen, gs)
+text_gives env abi n words lines rest aggs seen gs told a model tags members g same =
+    ap (read_lines abi n) (sym told)
+    ∙ ap (option_and_then (text_behind abi n)) a
+    ∙ behind_seen env abi n rest aggs model tags members
     ∙ ap (option_map (with_aggregates aggs)) g
     ∙ ap (λ (xs : List SeenAggregate). Some (xs, gs)) (sym same)
 
-pub text_globals_fail : (env : Env) (n : ℕ) (words lines rest : Lines) (aggs : List SeenAggregate) → lines ≡ words → read_aggregates n lines ≡ Some (aggs, rest) → env.tags ≡ map tag_of aggs → env.members ≡ map seen_fields aggs →
-    globals_read env n rest ≡ None → read_lines n words ≡ None
-unfolding globals_read
-text_globals_fail env n words lines rest aggs told a tags members g =
-    ap (read_lines n) (sym told)
-    ∙ ap (option_and_then (text_behind n)) a
-    ∙ ap (λ (ts : List (List ℕ)). option_and_then (read_defined n aggs) (read_declarations ts n rest)) (sym tags)
-    ∙ all_seen env n aggs (read_declarations env.tags n rest) tags members
+pub text_globals_fail : (env : Env) (abi : Abi) (n : ℕ) (words lines rest : Lines) (aggs : List SeenAggregate) → lines ≡ words → read_aggregates abi n lines ≡ Some (aggs, rest) → env.abi ≡ abi → env.tags ≡ map tag_of aggs → env.members ≡ map seen_fields aggs →
+    globals_read env n rest ≡ None → read_lines abi n words ≡ None
+text_globals_fail env abi n words lines rest aggs told a model tags members g =
+    ap (read_lines abi n) (sym told)
+    ∙ ap (option_and_then (text_behind abi n)) a
+    ∙ behind_seen env abi n rest aggs model tags members
     ∙ ap (option_map (with_aggregates aggs)) g
 
-pub text_fails : (n : ℕ) (words lines : Lines) → lines ≡ words → read_aggregates n lines ≡ None → read_lines n words ≡ None
-text_fails n words lines told a = ap (read_lines n) (sym told) ∙ ap (option_and_then (text_behind n)) a
+pub text_fails : (abi : Abi) (n : ℕ) (words lines : Lines) → lines ≡ words → read_aggregates abi n lines ≡ None → read_lines abi n words ≡ None
+text_fails abi n words lines told a = ap (read_lines abi n) (sym told) ∙ ap (option_and_then (text_behind abi n)) a
 
 -- aggregates stay while globals are read
 

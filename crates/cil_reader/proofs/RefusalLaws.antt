@@ -3,6 +3,7 @@ use Rattle.std.proofs.Common.{◌≡◌, ◌↔◌, ℕ, ◌<◌, ◌*◌, ◌�
 use Rattle.std.specs.List.{list_all}
 use Rattle.std.specs.Str.{bytes_eq}
 use Rattle.std.proofs.lemmas.Slice.Eq.{bytes_eq-Decides}
+use Rattle.cil_base.specs.declared.kinds.Abi.{Abi}
 use Rattle.type_graph.specs.Arena.{IsArena}
 use Rattle.cil_tree.specs.declared.globals.CilUnit.{CilUnit}
 use Rattle.cil_tree.specs.Tree.{Program}
@@ -41,21 +42,23 @@ too_long bytes p long is = absurd (omega (arith, long, is.short, ap length is.te
 low_enough : (bytes : List ℕ) (p : Program) → IsTextOf bytes p → 2 * length bytes ≤ 4294967295
 low_enough bytes p is = omega (arith, is.short)
 
-pub never_read : (bytes : List ℕ) → read_text 4294967295 bytes ≡ None → IsNoText bytes
-never_read bytes none p is =
-    let some : read_text 4294967295 bytes ≡ Some (map (seen_aggregate p) p.graph.aggs, p.globals) =
-    ap (read_text 4294967295) is.text ∙ text_back p 4294967295 is.program (omega (arith, enough p is.program, ap length is.text, low_enough bytes p is)) in
+pub never_read : (abi : Abi) (bytes : List ℕ) → read_text abi 4294967295 bytes ≡ None → IsNoText abi bytes
+never_read abi bytes none p model is =
+    let some : read_text abi 4294967295 bytes ≡ Some (map (seen_aggregate p) p.graph.aggs, p.globals) =
+    ap (read_text abi 4294967295) is.text
+    ∙ ap (λ (v : Abi). read_text v 4294967295 (Text p)) (sym model)
+    ∙ text_back p 4294967295 is.program (omega (arith, enough p is.program, ap length is.text, low_enough bytes p is)) in
     absurd (cc (none, some))
 
-pub refused_by : (bytes : List ℕ) (x : Stop) → Fails x (read_text 4294967295 bytes) → Refuses bytes (Err x)
-refused_by bytes NotCil fails = never_read bytes fails
-refused_by bytes WantOfMemory fails = tt
+pub refused_by : (abi : Abi) (bytes : List ℕ) (x : Stop) → Fails x (read_text abi 4294967295 bytes) → Refuses abi bytes (Err x)
+refused_by abi bytes NotCil fails = never_read abi bytes fails
+refused_by abi bytes WantOfMemory fails = tt
 
-pub memory_only : (bytes : List ℕ) (x : Stop) → x ≡ WantOfMemory → Refuses bytes (Err x)
-memory_only bytes x is = subst (λ (y : Stop). Refuses bytes (Err y)) (sym is) tt
+pub memory_only : (abi : Abi) (bytes : List ℕ) (x : Stop) → x ≡ WantOfMemory → Refuses abi bytes (Err x)
+memory_only abi bytes x is = subst (λ (y : Stop). Refuses abi bytes (Err y)) (sym is) tt
 
-pub read_otherwise : (bytes : List ℕ) (names : List (List ℕ)) (u : CilUnit) → read_text 4294967295 bytes ≡ Some (aggregates_in u.graph names, globals_of u.graph.nodes names u.globals.items) → HasNeeded (program_of names u) →
-    list_all members_are_unqualified u.graph.aggs ≡ true → IsArena u.graph → (IsTextOf bytes (program_of names u) → ⊥) → IsNoText bytes
+pub read_otherwise : (abi : Abi) (bytes : List ℕ) (names : List (List ℕ)) (u : CilUnit) → u.graph.abi ≡ abi → read_text abi 4294967295 bytes ≡ Some (aggregates_in u.graph names, globals_of u.graph.nodes names u.globals.items) → HasNeeded (program_of names u) →
+    list_all members_are_unqualified u.graph.aggs ≡ true → IsArena u.graph → (IsTextOf bytes (program_of names u) → ⊥) → IsNoText abi bytes
 unfolding aggregates_in
-read_otherwise bytes names u read needed unqualified arena other p is =
-    other (read_has_text bytes p (program_of names u) u 4294967295 is (low_enough bytes p is) read needed unqualified arena refl)
+read_otherwise abi bytes names u own read needed unqualified arena other p model is =
+    other (read_has_text bytes p (program_of names u) u 4294967295 is (low_enough bytes p is) (model ∙ sym own) (ap (λ (v : Abi). read_text v 4294967295 bytes) model ∙ read) needed unqualified arena refl)

@@ -1,6 +1,9 @@
 -- Device: what is known stays while the graph grows.
 use Rattle.std.proofs.Common.{◌≡◌, ℕ, zero, suc, ◌<◌, ◌≤◌, List, [], ◌∷◌, Option, Some, None, refl, sym, ap, ◌∙◌, map, length, arith, slice_get, get_or, subst}
+use Rattle.cil_base.specs.declared.kinds.Abi.{Abi}
+use Rattle.cil_base.specs.declared.kinds.IntKind.{IntKind}
 use Rattle.cil_base.specs.declared.numbers.TypeId.{TypeId}
+use Rattle.cil_base.specs.Integer.{kind_in, long_of}
 use Rattle.type_graph.specs.declared.nodes.Node.{Node}
 use Rattle.type_graph.specs.Shapes.{Shape, shape, AggType}
 use Rattle.type_graph.specs.Arena.{Graph, EachType}
@@ -32,15 +35,16 @@ all_kept g h (x ∷ xs) e b =
     ap (λ (l : List Local). l ∷ map (locals_of h.nodes) xs) (zipped_kept g h x.numbering x.types.items e b.0)
     ∙ ap (λ (ls : List (List Local)). locals_of g.nodes x ∷ ls) (all_kept g h xs e b.1)
 
-env_with : List (List ℕ) → List (List Local) → List Local → List Local → Env
-env_with ts ms gs ls = record { tags = ts; members = ms; globals = gs; locals = ls }
+env_with : Abi → List (List ℕ) → List (List Local) → List Local → List Local → Env
+env_with abi ts ms gs ls = record { abi = abi; tags = ts; members = ms; globals = gs; locals = ls }
 
-env_kept : (g h : Graph) (k : Known) → Grows g h → KnownIn g k → env_of h.nodes k ≡ env_of g.nodes k
+env_kept : (g h : Graph) (k : Known) → Grows g h → KnownIn g k → env_of h k ≡ env_of g k
 unfolding env_of env_with
 env_kept g h k e known =
-    ap (λ ms. env_with k.tags ms (locals_of h.nodes k.globals) (locals_of h.nodes k.locals)) (all_kept g h k.members.items e known.members)
-    ∙ ap (λ gs. env_with k.tags (map (locals_of g.nodes) k.members.items) gs (locals_of h.nodes k.locals)) (zipped_kept g h k.globals.numbering k.globals.types.items e known.globals)
-    ∙ ap (λ ls. env_with k.tags (map (locals_of g.nodes) k.members.items) (locals_of g.nodes k.globals) ls) (zipped_kept g h k.locals.numbering k.locals.types.items e known.locals)
+    ap (λ abi. env_with abi k.tags (map (locals_of h.nodes) k.members.items) (locals_of h.nodes k.globals) (locals_of h.nodes k.locals)) e.abi
+    ∙ ap (λ ms. env_with g.abi k.tags ms (locals_of h.nodes k.globals) (locals_of h.nodes k.locals)) (all_kept g h k.members.items e known.members)
+    ∙ ap (λ gs. env_with g.abi k.tags (map (locals_of g.nodes) k.members.items) gs (locals_of h.nodes k.locals)) (zipped_kept g h k.globals.numbering k.globals.types.items e known.globals)
+    ∙ ap (λ ls. env_with g.abi k.tags (map (locals_of g.nodes) k.members.items) (locals_of g.nodes k.globals) ls) (zipped_kept g h k.locals.numbering k.locals.types.items e known.locals)
 
 each_later : (n m : ℕ) (xs : List Names) → n ≤ m → EachNames n xs → EachNames m xs
 each_later n m [] h b = tt
@@ -58,9 +62,13 @@ pub setting_tags : (s : Setting) → (env_in s).tags ≡ s.known.tags
 unfolding env_in env_of
 setting_tags s = refl
 
+pub setting_model : (s : Setting) → (env_in s).abi ≡ s.graph.abi
+unfolding env_in env_of
+setting_model s = refl
+
 pub setting_kept : (s t : Setting) → Grows s.graph t.graph → KnownIn s.graph s.known → t.known ≡ s.known → env_in t ≡ env_in s
 unfolding env_in
-setting_kept s t e known same = ap (env_of t.graph.nodes) same ∙ env_kept s.graph t.graph s.known e known
+setting_kept s t e known same = ap (env_of t.graph) same ∙ env_kept s.graph t.graph s.known e known
 
 -- names
 
@@ -131,6 +139,16 @@ global_known g k s name p is known f = subst (λ v. HostKnown v.graph (env_in v)
   below = f.below (length g.nodes) known.globals;
 })
 
+-- the kinds of the data model
+
+pub setting_kind : (g : Graph) (k : Known) (s : Setting) (written : IntKind) → setting g k ≡ s → kind_in g.abi written ≡ kind_in (env_in s).abi written
+unfolding env_in env_of
+setting_kind g k s written is = ap (λ (v : Setting). kind_in (env_in v).abi written) is
+
+pub setting_long : (g : Graph) (k : Known) (s : Setting) → setting g k ≡ s → long_of g.abi ≡ long_of (env_in s).abi
+unfolding env_in env_of
+setting_long g k s is = ap (λ (v : Setting). long_of (env_in v).abi) is
+
 -- members
 
 members_at_of : (nodes : List Node) (xs : List Names) (a : ℕ) (x : Names) → slice_get xs a ≡ Some x → slice_get (map (locals_of nodes) xs) a ≡ Some (locals_of nodes x)
@@ -152,7 +170,7 @@ abbrev locals_at : List Node → Option Names → List Local
 locals_at nodes None = []
 locals_at nodes (Some x) = locals_of nodes x
 
-fields_at : (g : Graph) (k : Known) (a : ℕ) → fields_of (env_of g.nodes k) (AggType a) ≡ locals_at g.nodes (slice_get k.members.items a)
+fields_at : (g : Graph) (k : Known) (a : ℕ) → fields_of (env_of g k) (AggType a) ≡ locals_at g.nodes (slice_get k.members.items a)
 unfolding env_of
 fields_at g k a = by (slice_get k.members.items a) refl
   where
@@ -177,15 +195,15 @@ pub field_number : (g : Graph) (k : Known) (s : Setting) (name : List ℕ) (o : 
 unfolding env_in
 field_number g k s name o t a r is some agg f =
     number_among g.nodes name (slice_get k.members.items a) r f
-    ∙ ap (find_named name) (sym (fields_at g k a) ∙ ap (fields_of (env_of g.nodes k)) (sym agg) ∙ ap (λ (v : Option TypeId). fields (env_of g.nodes k) (type_in g.nodes v)) (sym some) ∙ ap (λ (v : Setting). fields (env_in v) (type_in v.graph.nodes o)) is)
+    ∙ ap (find_named name) (sym (fields_at g k a) ∙ ap (fields_of (env_of g k)) (sym agg) ∙ ap (λ (v : Option TypeId). fields (env_of g k) (type_in g.nodes v)) (sym some) ∙ ap (λ (v : Setting). fields (env_in v) (type_in v.graph.nodes o)) is)
 
 pub field_typed : (g : Graph) (k : Known) (s : Setting) (name : List ℕ) (o : Option TypeId) (t : TypeId) (a : ℕ) (r : Option (ℕ × TypeId)) → setting g k ≡ s → o ≡ Some t → shape g.nodes t.0 ≡ AggType a → FoundAmong name (slice_get k.members.items a) r →
     IfSome r (λ (p : ℕ × TypeId). type_of_named (fields (env_in s) (type_in s.graph.nodes o)) p.0 ≡ Some (shape s.graph.nodes p.1.0))
 unfolding env_in
 field_typed g k s name o t a r is some agg f =
     subst (λ (v : Setting). IfSome r (λ (p : ℕ × TypeId). type_of_named (fields (env_in v) (type_in v.graph.nodes o)) p.0 ≡ Some (shape v.graph.nodes p.1.0))) is
-    (subst (λ (v : Option TypeId). IfSome r (λ (p : ℕ × TypeId). type_of_named (fields (env_of g.nodes k) (type_in g.nodes v)) p.0 ≡ Some (shape g.nodes p.1.0))) (sym some)
-    (subst (λ ls. IfSome r (λ (p : ℕ × TypeId). type_of_named ls p.0 ≡ Some (shape g.nodes p.1.0))) (sym (fields_at g k a) ∙ ap (fields_of (env_of g.nodes k)) (sym agg)) (typed_among g.nodes name (slice_get k.members.items a) r f)))
+    (subst (λ (v : Option TypeId). IfSome r (λ (p : ℕ × TypeId). type_of_named (fields (env_of g k) (type_in g.nodes v)) p.0 ≡ Some (shape g.nodes p.1.0))) (sym some)
+    (subst (λ ls. IfSome r (λ (p : ℕ × TypeId). type_of_named ls p.0 ≡ Some (shape g.nodes p.1.0))) (sym (fields_at g k a) ∙ ap (fields_of (env_of g k)) (sym agg)) (typed_among g.nodes name (slice_get k.members.items a) r f)))
 
 pub field_below : (g : Graph) (k : Known) (s : Setting) (name : List ℕ) (a : ℕ) (r : Option (ℕ × TypeId)) → setting g k ≡ s → KnownIn g k → FoundAmong name (slice_get k.members.items a) r → IfSome r (λ (p : ℕ × TypeId). p.1.0 < length s.graph.nodes)
 field_below g k s name a r is known f = subst (λ (v : Setting). IfSome r (λ (p : ℕ × TypeId). p.1.0 < length v.graph.nodes)) is (below_among (length g.nodes) name k.members.items a (slice_get k.members.items a) r refl known.members f)

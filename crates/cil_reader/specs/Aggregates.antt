@@ -2,6 +2,7 @@
 use Rattle.std.specs.Prelude.{◌≡◌, ℕ, nat_eq, Bool, true, false, if◌then◌else◌, List, [], ◌∷◌, ◌++◌, Option, Some, None, map, take, drop, slice_get}
 use Rattle.std.specs.List.{list_all}
 use Rattle.std.specs.Option.{option_map, option_and_then}
+use Rattle.cil_base.specs.declared.kinds.Abi.{Abi}
 use Rattle.cil_base.specs.declared.numbers.AggId.{AggId}
 use Rattle.cil_base.specs.declared.numbers.NameId.{NameId}
 use Rattle.cil_base.specs.declared.numbers.TypeId.{TypeId}
@@ -22,7 +23,7 @@ use Rattle.cil_text.specs.Allowed.{stands_well, stand_well, is_filled}
 use Rattle.cil_text.specs.ReadTypes.{find}
 use Rattle.cil_text.specs.ReadExps.{Env}
 use Rattle.cil_text.specs.ReadAggregates.{Lines, LinesReading, read_enumerator, read_member, read_members, opened_tag, lone_tag, enum_with, read_enums, Tag, read_tags, complete_with, incomplete, is_opened, read_structs, tag_of, with_enums}
-use Rattle.cil_text.specs.ReadGlobals.{seen_fields}
+use Rattle.cil_text.specs.ReadGlobals.{seen_fields, bases_from}
 use Rattle.cil_text.specs.TypesOf.{AddsParts, member_types}
 use Rattle.cil_reader.specs.Settings.{Setting, env_in}
 use Rattle.cil_reader.specs.Pools.{KeepsNames}
@@ -190,11 +191,11 @@ unfoldable pub structs_behind : (List Word → Option SeenMember) → List SeenA
 structs_behind of before xs lines = option_and_then (stands_behind before) (read_structs of xs lines)
 
 -- structs and unions behind k aggregates: their tags, and their members
-abbrev pub structs_after : ℕ → ℕ → List SeenAggregate × Lines → LinesReading (List SeenAggregate)
-structs_after n k t = structs_behind (read_member (map tag_of t.0) n) (take k t.0) (map tag_back (drop k t.0)) t.1
+abbrev pub structs_after : Abi → ℕ → ℕ → List SeenAggregate × Lines → LinesReading (List SeenAggregate)
+structs_after abi n k t = structs_behind (read_member (bases_from abi t.0) n) (take k t.0) (map tag_back (drop k t.0)) t.1
 
-abbrev pub tagged_structs : ℕ → ℕ → List SeenAggregate → Lines → LinesReading (List SeenAggregate)
-tagged_structs n k xs ls = option_and_then (structs_after n k) (tags_from xs ls)
+abbrev pub tagged_structs : Abi → ℕ → ℕ → List SeenAggregate → Lines → LinesReading (List SeenAggregate)
+tagged_structs abi n k xs ls = option_and_then (structs_after abi n k) (tags_from xs ls)
 
 -- what is added
 
@@ -211,6 +212,7 @@ pub record FieldsAdded (g h : Graph) (ts us : List TypeId) : Type 0 where
 pub record MembersAdded (f g : Graph) (names : List (List ℕ)) : Type 0 where
   pub part : list_all is_filled (aggregates_in g names) ≡ true → AddsParts f g (member_types (aggregates_in g names))
 
--- where all that was added were such parts, so are all that are added now
+-- where all that was added were such parts, so are all that are added now, and the data model stays
 pub record AggregatesAdded (g h : Graph) (names later : List (List ℕ)) : Type 0 where
   pub added : (f : Graph) → MembersAdded f g names → MembersAdded f h later
+  pub model : h.abi ≡ g.abi

@@ -1,10 +1,11 @@
 -- Device: the reading of a program's globals, and of a whole text, by the code's steps.
 use Rattle.std.specs.Prelude.{ℕ, List, [], Option, Some, None, Result, Ok, Err}
 use Rattle.std.specs.Option.{option_map, option_and_then}
+use Rattle.cil_base.specs.declared.kinds.Abi.{Abi}
 use Rattle.cil_tree.specs.declared.globals.CilUnit.{CilUnit}
 use Rattle.cil_tree.specs.Tree.{Local, GlobalDecl}
 use Rattle.cil_tree.specs.Programs.{SeenAggregate}
-use Rattle.cil_text.specs.ReadExps.{Env}
+use Rattle.cil_text.specs.ReadExps.{Env, bases}
 use Rattle.cil_text.specs.ReadAggregates.{Lines}
 use Rattle.cil_text.specs.ReadGlobals.{Declaration, Seen, read_declarations, read_objects, read_bodies}
 use Rattle.cil_declarators.specs.declared.stop.Stop.{Stop}
@@ -32,13 +33,13 @@ declared_read env n r = option_and_then (λ (ls : List Local). defined_read (out
 
 -- behind aggregates
 unfoldable pub globals_read : Env → ℕ → Lines → Option (List GlobalDecl)
-globals_read env n lines = option_and_then (declared_read env n) (read_declarations env.tags n lines)
+globals_read env n lines = option_and_then (declared_read env n) (read_declarations (bases env) n lines)
 
 abbrev pub with_aggregates : List SeenAggregate → List GlobalDecl → Seen
 with_aggregates xs gs = (xs, gs)
 
--- bytes are refused where they are no program's text; want of memory says nothing of them
-abbrev pub Refuses : List ℕ → Result CilUnit Stop → Type 0
-Refuses bytes (Ok u) = Unit {0}
-Refuses bytes (Err NotCil) = IsNoText bytes
-Refuses bytes (Err WantOfMemory) = Unit {0}
+-- bytes are refused where they are the text of no program of the data model; want of memory says nothing of them
+abbrev pub Refuses : Abi → List ℕ → Result CilUnit Stop → Type 0
+Refuses abi bytes (Ok u) = Unit {0}
+Refuses abi bytes (Err NotCil) = IsNoText abi bytes
+Refuses abi bytes (Err WantOfMemory) = Unit {0}

@@ -57,7 +57,7 @@ block_line env n (RightBrace ∷ ws) = Some (brace_of ws)
 block_line env n _ = None
 
 abbrev pub jump_line : Env → List (List ℕ) → ℕ → List Word → Option Head
-jump_line env labels n (CaseWord ∷ ws) = option_and_then case_of (read_number ws)
+jump_line env labels n (CaseWord ∷ ws) = option_and_then (case_of env.abi) (read_number ws)
 jump_line env labels n (DefaultWord ∷ ws) = Some (Whole Default)
 jump_line env labels n (GotoWord ∷ ws) = labelled labels Goto (label_text ws)
 jump_line env labels n (BreakWord ∷ ws) = Some (Whole Break)

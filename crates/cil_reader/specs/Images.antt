@@ -3,7 +3,9 @@ use Rattle.std.specs.Prelude.{ℕ, Bool, true, false, if◌then◌else◌, List,
 use Rattle.std.specs.Option.{option_map, option_and_then}
 use denote.Ref.{Bor}
 use Rattle.cil_base.specs.declared.constants.Constant.{Constant}
-use Rattle.cil_base.specs.declared.kinds.IntKind.TheVariants.{Int as int, Long}
+use Rattle.cil_base.specs.declared.kinds.Abi.{Abi}
+use Rattle.cil_base.specs.declared.kinds.IntKind.TheVariants.{Int as int}
+use Rattle.cil_base.specs.Integer.{long_of}
 use Rattle.cil_base.specs.Arithmetic.{fits}
 use Rattle.type_graph.specs.declared.nodes.Node.{Node}
 use Rattle.type_graph.specs.Shapes.{Shape, IntType, AggType, PtrType}
@@ -12,7 +14,7 @@ use Rattle.cil_tree.specs.Typing.{element_of}
 use Rattle.cil_tree.specs.View.{item_of, step_of}
 use Rattle.cil_text.specs.Words.{Word, LeftBracket, RightBracket, Dot, Number, Name}
 use Rattle.cil_text.specs.ReadTypes.{Reading, Named, read_decl}
-use Rattle.cil_text.specs.ReadExps.{Env, find_named, type_of_named, fields, enclosed}
+use Rattle.cil_text.specs.ReadExps.{Env, bases, find_named, type_of_named, fields, enclosed}
 use Rattle.cil_text.specs.ReadImages.{Path, read_path, converted_to}
 use Rattle.cil_scan.specs.declared.words.Word.{Word as Seen}
 use Rattle.cil_scan.specs.Said.{all_said}
@@ -88,13 +90,13 @@ item_more xs o = option_and_then (item_end xs) o
 abbrev pub items_of : Items → Listed × List Word
 items_of x = ((map item_of x.all.items, x.closed), all_said x.rest.now)
 
--- an offset that an address may have
-abbrev pub offset_in : ℤ → Option ℤ
-offset_in v = if fits Long v then Some v else None
+-- an offset that an address may have in a data model
+abbrev pub offset_in : Abi → ℤ → Option ℤ
+offset_in abi v = if fits (long_of abi) v then Some v else None
 
 -- behind the `(` of a conversion
 abbrev pub converted_from : Env → ℕ → Shape → List Word → Reading Constant
-converted_from env n s ws = option_and_then (converted_to env s) (enclosed (λ (x : Named). x.0) (read_decl env.tags n ws))
+converted_from env n s ws = option_and_then (converted_to env s) (enclosed (λ (x : Named). x.0) (read_decl (bases env) n ws))
 
 abbrev pub constant_of : Constant × Bor (List Seen) → Constant × List Word
 constant_of x = (x.0, all_said x.1.now)

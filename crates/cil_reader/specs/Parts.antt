@@ -1,7 +1,9 @@
 -- Device: parts of expressions as the code has them: each is seen as one tree in the graph and in each graph that this one grows to.
 use Rattle.std.specs.Prelude.{◌≡◌, ℕ, List, ◌∷◌, Option, Some, None, length}
 use Rattle.std.specs.Option.{option_map, option_and_then}
+use Rattle.cil_base.specs.declared.kinds.Abi.{Abi}
 use Rattle.cil_base.specs.declared.kinds.IntKind.{IntKind}
+use Rattle.cil_base.specs.Integer.{kind_in}
 use Rattle.cil_base.specs.declared.numbers.TypeId.{TypeId}
 use Rattle.cil_base.specs.declared.operators.BinOp.{BinOp}
 use Rattle.type_graph.specs.declared.nodes.Node.{Node}
@@ -17,7 +19,7 @@ use Rattle.cil_tree.specs.View.{exp_of, host_of, lval_of}
 use Rattle.cil_nodes.specs.Built.{part_of}
 use Rattle.cil_text.specs.Words.{Word, LeftBracket, Dot, Name}
 use Rattle.cil_text.specs.ReadTypes.{Reading, read_decl}
-use Rattle.cil_text.specs.ReadExps.{Env, pointee, moved_pointee, type_at_host, type_at_place, find_named, fields, type_of_named, in_brackets, exp_from, read_exp, read_offsets}
+use Rattle.cil_text.specs.ReadExps.{Env, bases, pointee, moved_pointee, type_at_host, type_at_place, find_named, fields, type_of_named, in_brackets, exp_from, read_exp, read_offsets}
 use Rattle.cil_reader.specs.declared.operands.Walk.{Walk}
 use Rattle.cil_scan.specs.Said.{all_said}
 use Rattle.cil_reader.specs.Settings.{type_in, TypeBelow}
@@ -47,9 +49,9 @@ pub record IsMoved (op : BinOp) (s t u : Option TypeId) : Type 0 where
 
 -- readings by the code's steps
 
--- a constant, and what stands behind it
-abbrev pub constant_read : IntKind → ℕ → List Word → Reading Exp
-constant_read kind n ws = Some (Const kind n, ws)
+-- a constant of a word with this kind, and what stands behind it
+abbrev pub constant_read : Abi → IntKind → ℕ → List Word → Reading Exp
+constant_read abi kind n ws = Some (Const (kind_in abi kind) n, ws)
 
 -- what a name means, and what stands behind it
 abbrev pub host_read : List Word → Option Host → Reading Host
@@ -57,7 +59,7 @@ host_read ws o = option_map (λ (h : Host). (h, ws)) o
 
 -- an expression within which others are read with so many steps
 abbrev pub exp_within : Env → ℕ → List Word → Reading Exp
-exp_within env n ws = exp_from env (read_exp env n) (read_decl env.tags n) n ws
+exp_within env n ws = exp_from env (read_exp env n) (read_decl (bases env) n) n ws
 
 abbrev pub part_behind : Lval → Offsets × List Word → Lval × List Word
 part_behind l r = (part_of l r.0, r.1)

@@ -20,8 +20,8 @@ zipped nodes (n ∷ ns) [] = []
 abbrev pub locals_of : List Node → Names → List Local
 locals_of nodes x = zipped nodes x.numbering x.types.items
 
-unfoldable pub env_of : List Node → Known → Env
-env_of nodes k = record { tags = k.tags; members = map (locals_of nodes) k.members.items; globals = locals_of nodes k.globals; locals = locals_of nodes k.locals }
+unfoldable pub env_of : Graph → Known → Env
+env_of g k = record { abi = g.abi; tags = k.tags; members = map (locals_of g.nodes) k.members.items; globals = locals_of g.nodes k.globals; locals = locals_of g.nodes k.locals }
 
 abbrev pub EachNames : ℕ → List Names → Type 0
 EachNames n [] = Unit {0}
@@ -40,7 +40,7 @@ pub record Setting : Type 0 where
   pub known : Known
 
 unfoldable pub env_in : Setting → Env
-env_in s = env_of s.graph.nodes s.known
+env_in s = env_of s.graph s.known
 
 -- what reading leaves: the graph has grown, its aggregates stay, and what is known stays
 pub record Onward (old new : Setting) : Type 0 where

@@ -5,6 +5,7 @@ ghost use Rattle.cil_base.specs.Arithmetic.{fits};
 ghost use Rattle.cil_base.specs.declared.kinds.IntKind.TheVariants.{Int as int_kind};
 ghost use Rattle.type_graph.specs.Shapes.{IntType, shape};
 ghost use Rattle.cil_tree.specs.WellFormedTypes.{members_are_unqualified};
+ghost use Rattle.cil_text.specs.ReadExps.{bases};
 ghost use Rattle.cil_text.specs.Allowed.{allowed};
 ghost use Rattle.cil_text.specs.ReadAggregates.{incomplete, tag_of, read_enumerator, read_member, read_placed, read_aggregates};
 ghost use Rattle.cil_text.specs.ReadGlobals.{seen_fields};
@@ -314,7 +315,7 @@ fn read_tags<'w, 'a>(
 /// The name and the type in a member's line (C11 6.7.2.1).
 #[tactic(auto, using(crate::proofs::MemberLaws::declared_gives, crate::proofs::MemberLaws::declared_nameless, crate::proofs::MemberLaws::declared_open, crate::proofs::MemberLaws::declared_fails, crate::proofs::OnwardLaws::onward_twice, crate::proofs::OnwardLaws::onward_env, crate::proofs::OnwardLaws::onward_grows, crate::proofs::OnwardLaws::onward_none))]
 fn declared<'a>(r: &mut Reader, left: u32, words: &[Word<'a>]) -> Result<(&'a [u8], TypeId), Stop>
-    ensures gives { Gives (λ x. member_with x.0.now (shape r.new.graph.nodes x.1.0)) result (read_member (env_in r.old).tags left (all_said words.now)) }
+    ensures gives { Gives (λ x. member_with x.0.now (shape r.new.graph.nodes x.1.0)) result (read_member (bases (env_in r.old)) left (all_said words.now)) }
     ensures there { IfOk result (λ x. x.1.0 < length r.new.graph.nodes) }
     ensures adds { IfOk result (λ x. AddsParts r.old.graph r.new.graph (shape r.new.graph.nodes x.1.0 ∷ [])) }
     ensures on { Onward r.old r.new }
@@ -366,7 +367,7 @@ fn one_member(
     words: &[Word],
 ) -> Result<Fields, Stop>
     requires known { FieldsKnown r.old.graph pool.old fields.members.items fields.names }
-    ensures gives { Gives (λ x. members_in r.new.graph.nodes pool.new x.members.items) result (member_more (read_member (env_in r.old).tags left) (members_in r.old.graph.nodes pool.old fields.members.items) (all_said words.now)) }
+    ensures gives { Gives (λ x. members_in r.new.graph.nodes pool.new x.members.items) result (member_more (read_member (bases (env_in r.old)) left) (members_in r.old.graph.nodes pool.old fields.members.items) (all_said words.now)) }
     ensures known { IfOk result (λ x. FieldsKnown r.new.graph pool.new x.members.items x.names) }
     ensures adds { IfOk result (λ x. FieldsAdded r.old.graph r.new.graph fields.names.types.items x.names.types.items) }
     ensures on { Onward r.old r.new }
@@ -387,7 +388,7 @@ fn next_member<'w, 'a>(
     lines: &'w [Vec<Word<'a>>],
 ) -> Result<(bool, Fields, &'w [Vec<Word<'a>>]), Stop>
     requires known { FieldsKnown r.old.graph pool.old fields.members.items fields.names }
-    ensures gives { Gives (λ x. (x.0, (members_in r.new.graph.nodes pool.new x.1.members.items, all_lines x.2.now))) result (next_line (member_more (read_member (env_in r.old).tags left) (members_in r.old.graph.nodes pool.old fields.members.items)) (members_in r.old.graph.nodes pool.old fields.members.items) (all_lines lines.now)) }
+    ensures gives { Gives (λ x. (x.0, (members_in r.new.graph.nodes pool.new x.1.members.items, all_lines x.2.now))) result (next_line (member_more (read_member (bases (env_in r.old)) left) (members_in r.old.graph.nodes pool.old fields.members.items)) (members_in r.old.graph.nodes pool.old fields.members.items) (all_lines lines.now)) }
     ensures known { IfOk result (λ x. FieldsKnown r.new.graph pool.new x.1.members.items x.1.names) }
     ensures adds { IfOk result (λ x. FieldsAdded r.old.graph r.new.graph fields.names.types.items x.1.names.types.items) }
     ensures less { IfOk result (λ x. length x.2.now < length lines.now) }
@@ -414,7 +415,7 @@ fn read_members<'w, 'a>(
     left: u32,
     lines: &'w [Vec<Word<'a>>],
 ) -> Result<(Fields, &'w [Vec<Word<'a>>]), Stop>
-    ensures gives { Gives (λ x. (members_in r.new.graph.nodes pool.new x.0.members.items, all_lines x.1.now)) result (members_from (read_member (env_in r.old).tags left) [] (all_lines lines.now)) }
+    ensures gives { Gives (λ x. (members_in r.new.graph.nodes pool.new x.0.members.items, all_lines x.1.now)) result (members_from (read_member (bases (env_in r.old)) left) [] (all_lines lines.now)) }
     ensures known { IfOk result (λ x. FieldsKnown r.new.graph pool.new x.0.members.items x.0.names) }
     ensures adds { IfOk result (λ x. AddsParts r.old.graph r.new.graph (types_at r.new.graph.nodes x.0.names.types.items)) }
     ensures on { Onward r.old r.new }
@@ -447,7 +448,7 @@ fn read_complete<'w, 'a>(
     requires there { a.0 < length r.old.graph.aggs }
     requires bare { AreOpen (drop a.0 (aggregates_in r.old.graph pool.old)) }
     requires plain { ArePlain (drop a.0 (aggregates_in r.old.graph pool.old)) }
-    ensures gives { Gives (λ rest. (take (a.0 + 1) (aggregates_in r.new.graph pool.new), all_lines rest.now)) result (one_complete (read_member (env_in r.old).tags left) (take a.0 (aggregates_in r.old.graph pool.old)) (tag_at a.0 (aggregates_in r.old.graph pool.old)) (all_lines lines.now)) }
+    ensures gives { Gives (λ rest. (take (a.0 + 1) (aggregates_in r.new.graph pool.new), all_lines rest.now)) result (one_complete (read_member (bases (env_in r.old)) left) (take a.0 (aggregates_in r.old.graph pool.old)) (tag_at a.0 (aggregates_in r.old.graph pool.old)) (all_lines lines.now)) }
     ensures holds { OnOk result (Holds r.new pool.new (a.0 + 1)) }
     ensures adds { OnOk result (AggregatesAdded r.old.graph r.new.graph pool.old pool.new) }
     ensures rest { OnOk result (drop (a.0 + 1) (aggregates_in r.new.graph pool.new) ≡ drop (a.0 + 1) (aggregates_in r.old.graph pool.old)) }
@@ -506,7 +507,7 @@ fn read_struct<'w, 'a>(
     requires there { a.0 < length r.old.graph.aggs }
     requires bare { AreOpen (drop a.0 (aggregates_in r.old.graph pool.old)) }
     requires plain { ArePlain (drop a.0 (aggregates_in r.old.graph pool.old)) }
-    ensures gives { Gives (λ rest. (take (a.0 + 1) (aggregates_in r.new.graph pool.new), all_lines rest.now)) result (one_struct (read_member (env_in r.old).tags left) (take a.0 (aggregates_in r.old.graph pool.old)) (tag_at a.0 (aggregates_in r.old.graph pool.old)) (all_lines lines.now)) }
+    ensures gives { Gives (λ rest. (take (a.0 + 1) (aggregates_in r.new.graph pool.new), all_lines rest.now)) result (one_struct (read_member (bases (env_in r.old)) left) (take a.0 (aggregates_in r.old.graph pool.old)) (tag_at a.0 (aggregates_in r.old.graph pool.old)) (all_lines lines.now)) }
     ensures holds { OnOk result (Holds r.new pool.new (a.0 + 1)) }
     ensures adds { OnOk result (AggregatesAdded r.old.graph r.new.graph pool.old pool.new) }
     ensures rest { OnOk result (drop (a.0 + 1) (aggregates_in r.new.graph pool.new) ≡ drop (a.0 + 1) (aggregates_in r.old.graph pool.old)) }
@@ -538,7 +539,7 @@ fn read_structs<'w, 'a>(
 ) -> Result<&'w [Vec<Word<'a>>], Stop>
     requires holds { Holds r.old pool.old first }
     requires first { first ≡ length r.old.graph.aggs }
-    ensures gives { Gives (λ rest. (aggregates_in r.new.graph pool.new, all_lines rest.now)) result (tagged_structs left first (aggregates_in r.old.graph pool.old) (all_lines lines.now)) }
+    ensures gives { Gives (λ rest. (aggregates_in r.new.graph pool.new, all_lines rest.now)) result (tagged_structs r.old.graph.abi left first (aggregates_in r.old.graph pool.old) (all_lines lines.now)) }
     ensures holds { OnOk result (Holds r.new pool.new (length r.new.graph.aggs)) }
     ensures adds { OnOk result (AggregatesAdded r.old.graph r.new.graph pool.old pool.new) }
     ensures pool { KeepsNames pool.old pool.new }
@@ -560,7 +561,7 @@ fn read_placed<'w, 'a>(
     lines: &'w [Vec<Word<'a>>],
 ) -> Result<&'w [Vec<Word<'a>>], Stop>
     requires { IsBlank r.old }
-    ensures gives { Gives (λ rest. (aggregates_in r.new.graph pool.new, all_lines rest.now)) result (read_placed left (all_lines lines.now)) }
+    ensures gives { Gives (λ rest. (aggregates_in r.new.graph pool.new, all_lines rest.now)) result (read_placed r.old.graph.abi left (all_lines lines.now)) }
     ensures known { OnOk result (AggregatesKnown r.new.graph pool.new) }
     ensures tags { OnOk result ((env_in r.new).tags ≡ map tag_of (aggregates_in r.new.graph pool.new)) }
     ensures members { OnOk result ((env_in r.new).members ≡ map seen_fields (aggregates_in r.new.graph pool.new)) }
@@ -575,7 +576,7 @@ fn read_placed<'w, 'a>(
 }
 
 /// All aggregates, each of which is incomplete or has a member (C11 6.7.2.1p8, 6.7.2.2p1), and the lines behind them.
-#[tactic(auto, using(crate::proofs::FilledLaws::filled_gives, crate::proofs::FilledLaws::filled_refused, crate::proofs::FilledLaws::filled_fails, crate::proofs::AddedMembers::whole_added))]
+#[tactic(auto, using(crate::proofs::FilledLaws::filled_gives, crate::proofs::FilledLaws::filled_refused, crate::proofs::FilledLaws::filled_fails))]
 pub(crate) fn read_aggregates<'w, 'a>(
     r: &mut Reader,
     pool: &mut NamePool,
@@ -583,10 +584,11 @@ pub(crate) fn read_aggregates<'w, 'a>(
     lines: &'w [Vec<Word<'a>>],
 ) -> Result<&'w [Vec<Word<'a>>], Stop>
     requires { IsBlank r.old }
-    ensures gives { Gives (λ rest. (aggregates_in r.new.graph pool.new, all_lines rest.now)) result (read_aggregates left (all_lines lines.now)) }
+    ensures gives { Gives (λ rest. (aggregates_in r.new.graph pool.new, all_lines rest.now)) result (read_aggregates r.old.graph.abi left (all_lines lines.now)) }
     ensures known { OnOk result (AggregatesKnown r.new.graph pool.new) }
     ensures tags { OnOk result ((env_in r.new).tags ≡ map tag_of (aggregates_in r.new.graph pool.new)) }
     ensures members { OnOk result ((env_in r.new).members ≡ map seen_fields (aggregates_in r.new.graph pool.new)) }
+    ensures model { OnOk result (r.new.graph.abi ≡ r.old.graph.abi) }
     ensures adds { IfOk result (λ rest. AddsParts r.old.graph r.new.graph (member_types (aggregates_in r.new.graph pool.new))) }
     ensures unqualified { IfOk result (λ rest. list_all members_are_unqualified r.new.graph.aggs ≡ true) }
     ensures pool { KeepsNames pool.old pool.new }

@@ -4,6 +4,7 @@ ghost use Rattle.type_graph.specs.Shapes.{shape};
 ghost use Rattle.type_graph.specs.Growth.{Grows, KeepsAggregates};
 ghost use Rattle.cil_tree.specs.Names.{are_different};
 ghost use Rattle.cil_tree.specs.View.{text_at, stmts_of, body_of};
+ghost use Rattle.cil_text.specs.ReadExps.{bases};
 ghost use Rattle.cil_text.specs.Allowed.{allowed};
 ghost use Rattle.cil_text.specs.ReadTypes.{read_decl};
 ghost use Rattle.cil_text.specs.ReadStmts.{read_heads, read_nested};
@@ -231,7 +232,7 @@ fn one_local(
     words: &[Word],
 ) -> Result<Locals, Stop>
     requires { LocalsKnown r.old.graph pool.old locals }
-    ensures gives { Gives (λ x. locals_of r.new.graph.nodes x.names) result (option_and_then (local_behind (locals_of r.old.graph.nodes locals.names)) (option_and_then local_of (read_decl (env_in r.old).tags left (all_said words.now)))) }
+    ensures gives { Gives (λ x. locals_of r.new.graph.nodes x.names) result (option_and_then (local_behind (locals_of r.old.graph.nodes locals.names)) (option_and_then local_of (read_decl (bases (env_in r.old)) left (all_said words.now)))) }
     ensures known { IfOk result (λ x. LocalsKnown r.new.graph pool.new x) }
     ensures adds { IfOk result (λ x. AddsParts r.old.graph r.new.graph (types_in_locals (locals_of r.new.graph.nodes x.names))) }
     ensures on { Onward r.old r.new }
@@ -258,7 +259,7 @@ fn read_locals<'w, 'a>(
 ) -> Result<(Locals, &'w [Vec<Word<'a>>]), Stop>
     requires known { LocalsKnown r.old.graph pool.old params }
     requires apart { apart (locals_of r.old.graph.nodes params.names) ≡ true }
-    ensures gives { Gives (λ x. (locals_of r.new.graph.nodes x.0.names, all_lines x.1.now)) result (option_and_then (allowed first_apart) (option_map (locals_behind (locals_of r.old.graph.nodes params.names)) (read_locals (env_in r.old).tags left (all_lines lines.now)))) }
+    ensures gives { Gives (λ x. (locals_of r.new.graph.nodes x.0.names, all_lines x.1.now)) result (option_and_then (allowed first_apart) (option_map (locals_behind (locals_of r.old.graph.nodes params.names)) (read_locals (bases (env_in r.old)) left (all_lines lines.now)))) }
     ensures known { IfOk result (λ x. LocalsKnown r.new.graph pool.new x.0) }
     ensures adds { IfOk result (λ x. AddsParts r.old.graph r.new.graph (types_in_locals (locals_of r.new.graph.nodes x.0.names))) }
     ensures on { Onward r.old r.new }

@@ -3,6 +3,7 @@ ghost use Rattle.std.specs.Option.{option_map, option_and_then};
 ghost use Rattle.type_graph.specs.Arena.{Graph, EachType};
 ghost use Rattle.type_graph.specs.Shapes.{shape};
 ghost use Rattle.cil_tree.specs.View.{definition_of, global_of};
+ghost use Rattle.cil_text.specs.ReadExps.{bases};
 ghost use Rattle.cil_text.specs.ReadTypes.{read_decl};
 ghost use Rattle.cil_text.specs.ReadImages.{read_image};
 ghost use Rattle.cil_text.specs.ReadGlobals.{declared_with, only_function, declaration_from, read_declarations, image_end, defined_by, own_definition, default_of};
@@ -46,7 +47,7 @@ fn declared_with<'a>(
     internal: bool,
     words: &[Word<'a>],
 ) -> Result<Declaration<'a>, Stop>
-    ensures gives { Gives (λ d. declaration_of r.new.graph.nodes d) result (option_and_then (declared_with internal) (read_decl (env_in r.old).tags left (all_said words.now))) }
+    ensures gives { Gives (λ d. declaration_of r.new.graph.nodes d) result (option_and_then (declared_with internal) (read_decl (bases (env_in r.old)) left (all_said words.now))) }
     ensures there { IfOk result (λ d. d.ty.0 < length r.new.graph.nodes) }
     ensures adds { IfOk result (λ d. AddsParts r.old.graph r.new.graph (shape r.new.graph.nodes d.ty.0 ∷ [])) }
     ensures on { Onward r.old r.new }
@@ -69,7 +70,7 @@ fn function_alone<'a>(
     left: u32,
     words: &[Word<'a>],
 ) -> Result<Declaration<'a>, Stop>
-    ensures gives { Gives (λ d. declaration_of r.new.graph.nodes d) result (option_and_then only_function (option_and_then (declared_with false) (read_decl (env_in r.old).tags left (all_said words.now)))) }
+    ensures gives { Gives (λ d. declaration_of r.new.graph.nodes d) result (option_and_then only_function (option_and_then (declared_with false) (read_decl (bases (env_in r.old)) left (all_said words.now)))) }
     ensures there { IfOk result (λ d. d.ty.0 < length r.new.graph.nodes) }
     ensures adds { IfOk result (λ d. AddsParts r.old.graph r.new.graph (shape r.new.graph.nodes d.ty.0 ∷ [])) }
     ensures on { Onward r.old r.new }
@@ -88,7 +89,7 @@ fn declaration_from<'a>(
     left: u32,
     words: &[Word<'a>],
 ) -> Result<Declaration<'a>, Stop>
-    ensures gives { Gives (λ d. declaration_of r.new.graph.nodes d) result (declaration_from (env_in r.old).tags left (all_said words.now)) }
+    ensures gives { Gives (λ d. declaration_of r.new.graph.nodes d) result (declaration_from (bases (env_in r.old)) left (all_said words.now)) }
     ensures there { IfOk result (λ d. d.ty.0 < length r.new.graph.nodes) }
     ensures adds { IfOk result (λ d. AddsParts r.old.graph r.new.graph (shape r.new.graph.nodes d.ty.0 ∷ [])) }
     ensures on { Onward r.old r.new }
@@ -108,7 +109,7 @@ fn with_declaration<'a>(
     words: &[Word<'a>],
 ) -> Result<Vec<Declaration<'a>>, Stop>
     requires { EachDeclared (length r.old.graph.nodes) declarations.items }
-    ensures gives { Gives (λ ds. declarations_of r.new.graph.nodes ds.items) result (option_map (declaration_behind (declarations_of r.old.graph.nodes declarations.entry.items)) (declaration_from (env_in r.old).tags left (all_said words.now))) }
+    ensures gives { Gives (λ ds. declarations_of r.new.graph.nodes ds.items) result (option_map (declaration_behind (declarations_of r.old.graph.nodes declarations.entry.items)) (declaration_from (bases (env_in r.old)) left (all_said words.now))) }
     ensures each { IfOk result (λ ds. EachDeclared (length r.new.graph.nodes) ds.items) }
     ensures adds { (f : Graph) → AddsParts f r.old.graph (types_declared r.old.graph.nodes declarations.entry.items) → IfOk result (λ ds. AddsParts f r.new.graph (types_declared r.new.graph.nodes ds.items)) }
     ensures on { Onward r.old r.new }
@@ -126,7 +127,7 @@ pub(crate) fn read_declarations<'w, 'a>(
     left: u32,
     lines: &'w [Vec<Word<'a>>],
 ) -> Result<(Vec<Declaration<'a>>, &'w [Vec<Word<'a>>]), Stop>
-    ensures gives { Gives (λ x. (declarations_of r.new.graph.nodes x.0.items, all_lines x.1.now)) result (read_declarations (env_in r.old).tags left (all_lines lines.now)) }
+    ensures gives { Gives (λ x. (declarations_of r.new.graph.nodes x.0.items, all_lines x.1.now)) result (read_declarations (bases (env_in r.old)) left (all_lines lines.now)) }
     ensures each { IfOk result (λ x. EachDeclared (length r.new.graph.nodes) x.0.items) }
     ensures adds { IfOk result (λ x. AddsParts r.old.graph r.new.graph (types_declared r.new.graph.nodes x.0.items)) }
     ensures on { Onward r.old r.new }

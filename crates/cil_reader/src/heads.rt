@@ -119,14 +119,16 @@ fn read_return(r: &mut Reader, left: u32, words: &[Word]) -> Result<Head, Stop>
 
 /// Behind `case`: its value, if its line ends behind it.
 #[tactic(auto, using(crate::proofs::HeadsLaws::case_gives, crate::proofs::HeadsLaws::case_open, crate::proofs::HeadsLaws::case_fails))]
-fn read_case(words: &[Word]) -> Option<Numbered>
-    ensures { option_map (λ x. Whole (Case x.kind x.value)) result ≡ option_and_then case_of (read_number (all_said words.now)) }
+fn read_case(r: &Reader, words: &[Word]) -> Option<Numbered>
+    ensures { option_map (λ x. Whole (Case x.kind x.value)) result ≡ option_and_then (case_of (env_in r.now).abi) (read_number (all_said words.now)) }
 {
     let (number, rest) = read_number(words)?;
     if !ends_case(rest) {
         return None;
     }
-    Some(number)
+    let kind = r.kind(number.kind);
+    let value = number.value;
+    Some(Numbered { kind, value })
 }
 
 /// A line that is a statement of its own.
@@ -154,11 +156,11 @@ fn whole_instr(r: &mut Reader, left: u32, words: &[Word]) -> Result<Head, Stop>
 /// Behind `case` (C11 6.8.1): the line of a label.
 #[tactic(auto, using(crate::proofs::HeadsLaws::known_case, cil_text::proofs::PartsAdded::adds_none))]
 fn case_line(r: &Reader, words: &[Word]) -> Result<Head, Stop>
-    ensures gives { Gives (λ h. head_of r.now.graph.nodes h) result (option_and_then case_of (read_number (all_said words.now))) }
+    ensures gives { Gives (λ h. head_of r.now.graph.nodes h) result (option_and_then (case_of (env_in r.now).abi) (read_number (all_said words.now))) }
     ensures known { IfOk result (HeadKnown r.now.graph) }
     ensures adds { IfOk result (λ h. AddsParts r.now.graph r.now.graph (types_in_head (head_of r.now.graph.nodes h))) }
 {
-    match read_case(words) {
+    match read_case(r, words) {
         Some(number) => whole(r, case(number.kind, number.value)),
         None => Err(Stop::NotCil),
     }

@@ -143,11 +143,12 @@ fn integer<'w, 'a>(kind: IntKind, words: &'w [Word<'a>]) -> Option<(Constant, &'
 }
 
 /// A number of the kind that it is spelled with.
-fn own_integer<'w, 'a>(words: &'w [Word<'a>]) -> Option<(Constant, &'w [Word<'a>])>
-    ensures { option_map (λ x. (x.0, all_said x.1.now)) result ≡ option_map integer_as (read_number (all_said words.now)) }
+fn own_integer<'w, 'a>(r: &Reader, words: &'w [Word<'a>]) -> Option<(Constant, &'w [Word<'a>])>
+    ensures { option_map (λ x. (x.0, all_said x.1.now)) result ≡ option_map (integer_as (env_in r.now).abi) (read_number (all_said words.now)) }
 {
     let (number, rest) = read_number(words)?;
-    Some((Constant::Int(number.kind, number.value), rest))
+    let kind = r.kind(number.kind);
+    Some((Constant::Int(kind, number.value), rest))
 }
 
 /// The global that a name means.
@@ -171,9 +172,10 @@ fn function_named<'w, 'a>(r: &Reader, words: &'w [Word<'a>]) -> Option<(Constant
     }
 }
 
-/// The offset that a number is, if an address may have it.
-fn offset_of(value: i128) -> Option<i64>
-    ensures { result ≡ offset_in value }
+/// The offset that a number is, if an address may have it: a value of `long`.
+#[tactic(auto, using(crate::proofs::ImageLaws::offset_below, crate::proofs::ImageLaws::offset_above))]
+fn offset_of(r: &Reader, value: i128) -> Option<i64>
+    ensures { result ≡ offset_in (env_in r.now).abi value }
 {
     if value < i64::MIN as i128 {
         return None;
@@ -181,17 +183,24 @@ fn offset_of(value: i128) -> Option<i64>
     if value > i64::MAX as i128 {
         return None;
     }
+    if !r.long().fits(value) {
+        return None;
+    }
     Some(value as i64)
 }
 
 /// Behind `+`: an address's offset from the beginning of an object, and `)`.
 #[tactic(auto, using(crate::proofs::ImageLaws::address_gives, crate::proofs::ImageLaws::address_far, crate::proofs::ImageLaws::address_open, crate::proofs::ImageLaws::address_fails))]
-fn address_in<'w, 'a>(object: EntityId, words: &'w [Word<'a>]) -> Option<(Constant, &'w [Word<'a>])>
-    ensures { option_map (λ x. (x.0, all_said x.1.now)) result ≡ option_and_then (offset_at object.0) (read_number (all_said words.now)) }
+fn address_in<'w, 'a>(
+    r: &Reader,
+    object: EntityId,
+    words: &'w [Word<'a>],
+) -> Option<(Constant, &'w [Word<'a>])>
+    ensures { option_map (λ x. (x.0, all_said x.1.now)) result ≡ option_and_then (offset_at (env_in r.now).abi object.0) (read_number (all_said words.now)) }
 {
     let (number, rest) = read_number(words)?;
     let behind = closing(rest)?;
-    let offset = offset_of(number.value)?;
+    let offset = offset_of(r, number.value)?;
     Some((Constant::Address(object, offset), behind))
 }
 
@@ -209,7 +218,7 @@ fn read_address<'w, 'a>(r: &Reader, words: &'w [Word<'a>]) -> Option<(Constant, 
             Word::Name(name),
             Word::Operator(BinOp::Add),
             rest @ ..,
-        ] => address_in(global_named(r, name)?, rest),
+        ] => address_in(r, global_named(r, name)?, rest),
         _ => None,
     }
 }
@@ -221,7 +230,7 @@ fn read_pointer<'w, 'a>(r: &Reader, words: &'w [Word<'a>]) -> Option<(Constant, 
     match words {
         [Word::LeftParen, rest @ ..] => read_address(r, rest),
         [Word::Operator(BinOp::And), rest @ ..] => function_named(r, rest),
-        _ => own_integer(words),
+        _ => own_integer(r, words),
     }
 }
 

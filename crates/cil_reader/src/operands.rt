@@ -6,7 +6,7 @@ ghost use Rattle.cil_tree.specs.Tree.{Un, Bin, Cast, AddrOf, At, Place, Here};
 ghost use Rattle.cil_tree.specs.View.{exp_of, host_of, lval_of};
 ghost use Rattle.cil_text.specs.Words.{LeftParen};
 ghost use Rattle.cil_text.specs.ReadTypes.{read_decl};
-ghost use Rattle.cil_text.specs.ReadExps.{enclosed, read_exp, read_formed, read_chosen, read_place, read_host, read_offsets, read_cast, read_binary, read_right, type_at_host, host_named, find_named, fields, in_brackets};
+ghost use Rattle.cil_text.specs.ReadExps.{bases, enclosed, read_exp, read_formed, read_chosen, read_place, read_host, read_offsets, read_cast, read_binary, read_right, type_at_host, host_named, find_named, fields, in_brackets};
 ghost use Rattle.cil_text.specs.TypesOf.{AddsParts, types_in_exp, types_in_host, types_in_place};
 ghost use Rattle.cil_scan.specs.Said.{all_said};
 ghost use Rattle.cil_declarators.specs.Gives.{Gives};
@@ -31,7 +31,7 @@ struct Walk<'w, 'a> {
     rest: &'w [Word<'a>],
 }
 
-/// A constant, and what stands behind it.
+/// The constant of a word with this kind, and what stands behind it.
 #[tactic(auto, using(cil_text::proofs::PartsAdded::adds_none))]
 fn one_constant<'w, 'a>(
     r: &Reader,
@@ -39,11 +39,12 @@ fn one_constant<'w, 'a>(
     n: u64,
     rest: &'w [Word<'a>],
 ) -> Result<(Operand, &'w [Word<'a>]), Stop>
-    ensures gives { Gives (λ x. (exp_of r.now.graph.nodes x.0.exp.value, all_said x.1.now)) result (constant_read kind n (all_said rest.now)) }
+    ensures gives { Gives (λ x. (exp_of r.now.graph.nodes x.0.exp.value, all_said x.1.now)) result (constant_read (env_in r.now).abi kind n (all_said rest.now)) }
     ensures known { IfOk result (λ x. ExpKnown r.now.graph (env_in r.now) x.0.exp.value x.0.to) }
     ensures adds { IfOk result (λ x. AddsParts r.now.graph r.now.graph (types_in_exp (exp_of r.now.graph.nodes x.0.exp.value))) }
 {
-    Ok((with_constant(r, kind, n)?, rest))
+    let own = r.kind(kind);
+    Ok((with_constant(r, own, n)?, rest))
 }
 
 /// An expression (C11 6.5). What stands within it is read with one step less.
@@ -96,7 +97,7 @@ fn read_formed<'w, 'a>(
     inner: &'w [Word<'a>],
 ) -> Result<(Operand, &'w [Word<'a>]), Stop>
     requires { all_said words.now ≡ LeftParen ∷ all_said inner.now }
-    ensures gives { Gives (λ x. (exp_of r.new.graph.nodes x.0.exp.value, all_said x.1.now)) result (read_formed (env_in r.old) (read_exp (env_in r.old) left) (read_decl (env_in r.old).tags left) left (form_said form) (all_said inner.now)) }
+    ensures gives { Gives (λ x. (exp_of r.new.graph.nodes x.0.exp.value, all_said x.1.now)) result (read_formed (env_in r.old) (read_exp (env_in r.old) left) (read_decl (bases (env_in r.old)) left) left (form_said form) (all_said inner.now)) }
     ensures known { IfOk result (λ x. ExpKnown r.new.graph (env_in r.new) x.0.exp.value x.0.to) }
     ensures on { Onward r.old r.new }
     ensures adds { IfOk result (λ x. AddsParts r.old.graph r.new.graph (types_in_exp (exp_of r.new.graph.nodes x.0.exp.value))) }
@@ -178,7 +179,7 @@ fn read_cast<'w, 'a>(
     left: u32,
     words: &'w [Word<'a>],
 ) -> Result<(Operand, &'w [Word<'a>]), Stop>
-    ensures gives { Gives (λ x. (exp_of r.new.graph.nodes x.0.exp.value, all_said x.1.now)) result (read_cast (read_exp (env_in r.old) left) (read_decl (env_in r.old).tags left) (all_said words.now)) }
+    ensures gives { Gives (λ x. (exp_of r.new.graph.nodes x.0.exp.value, all_said x.1.now)) result (read_cast (read_exp (env_in r.old) left) (read_decl (bases (env_in r.old)) left) (all_said words.now)) }
     ensures known { IfOk result (λ x. ExpKnown r.new.graph (env_in r.new) x.0.exp.value x.0.to) }
     ensures on { Onward r.old r.new }
     ensures adds { IfOk result (λ x. AddsParts r.old.graph r.new.graph (types_in_exp (exp_of r.new.graph.nodes x.0.exp.value))) }

@@ -22,7 +22,7 @@ use crate::bodies::read_bodies;
 use crate::globals::{Declaration, names_of, read_declarations, read_objects};
 use crate::names::{Known, Names};
 use crate::reader::Reader;
-use cil_base::NamePool;
+use cil_base::{Abi, NamePool};
 use cil_check::check;
 use cil_declarators::{Numbering, Stop};
 use cil_layout::bad_place;
@@ -109,15 +109,16 @@ fn read_globals(
 
 /// The tree that the lines of a text say, whether or not it is a program's and the text is its own.
 #[tactic(auto, using(crate::proofs::MemberLaws::new_known, crate::proofs::ProgramLaws::blank, crate::proofs::ProgramLaws::aggregates_stay, crate::proofs::NeededLaws::tree_needed, crate::proofs::NeededLaws::members_stay, crate::proofs::PoolLaws::pool_same, crate::proofs::PoolLaws::pool_twice))]
-fn read_tree(alloc: Global, bytes: &[u8], pool: &mut NamePool) -> Result<CilUnit, Stop>
-    ensures gives { Gives (λ u. (aggregates_in u.graph pool.new, globals_of u.graph.nodes pool.new u.globals.items)) result (read_text 4294967295 bytes.now) }
+fn read_tree(alloc: Global, bytes: &[u8], pool: &mut NamePool, abi: Abi) -> Result<CilUnit, Stop>
+    ensures gives { Gives (λ u. (aggregates_in u.graph pool.new, globals_of u.graph.nodes pool.new u.globals.items)) result (read_text abi 4294967295 bytes.now) }
+    ensures model { IfOk result (λ u. u.graph.abi ≡ abi) }
     ensures needed { IfOk result (λ u. HasNeeded (program_of pool.new u)) }
     ensures unqualified { IfOk result (λ u. list_all members_are_unqualified u.graph.aggs ≡ true) }
     ensures arena { IfOk result (λ u. IsArena u.graph) }
     ensures pool { KeepsNames pool.old pool.new }
 {
     let lines = lines_of(alloc, bytes)?;
-    let mut r = Reader::new(TypeGraph::new(alloc), nothing_known(alloc));
+    let mut r = Reader::new(TypeGraph::new_for(alloc, abi), nothing_known(alloc));
     let rest = read_aggregates(&mut r, pool, DEPTH, &lines)?;
     let globals = read_globals(&mut r, pool, DEPTH, rest)?;
     let graph = r.into_graph();
@@ -143,31 +144,34 @@ fn is_text(unit: &CilUnit, names: &NamePool, bytes: &[u8]) -> Result<bool, Stop>
     }
 }
 
-/// The program whose text bytes are.
-fn read_text(alloc: Global, bytes: &[u8], pool: &mut NamePool) -> Result<CilUnit, Stop>
+/// The program of a data model whose text bytes are.
+fn read_text(alloc: Global, bytes: &[u8], pool: &mut NamePool, abi: Abi) -> Result<CilUnit, Stop>
     ensures text { IfOk result (λ u. IsTextOf bytes.now (program_of pool.new u)) }
-    ensures refused { Refuses bytes.now result }
+    ensures model { IfOk result (λ u. u.graph.abi ≡ abi) }
+    ensures refused { Refuses abi bytes.now result }
     ensures pool { KeepsNames pool.old pool.new }
 {
-    let unit = read_tree(alloc, bytes, pool)?;
+    let unit = read_tree(alloc, bytes, pool, abi)?;
     if !is_text(&unit, pool, bytes)? {
         return Err(Stop::NotCil);
     }
     Ok(unit)
 }
 
-/// Reads a CIL text: the program whose text these bytes are, with the texts of the pool's names (own).
+/// Reads a CIL text: the program of a data model whose text these bytes are, with the texts of the pool's names (own).
+/// The words `long` and `unsigned long`, and the suffixes `L` and `UL`, are those of the model's kinds.
 ///
-/// NotCil comes exactly for bytes that are the text of no well-formed program, where memory suffices; it names the
-/// place of the first line that is not laid out as a text has its lines, or the end. Memory comes only for want of
-/// memory. The pool gets the names that stand in the text; those that it had keep their numbers, whatever is
+/// NotCil comes exactly for bytes that are the text of no well-formed program of the model, where memory suffices; it
+/// names the place of the first line that is not laid out as a text has its lines, or the end. Memory comes only for
+/// want of memory. The pool gets the names that stand in the text; those that it had keep their numbers, whatever is
 /// answered.
-pub fn read(alloc: Global, bytes: &[u8], pool: &mut NamePool) -> Result<CilUnit, ReadStop>
+pub fn read(alloc: Global, bytes: &[u8], pool: &mut NamePool, abi: Abi) -> Result<CilUnit, ReadStop>
     ensures text { IfOk result (λ u. IsTextOf bytes.now (program_of pool.new u)) }
-    ensures place { StopsAt bytes.now result }
+    ensures model { IfOk result (λ u. u.graph.abi ≡ abi) }
+    ensures place { StopsAt abi bytes.now result }
     ensures pool { KeepsNames pool.old pool.new }
 {
-    match read_text(alloc, bytes, pool) {
+    match read_text(alloc, bytes, pool, abi) {
         Ok(unit) => Ok(unit),
         Err(Stop::NotCil) => Err(ReadStop::NotCil(bad_place(bytes))),
         Err(Stop::WantOfMemory) => Err(ReadStop::Memory),

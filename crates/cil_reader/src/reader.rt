@@ -1,6 +1,7 @@
 ghost use Rattle.std.specs.Prelude.{◌≡◌, ◌<◌, [], ◌∷◌, Some, length, IfSome, IfOk, OnOk};
 ghost use Rattle.std.specs.Option.{option_map, option_and_then};
 ghost use Rattle.cil_base.specs.declared.kinds.IntKind.TheVariants.{Int as int};
+ghost use Rattle.cil_base.specs.Integer.{kind_in, long_of};
 ghost use Rattle.type_graph.specs.Shapes.{shape, shapes_of, IntType};
 ghost use Rattle.type_graph.specs.Growth.{Grows};
 ghost use Rattle.type_graph.specs.Arena.{IsArena, EachType};
@@ -9,7 +10,7 @@ ghost use Rattle.cil_tree.specs.WellFormedTypes.{has_member};
 ghost use Rattle.cil_tree.specs.Typing.{same_shape, pointed, element_of, is_function};
 ghost use Rattle.cil_tree.specs.View.{host_of};
 ghost use Rattle.cil_text.specs.ReadTypes.{find, read_decl};
-ghost use Rattle.cil_text.specs.ReadExps.{host_named, find_named, fields, type_of_named, is_array_type};
+ghost use Rattle.cil_text.specs.ReadExps.{bases, host_named, find_named, fields, type_of_named, is_array_type};
 ghost use Rattle.cil_text.specs.ReadGlobals.{params_of};
 ghost use Rattle.cil_text.specs.TypesOf.{AddsParts};
 ghost use Rattle.cil_scan.specs.Said.{all_said};
@@ -79,19 +80,34 @@ impl Reader {
         self.graph.alloc()
     }
 
+    /// The kind of the data model that has the words and the suffix of a kind of LP64.
+    pub(crate) fn kind(&self, written: IntKind) -> IntKind
+        ensures { result ≡ kind_in (env_in self.now).abi written }
+    {
+        self.graph.abi().kind(written)
+    }
+
+    /// The kind of `long`.
+    pub(crate) fn long(&self) -> IntKind
+        ensures { result ≡ long_of (env_in self.now).abi }
+    {
+        self.graph.abi().long()
+    }
+
     /// A declaration without storage class, or a type's name.
-    #[tactic(auto, using(crate::proofs::SettingsLaws::setting_kept, crate::proofs::SettingsLaws::known_kept, crate::proofs::SettingsLaws::setting_tags, cil_declarators::proofs::ExtendsLaws::extends_grows, cil_declarators::proofs::ExtendsLaws::extends_keeps, crate::proofs::OnwardLaws::onward_from))]
+    #[tactic(auto, using(crate::proofs::SettingsLaws::setting_kept, crate::proofs::SettingsLaws::known_kept, crate::proofs::SettingsLaws::setting_tags, crate::proofs::SettingsLaws::setting_model, cil_declarators::proofs::ExtendsLaws::extends_grows, cil_declarators::proofs::ExtendsLaws::extends_keeps, crate::proofs::OnwardLaws::onward_from))]
     pub(crate) fn read_decl<'w, 'a>(
         &mut self,
         left: u32,
         words: &'w [Word<'a>],
     ) -> Result<(Named<'a>, &'w [Word<'a>]), Stop>
-        ensures gives { Gives (λ r. (named_of self.new.graph.nodes r.0, all_said r.1.now)) result (read_decl (env_in self.old).tags left (all_said words.now)) }
+        ensures gives { Gives (λ r. (named_of self.new.graph.nodes r.0, all_said r.1.now)) result (read_decl (bases (env_in self.old)) left (all_said words.now)) }
         ensures there { IfOk result (λ r. r.0.ty.0 < length self.new.graph.nodes) }
         ensures adds { IfOk result (λ r. AddsParts self.old.graph self.new.graph (shape self.new.graph.nodes r.0.ty.0 ∷ [])) }
         ensures on { Onward self.old self.new }
     {
-        read_decl(&self.known.tags, &mut self.graph, left, words)
+        let abi = self.graph.abi();
+        read_decl(abi, &self.known.tags, &mut self.graph, left, words)
     }
 
     /// Whether two types are one.

@@ -2,6 +2,7 @@ ghost use Rattle.std.specs.Prelude.{◌≡◌, ◌<◌, OnOk, length};
 ghost use Rattle.type_graph.specs.Shapes.{shape};
 ghost use Rattle.type_graph.specs.Arena.{IsArena};
 ghost use Rattle.cil_tree.specs.Typing.{same_shape};
+ghost use Rattle.cil_text.specs.ReadExps.{bases};
 ghost use Rattle.cil_scan.specs.Said.{all_said};
 ghost use Rattle.cil_declarators.specs.Gives.{Gives};
 ghost use Rattle.cil_reader.specs.Settings.{Onward, env_in};
@@ -34,7 +35,7 @@ pub(crate) fn read_typed<'w, 'a>(
     words: &'w [Word<'a>],
 ) -> Result<&'w [Word<'a>], Stop>
     requires { ty.0 < length r.old.graph.nodes }
-    ensures gives { Gives (λ x. all_said x.now) result (typed (env_in r.old).tags left (shape r.old.graph.nodes ty.0) (all_said words.now)) }
+    ensures gives { Gives (λ x. all_said x.now) result (typed (bases (env_in r.old)) left (shape r.old.graph.nodes ty.0) (all_said words.now)) }
     ensures same { OnOk result (r.new.graph.nodes ≡ r.old.graph.nodes) }
     ensures on { Onward r.old r.new }
 {

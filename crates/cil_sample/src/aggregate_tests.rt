@@ -1,7 +1,7 @@
 use super::*;
 use crate::builder::Part;
 use crate::types::member;
-use cil_base::{AggId, IntKind, NamePool, TypeId};
+use cil_base::{Abi, AggId, IntKind, NamePool, TypeId};
 use cil_reader::{ReadStop, read};
 use std::test::Fail;
 use type_graph::AggKind;
@@ -111,7 +111,7 @@ fn text_of_aggregates(alloc: Global, built: Aggregates) -> Result<Vec<u8>, Stop>
 /// Whether bytes are the text of a program.
 fn is_read(alloc: Global, text: &[u8]) -> Result<bool, ReadStop> {
     let mut pool = NamePool::new(alloc);
-    match read(alloc, text, &mut pool) {
+    match read(alloc, text, &mut pool, Abi::Lp64) {
         Ok(_) => Ok(true),
         Err(ReadStop::NotCil(_)) => Ok(false),
         Err(ReadStop::Memory) => Err(ReadStop::Memory),

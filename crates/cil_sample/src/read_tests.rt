@@ -1,17 +1,22 @@
 use super::*;
-use cil_base::NamePool;
+use cil_base::{Abi, NamePool};
 use cil_layout::bad_place;
 use cil_reader::{ReadStop, read};
 use std::test::Fail;
 
-/// The place that is named for bytes, or none where they are read.
-fn place_of(alloc: Global, text: &[u8]) -> Result<Option<usize>, ReadStop> {
+/// The place that is named for bytes in a data model, or none where they are read.
+fn place_in(alloc: Global, text: &[u8], abi: Abi) -> Result<Option<usize>, ReadStop> {
     let mut pool = NamePool::new(alloc);
-    match read(alloc, text, &mut pool) {
+    match read(alloc, text, &mut pool, abi) {
         Ok(_) => Ok(None),
         Err(ReadStop::NotCil(place)) => Ok(Some(place)),
         Err(ReadStop::Memory) => Err(ReadStop::Memory),
     }
+}
+
+/// The place that is named for bytes in LP64.
+fn place_of(alloc: Global, text: &[u8]) -> Result<Option<usize>, ReadStop> {
+    place_in(alloc, text, Abi::Lp64)
 }
 
 #[test]
@@ -271,6 +276,71 @@ fn bodies_are_read(rt: HostRuntime) -> Result<(), Fail> {
     for (lines, spelled) in bodies() {
         let text = with_body(rt.alloc(), lines)?;
         assert_eq!(rt; place_of(rt.alloc(), &text)?.is_none(), *spelled, "{lines}");
+    }
+    Ok(())
+}
+
+/// Lines of a body, and whether they are those of a text in LP64, and in ILP32.
+fn models() -> &'static [(&'static str, bool, bool)] {
+    &[
+        // constants of `long` and `unsigned long`, which are values of their kinds
+        ("  return ( ( int ) 2147483647L ) ;\n", true, true),
+        ("  return ( ( int ) 2147483648L ) ;\n", true, false),
+        ("  return ( ( int ) 4294967295UL ) ;\n", true, true),
+        ("  return ( ( int ) 4294967296UL ) ;\n", true, false),
+        ("  return ( ( int ) 4294967296LL ) ;\n", true, true),
+        // the least value of `long`
+        (
+            "  switch ( 1L ) {\n    case - 2147483648L : ;\n  }\n",
+            true,
+            false,
+        ),
+        (
+            "  switch ( 1L ) {\n    case - 2147483647L - 1 : ;\n  }\n",
+            false,
+            true,
+        ),
+        // the bytes of a pointer, of a `long` and of a `long long`
+        (
+            "  int * x ;\n  __builtin_memset ( ( & x ) , 0 , 8UL ) ;\n",
+            true,
+            false,
+        ),
+        (
+            "  int * x ;\n  __builtin_memset ( ( & x ) , 0 , 4UL ) ;\n",
+            false,
+            true,
+        ),
+        (
+            "  unsigned long x ;\n  __builtin_memset ( ( & x ) , 0 , 4UL ) ;\n",
+            false,
+            true,
+        ),
+        (
+            "  long long x ;\n  __builtin_memset ( ( & x ) , 0 , 8UL ) ;\n",
+            true,
+            true,
+        ),
+        // a difference has type `long`
+        ("  int * x ;\n  long y ;\n  y = ( x - x ) ;\n", true, true),
+        ("  int * x ;\n  int y ;\n  y = ( x - x ) ;\n", false, false),
+    ]
+}
+
+#[test]
+fn bodies_are_read_in_a_model(rt: HostRuntime) -> Result<(), Fail> {
+    for (lines, eight, four) in models() {
+        let text = with_body(rt.alloc(), lines)?;
+        assert_eq!(rt;
+            place_in(rt.alloc(), &text, Abi::Lp64)?.is_none(),
+            *eight,
+            "{lines}"
+        );
+        assert_eq!(rt;
+            place_in(rt.alloc(), &text, Abi::Ilp32)?.is_none(),
+            *four,
+            "{lines}"
+        );
     }
     Ok(())
 }

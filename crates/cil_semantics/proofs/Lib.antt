@@ -3,6 +3,7 @@ mod Rows
 mod LinkRows
 mod JumpRows
 mod MemoryRows
+mod ModelRows
 pub mod Growth
 pub mod Tameness
 pub mod ProgramLaws

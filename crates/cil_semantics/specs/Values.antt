@@ -88,7 +88,7 @@ summed_value m _ i v size = None
 
 -- C11 6.5.6p9, 6.5.8p5, 6.5.9p6: two pointers
 abbrev pub pointers_value : Graph → Memory → BinOp → Shape → Value → Value → Option Value
-pointers_value g m Sub s v w = size_in g s >>= pointer_difference m v w
+pointers_value g m Sub s v w = size_in g s >>= pointer_difference g.abi m v w
 pointers_value g m op s v w = compared m op v w >>= λ holds. Some (Int (told holds))
 
 -- C11 6.5.5 to 6.5.12, by the operands' types

@@ -2,7 +2,7 @@
 use Rattle.std.proofs.Common.{◌≡◌, ℕ, zero, suc, ◌+◌, ◌-◌, ◌<◌, ◌≤◌, true, false, cond, nat_eq, nat_le, List, [], ◌∷◌, ◌++◌, length, map, drop, take, get_or, replicate, Option, Some, None, refl, sym, ap, ◌∙◌, subst, arith, append_assoc, append-nil}
 use Rattle.std.specs.Prelude.{pos}
 use Rattle.cil_base.specs.declared.kinds.Abi.{Abi}
-use Rattle.cil_base.specs.declared.kinds.Abi.TheVariants.{Lp64}
+use Rattle.cil_base.specs.declared.kinds.Abi.TheVariants.{Lp64, Ilp32}
 use Rattle.cil_base.specs.Integer.{pointer_size_of}
 use Rattle.byte_mem.specs.declared.pointers.ObjName.{ObjName}
 use Rattle.byte_mem.specs.declared.pointers.ObjName.TheVariants.{Entity, Local, Literal, Heap, Argument}
@@ -113,6 +113,7 @@ pointers_next xs abi old new all i size h s e is =
 
 null_is : (abi : Abi) → replicate (pointer_size_of abi) (Known 0) ≡ bytes_of abi OfPointer (Int (pos 0))
 null_is Lp64 = refl
+null_is Ilp32 = refl
 
 pub pointers_end : (xs : List (List ℕ)) (abi : Abi) (old new all : List Byte) (i size : ℕ) → length xs ≤ i → size ≡ pointer_size_of abi → new ≡ old ++ replicate size (Known 0)
     → old ++ word_pointers abi i (drop i xs) ≡ all → new ≡ all

@@ -32,6 +32,7 @@ use Rattle.cil_text.proofs.DeclsBack.{size, named_back}
 use Rattle.cil_text.proofs.ExpsBack.{type_base}
 use Rattle.cil_text.proofs.NumbersBack.{number_back}
 use Rattle.cil_text.proofs.StmtsBack.{lines_onto, lines_append, closed_words}
+use Rattle.cil_text.specs.Known.{bases_of}
 
 -- members
 
@@ -80,11 +81,11 @@ abbrev pub members_size : Program → List Member → ℕ
 members_size p [] = 0
 members_size p (m ∷ ms) = 2 + size (shape p.graph.nodes m.ty.of.0) + members_size p ms
 
-field_back : (p : Program) (n : ℕ) (m : Member) → size (shape p.graph.nodes m.ty.of.0) + 2 ≤ n → IsField p m → IsRead p (read_member (tags p) n) (member_line p) m
+field_back : (p : Program) (n : ℕ) (m : Member) → size (shape p.graph.nodes m.ty.of.0) + 2 ≤ n → IsField p m → IsRead p (read_member (bases_of p) n) (member_line p) m
 field_back p n m low is =
     let s = shape p.graph.nodes m.ty.of.0 in
     let line = declared_line p s (member_name p m) is.1 is.0 in (
-      ap (read_member (tags p) n) line
+      ap (read_member (bases_of p) n) line
           ∙ ap (option_and_then member_at) (named_back p n s (member_name p m) (Semicolon ∷ []) low is.1 refl)
           ∙ ap (λ (v : ℤ). Some (record { name = member_name p m; type = s; value = v })) (sym is.2),
       ap is_close line ∙ base_closes_nothing (base_spelled p s (before s (Name (member_name p m) ∷ behind p s (Semicolon ∷ [])))) (type_base p s (before s (Name (member_name p m) ∷ behind p s (Semicolon ∷ []))) is.1),
@@ -94,7 +95,7 @@ enumerators_back : (p : Program) (ms : List Member) → EachMember (IsEnumerator
 enumerators_back p [] is = tt
 enumerators_back p (m ∷ ms) is = (enumerator_back p m is.0, enumerators_back p ms is.1)
 
-fields_back : (p : Program) (n : ℕ) (ms : List Member) → members_size p ms ≤ n → EachMember (IsField p) ms → EachMember (IsRead p (read_member (tags p) n) (member_line p)) ms
+fields_back : (p : Program) (n : ℕ) (ms : List Member) → members_size p ms ≤ n → EachMember (IsField p) ms → EachMember (IsRead p (read_member (bases_of p) n) (member_line p)) ms
 fields_back p n [] low is = tt
 fields_back p n (m ∷ ms) low is = (field_back p n m (omega arith) is.0, fields_back p n ms (omega arith) is.1)
 
@@ -250,9 +251,9 @@ seen_incomplete p x tag f =
     ∙ ap (λ (o : Option (List Member)). record { kind = x.kind; tag = option_map (text_at p.names) x.tag; members = option_map (map (seen_member p)) o }) (sym f)
 
 opened_back : (p : Program) (n : ℕ) (x : Aggregate) (ms : List Member) (xs : List Tag) (rest : Lines) → members_size p ms ≤ n → IsTag p x → is_enum x.kind ≡ false → x.members ≡ Some ms → EachMember (IsField p) ms →
-    read_structs (read_member (tags p) n) (tag_pair p x ∷ xs) (lines_onto (struct_lines p x) rest) ≡ option_map (aggregate_first (seen_aggregate p x)) (read_structs (read_member (tags p) n) xs rest)
+    read_structs (read_member (bases_of p) n) (tag_pair p x ∷ xs) (lines_onto (struct_lines p x) rest) ≡ option_map (aggregate_first (seen_aggregate p x)) (read_structs (read_member (bases_of p) n) xs rest)
 opened_back p n x ms xs rest low tag kind_is f fields =
-    let of = read_member (tags p) n in
+    let of = read_member (bases_of p) n in
     let others = lines_onto (map (member_line p) ms ++ (codes "}" ∷ codes ";" ∷ []) ∷ []) rest in
     ap (read_structs of (tag_pair p x ∷ xs)) (
     ap (λ (ls : List Line). lines_onto ls rest) (struct_of p x (Some ms) kind_is f)
@@ -262,24 +263,24 @@ opened_back p n x ms xs rest low tag kind_is f fields =
     ∙ ap (λ (y : SeenAggregate). option_map (aggregate_first y) (read_structs of xs rest)) (seen_complete p x ms tag f)
 
 pub structs_back : (p : Program) (n : ℕ) (xs : List Aggregate) (more : Lines) → aggregates_size p xs ≤ n → EachAggregate (IsStruct p) xs → are_different (map (tag_text p) xs) ≡ true → opened_first more ≡ None →
-    read_structs (read_member (tags p) n) (map (tag_pair p) xs) (lines_onto (concat_each (struct_lines p) xs) more) ≡ Some (map (seen_aggregate p) xs, more)
+    read_structs (read_member (bases_of p) n) (map (tag_pair p) xs) (lines_onto (concat_each (struct_lines p) xs) more) ≡ Some (map (seen_aggregate p) xs, more)
 structs_back p n [] more low is apart e = refl
 structs_back p n (x ∷ xs) more low is apart e =
     let h = both (not (is_among (map (tag_text p) xs) (tag_text p x))) (are_different (map (tag_text p) xs)) apart in
-    let of = read_member (tags p) n in
+    let of = read_member (bases_of p) n in
     let rest = lines_onto (concat_each (struct_lines p) xs) more in
     ap (read_structs of (tag_pair p x ∷ map (tag_pair p) xs)) (lines_append (struct_lines p x) (concat_each (struct_lines p) xs) more)
     ∙ by x.members refl low is.0.2 (denied (is_among (map (tag_text p) xs) (tag_text p x)) h.0)
     ∙ ap (option_map (aggregate_first (seen_aggregate p x))) (structs_back p n xs more (omega arith) is.1 h.1 e)
   where
     by : (o : Option (List Member)) → x.members ≡ o → 1 + some_size p x.members + aggregates_size p xs ≤ n → fields_told p x.members → is_among (map (tag_text p) xs) (tag_text p x) ≡ false →
-        read_structs (read_member (tags p) n) (tag_pair p x ∷ map (tag_pair p) xs) (lines_onto (struct_lines p x) (lines_onto (concat_each (struct_lines p) xs) more))
-        ≡ option_map (aggregate_first (seen_aggregate p x)) (read_structs (read_member (tags p) n) (map (tag_pair p) xs) (lines_onto (concat_each (struct_lines p) xs) more))
+        read_structs (read_member (bases_of p) n) (tag_pair p x ∷ map (tag_pair p) xs) (lines_onto (struct_lines p x) (lines_onto (concat_each (struct_lines p) xs) more))
+        ≡ option_map (aggregate_first (seen_aggregate p x)) (read_structs (read_member (bases_of p) n) (map (tag_pair p) xs) (lines_onto (concat_each (struct_lines p) xs) more))
     by None f l told others =
         let rest = lines_onto (concat_each (struct_lines p) xs) more in
-        ap (λ (ls : List Line). read_structs (read_member (tags p) n) (tag_pair p x ∷ map (tag_pair p) xs) (lines_onto ls rest)) (struct_of p x None is.0.1 f)
-        ∙ skipped (read_member (tags p) n) (tag_pair p x) (map (tag_pair p) xs) rest (not_next p (tag_text p x) xs more is.1 others e)
-        ∙ ap (λ (y : SeenAggregate). option_map (aggregate_first y) (read_structs (read_member (tags p) n) (map (tag_pair p) xs) rest)) (seen_incomplete p x is.0.0 f)
+        ap (λ (ls : List Line). read_structs (read_member (bases_of p) n) (tag_pair p x ∷ map (tag_pair p) xs) (lines_onto ls rest)) (struct_of p x None is.0.1 f)
+        ∙ skipped (read_member (bases_of p) n) (tag_pair p x) (map (tag_pair p) xs) rest (not_next p (tag_text p x) xs more is.1 others e)
+        ∙ ap (λ (y : SeenAggregate). option_map (aggregate_first y) (read_structs (read_member (bases_of p) n) (map (tag_pair p) xs) rest)) (seen_incomplete p x is.0.0 f)
     by (Some ms) f l told others =
         opened_back p n x ms (map (tag_pair p) xs) (lines_onto (concat_each (struct_lines p) xs) more) (omega (arith, ap (some_size p) f)) is.0.0 is.0.1 f (subst (fields_told p) f told)
 
@@ -353,7 +354,7 @@ aggregate_lines p more = lines_onto (concat_each (enum_lines p) p.graph.aggs) (l
 
 parts_back : (p : Program) (n : ℕ) (es ss : List Aggregate) (more : Lines) → p.graph.aggs ≡ es ++ ss → EachAggregate (IsEnum p) es → EachAggregate (IsStruct p) ss → aggregates_size p es + aggregates_size p ss ≤ n →
     are_different (tags p) ≡ true → opened_first more ≡ None → lone_first more ≡ None →
-    option_and_then (λ (r : List SeenAggregate × Lines). structs_from n r.0 (read_tags r.1)) (read_enums n (aggregate_lines p more)) ≡ Some (map (seen_aggregate p) p.graph.aggs, more)
+    option_and_then (λ (r : List SeenAggregate × Lines). structs_from p.graph.abi n r.0 (read_tags r.1)) (read_enums n (aggregate_lines p more)) ≡ Some (map (seen_aggregate p) p.graph.aggs, more)
 parts_back p n es ss more both_are are_enums are_structs low different opened lone =
     let enums = concat_each (enum_lines p) es in
     let tags_ = concat_each (tag_lines p) ss in
@@ -365,20 +366,20 @@ parts_back p n es ss more both_are are_enums are_structs low different opened lo
     let all : map (tag_text p) es ++ map (tag_text p) ss ≡ tags p = sym (map_joined (tag_text p) es ss) ∙ ap (map (tag_text p)) (sym both_are) in
     let told : all_tags (map (seen_aggregate p) es) (map (tag_pair p) ss) ≡ tags p =
     ap (λ ts. ts ++ map tag_text_of (map (tag_pair p) ss)) (tags_seen p es) ∙ ap (λ ts. map (tag_text p) es ++ ts) (tags_paired p ss) ∙ all in
-    ap (λ ls. option_and_then (λ (r : List SeenAggregate × Lines). structs_from n r.0 (read_tags r.1)) (read_enums n ls)) (
+    ap (λ ls. option_and_then (λ (r : List SeenAggregate × Lines). structs_from p.graph.abi n r.0 (read_tags r.1)) (read_enums n ls)) (
     ap (λ ls. lines_onto ls (lines_onto (concat_each (tag_lines p) p.graph.aggs) (lines_onto (concat_each (struct_lines p) p.graph.aggs) more))) a
     ∙ lines_append enums [] (lines_onto (concat_each (tag_lines p) p.graph.aggs) (lines_onto (concat_each (struct_lines p) p.graph.aggs) more))
     ∙ ap (λ ls. lines_onto enums (lines_onto ls (lines_onto (concat_each (struct_lines p) p.graph.aggs) more))) b
     ∙ ap (λ ls. lines_onto enums (lines_onto tags_ (lines_onto ls more))) d)
-    ∙ ap (option_and_then (λ (r : List SeenAggregate × Lines). structs_from n r.0 (read_tags r.1))) (enums_back p n es (lines_onto tags_ (lines_onto structs more)) (omega (arith, enough p es)) are_enums (tags_opened p ss more are_structs opened))
-    ∙ ap (structs_from n (map (seen_aggregate p) es)) (tags_back p ss (lines_onto structs more) are_structs (structs_lone p ss more are_structs lone))
-    ∙ ap (λ ts. option_map (with_enums (map (seen_aggregate p) es)) (read_structs (read_member ts n) (map (tag_pair p) ss) (lines_onto structs more))) told
+    ∙ ap (option_and_then (λ (r : List SeenAggregate × Lines). structs_from p.graph.abi n r.0 (read_tags r.1))) (enums_back p n es (lines_onto tags_ (lines_onto structs more)) (omega (arith, enough p es)) are_enums (tags_opened p ss more are_structs opened))
+    ∙ ap (structs_from p.graph.abi n (map (seen_aggregate p) es)) (tags_back p ss (lines_onto structs more) are_structs (structs_lone p ss more are_structs lone))
+    ∙ ap (λ (ts : List (List ℕ)). option_map (with_enums (map (seen_aggregate p) es)) (read_structs (read_member (record { abi = p.graph.abi; tags = ts }) n) (map (tag_pair p) ss) (lines_onto structs more))) told
     ∙ ap (option_map (with_enums (map (seen_aggregate p) es))) (structs_back p n ss more (omega arith) are_structs (last_different (map (tag_text p) es) (map (tag_text p) ss) (ap are_different all ∙ different)) opened)
     ∙ ap (λ xs. Some (xs, more)) (sym (map_joined (seen_aggregate p) es ss) ∙ ap (map (seen_aggregate p)) (sym both_are))
 
 pub aggregates_back : (p : Program) (n : ℕ) (es ss : List Aggregate) (more : Lines) → p.graph.aggs ≡ es ++ ss → EachAggregate (IsEnum p) es → EachAggregate (IsStruct p) ss → aggregates_size p es + aggregates_size p ss ≤ n →
     are_different (tags p) ≡ true → aggregates_allowed (map (seen_aggregate p) p.graph.aggs) ≡ true → opened_first more ≡ None → lone_first more ≡ None →
-    read_placed n (aggregate_lines p more) ≡ Some (map (seen_aggregate p) p.graph.aggs, more)
+    read_placed p.graph.abi n (aggregate_lines p more) ≡ Some (map (seen_aggregate p) p.graph.aggs, more)
 aggregates_back p n es ss more both_are are_enums are_structs low different well opened lone =
     ap (option_and_then (allowed first_allowed)) (parts_back p n es ss more both_are are_enums are_structs low different opened lone)
     ∙ ap (λ b. cond b (Some (map (seen_aggregate p) p.graph.aggs, more)) None) well

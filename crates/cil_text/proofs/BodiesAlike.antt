@@ -3,11 +3,12 @@ use Rattle.std.proofs.Common.{◌≡◌, ℕ, ◌&&◌, ◌||◌, not, Bool, fal
 use Rattle.std.specs.List.{list_all}
 use Rattle.std.specs.Option.{option_and_then}
 use Rattle.cil_base.specs.declared.kinds.IntKind.{IntKind}
+use Rattle.cil_base.specs.declared.kinds.Abi.{Abi}
 use Rattle.type_graph.specs.Shapes.{Shape, Shapes, VoidType, IntType, PtrType, ArrayType, FuncType, AggType, NoTypes, MoreTypes}
 use Rattle.type_graph.specs.Arena.{complete_shape}
 use Rattle.cil_tree.specs.Tree.{Exp, Lval, Callee, Direct, Through, Instr, Set, Call, Zero, Stmt, Do, If, Switch, Loop, Block, Label, Case, Default, Goto, Break, Return, Stmts, Done, Seq, Local, Body, Program}
 use Rattle.cil_tree.specs.Typing.{is_type, is_void, is_scalar, pointed, type_of, place_type}
-use Rattle.cil_tree.specs.Bodies.{is_complete, has_type, set_fits, zero_fits, is_promoted, argument_is_promoted, arguments_fit, result_fits, callee_type, called_fits, instr_fits, test_fits, kind_of, switch_kind, parts_fit, each_stmt, labels_fit, goto_fits, cases_are_once, cases_fit, cases_fit_in, breaks_fit, returns_fit, stmts_fit, local_fits, parameters_fit, body_fits}
+use Rattle.cil_tree.specs.Bodies.{is_complete, has_type, set_fits, zero_fits, is_promoted, argument_is_promoted, arguments_fit, result_fits, callee_type, called_fits, instr_fits, test_fits, kind_of, switch_kind, parts_fit, each_stmt, labels_fit, goto_fits, cases_are_once, cases_fit, cases_fit_in, breaks_fit, returns_fit, stmts_fit, local_fits, parameters_fit, body_fits, case_fits}
 use Rattle.cil_text.proofs.Alike.{enum_alike, scalar_alike, complete_alike, global_type_alike}
 use Rattle.cil_text.proofs.TypedAlike.{Equal, in_scope, exp_type_alike, place_type_alike}
 
@@ -161,7 +162,7 @@ mutual
   cases_in_alike p q same ls bs kind (Block body) = cases_alike p q same ls bs kind body
   cases_in_alike p q same ls bs kind (Do i) = refl
   cases_in_alike p q same ls bs kind (Label n) = refl
-  cases_in_alike p q same ls bs kind (Case k v) = refl
+  cases_in_alike p q same ls bs kind (Case k v) = ap (λ (a : Abi). case_fits a kind k v) same.abi
   cases_in_alike p q same ls bs kind Default = refl
   cases_in_alike p q same ls bs kind (Goto n) = refl
   cases_in_alike p q same ls bs kind Break = refl

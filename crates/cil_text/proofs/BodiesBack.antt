@@ -12,14 +12,14 @@ use Rattle.cil_tree.specs.Typing.{Scope, scope_of}
 use Rattle.cil_tree.specs.WellFormedTypes.{prototype_fits}
 use Rattle.cil_tree.specs.Bodies.{labels_of, labels_in}
 use Rattle.cil_tree.specs.Lines.{Token, Line}
-use Rattle.cil_tree.specs.Names.{is_name, is_among, are_different, tags}
+use Rattle.cil_tree.specs.Names.{is_name, is_among, are_different}
 use Rattle.cil_tree.specs.Declarators.{declared, type_tokens, listed, in_parentheses, separated, number}
 use Rattle.cil_tree.specs.Text.{label_name, exp_tokens, instr_tokens, return_tokens, closed, heading, closing, stmt_lines, lines_of, linkage, parameter_tokens, function_tokens, local_line, body_lines, function_lines}
 use Rattle.cil_tree.specs.Text as text
 use Rattle.cil_text.specs.Words.{Word, LeftParen, RightParen, LeftBrace, RightBrace, Semicolon, Colon, Comma, Operator, ElseWord, StaticWord, TagWord, Name, Number, word_of, onto}
-use Rattle.cil_text.specs.ReadTypes.{read_decl}
+use Rattle.cil_text.specs.ReadTypes.{read_decl, Bases}
 use Rattle.cil_text.specs.ReadExps.{Env, is_base}
-use Rattle.cil_text.specs.Known.{known_of, env_of}
+use Rattle.cil_text.specs.Known.{known_of, env_of, bases_of}
 use Rattle.cil_text.specs.ReadStmts.{is_label, label_text, read_heads, read_nested}
 use Rattle.cil_text.specs.ReadAggregates.{Lines, is_close}
 use Rattle.cil_text.specs.ReadGlobals as reading
@@ -237,10 +237,10 @@ local_base : (p : Program) (x : Local) → IsLocal p x → is_base (onto (local_
 unfolding local_spelled
 local_base p x is = ap is_base (local_words p x is) ∙ type_base p (shape_of x.type) (before (shape_of x.type) (Name x.name ∷ behind p (shape_of x.type) (Semicolon ∷ []))) is.2
 
-local_back : (p : Program) (n : ℕ) (x : Local) → size (shape_of x.type) + 2 ≤ n → IsLocal p x → option_and_then reading.local_of (read_decl (tags p) n (onto (local_line p x) [])) ≡ Some x
+local_back : (p : Program) (n : ℕ) (x : Local) → size (shape_of x.type) + 2 ≤ n → IsLocal p x → option_and_then reading.local_of (read_decl (bases_of p) n (onto (local_line p x) [])) ≡ Some x
 unfolding local_spelled
 local_back p n x low is =
-    ap (λ (ws : List Word). option_and_then reading.local_of (read_decl (tags p) n ws)) (local_words p x is)
+    ap (λ (ws : List Word). option_and_then reading.local_of (read_decl (bases_of p) n ws)) (local_words p x is)
     ∙ ap (option_and_then reading.local_of) (named_back p n (shape_of x.type) x.name (Semicolon ∷ []) low is.2 refl)
     ∙ ap (λ (o : Option Shape). Some (record x { type = o })) (sym is.1)
 
@@ -248,16 +248,16 @@ abbrev base_first : Lines → Bool
 base_first [] = false
 base_first (line ∷ lines) = is_base line
 
-locals_end : (tags : List (List ℕ)) (n : ℕ) (more : Lines) → base_first more ≡ false → read_locals tags n more ≡ Some ([], more)
-locals_end tags n [] e = refl
-locals_end tags n (line ∷ lines) e = rw (e, read_locals) refl
+locals_end : (bases : Bases) (n : ℕ) (more : Lines) → base_first more ≡ false → read_locals bases n more ≡ Some ([], more)
+locals_end bases n [] e = refl
+locals_end bases n (line ∷ lines) e = rw (e, read_locals) refl
 
-locals_back : (p : Program) (n : ℕ) (xs : List Local) (more : Lines) → locals_size xs ≤ n → EachLocal (IsLocal p) xs → base_first more ≡ false → read_locals (tags p) n (lines_onto (map (local_line p) xs) more) ≡ Some (xs, more)
-locals_back p n [] more low is e = locals_end (tags p) n more e
+locals_back : (p : Program) (n : ℕ) (xs : List Local) (more : Lines) → locals_size xs ≤ n → EachLocal (IsLocal p) xs → base_first more ≡ false → read_locals (bases_of p) n (lines_onto (map (local_line p) xs) more) ≡ Some (xs, more)
+locals_back p n [] more low is e = locals_end (bases_of p) n more e
 locals_back p n (x ∷ xs) more low is e =
     let rest = lines_onto (map (local_line p) xs) more in
-    ap (λ b. cond b (option_and_then (λ (y : Local). option_map (local_first y) (read_locals (tags p) n rest)) (option_and_then reading.local_of (read_decl (tags p) n (onto (local_line p x) [])))) (Some ([], onto (local_line p x) [] ∷ rest))) (local_base p x is.0)
-    ∙ ap (option_and_then (λ (y : Local). option_map (local_first y) (read_locals (tags p) n rest))) (local_back p n x (omega arith) is.0)
+    ap (λ b. cond b (option_and_then (λ (y : Local). option_map (local_first y) (read_locals (bases_of p) n rest)) (option_and_then reading.local_of (read_decl (bases_of p) n (onto (local_line p x) [])))) (Some ([], onto (local_line p x) [] ∷ rest))) (local_base p x is.0)
+    ∙ ap (option_and_then (λ (y : Local). option_map (local_first y) (read_locals (bases_of p) n rest))) (local_back p n x (omega arith) is.0)
     ∙ ap (option_map (local_first x)) (locals_back p n xs more (omega arith) is.1 e)
 
 -- a body's lines end where its own brace closes it
@@ -387,7 +387,7 @@ body_back p n x b told =
     let others = text.behind b.params b.locals in
     let lines = lines_onto (lines_of c b.stmts) [] in
     ap (λ (o : Option Shape). read_body (known_of p []) n (shape_of o) b.params (lines_onto (body_lines p b) [])) told.type
-    ∙ ap (λ ls. option_and_then (λ (l : List Local × Lines). read_stmts (known_of p []) n b.params (param_locals told.params b.params ++ l.0) l.1) (read_locals (tags p) n ls)) (lines_append (map (local_line p) others) (lines_of c b.stmts) [])
+    ∙ ap (λ ls. option_and_then (λ (l : List Local × Lines). read_stmts (known_of p []) n b.params (param_locals told.params b.params ++ l.0) l.1) (read_locals (bases_of p) n ls)) (lines_append (map (local_line p) others) (lines_of c b.stmts) [])
     ∙ ap (option_and_then (λ (l : List Local × Lines). read_stmts (known_of p []) n b.params (param_locals told.params b.params ++ l.0) l.1)) (locals_back p n others lines told.few told.locals (stmts_unbased c b.stmts told.stmts))
     ∙ ap (λ ls. read_stmts (known_of p []) n b.params ls lines) told.joined
     ∙ stmts_read p n b told.stmts told.labels told.apart told.low

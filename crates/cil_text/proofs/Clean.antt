@@ -77,7 +77,7 @@ digits_all [] e = refl
 digits_all (c ∷ cs) e = let h = both (is_ascii_digit c) (all_ascii_digits cs) e in ap (λ v. v && list_all clean_byte cs) (digit_clean c h.0) ∙ digits_all cs h.1
 
 suffix_clean : (k : IntKind) → list_all clean_byte (suffix_of k) ≡ true
-suffix_clean k = elim k as (λ v. list_all clean_byte (suffix_of v) ≡ true) [ kind.Bool ↦ refl | kind.Char ↦ refl | kind.SChar ↦ refl | kind.UChar ↦ refl | kind.Short ↦ refl | kind.UShort ↦ refl | kind.Int ↦ refl | kind.UInt ↦ refl | kind.Long ↦ refl | kind.ULong ↦ refl | kind.LLong ↦ refl | kind.ULLong ↦ refl ]
+suffix_clean k = elim k as (λ v. list_all clean_byte (suffix_of v) ≡ true) [ kind.Bool ↦ refl | kind.Char ↦ refl | kind.SChar ↦ refl | kind.UChar ↦ refl | kind.Short ↦ refl | kind.UShort ↦ refl | kind.Int ↦ refl | kind.UInt ↦ refl | kind.Long ↦ refl | kind.ULong ↦ refl | kind.LLong ↦ refl | kind.ULLong ↦ refl | kind.Long4 ↦ refl | kind.ULong4 ↦ refl ]
 
 some_clean : (ds suffix : List ℕ) → 0 < length ds → list_all clean_byte (ds ++ suffix) ≡ true → is_clean (ds ++ suffix) ≡ true
 some_clean [] suffix some e = absurd (omega arith)
@@ -147,7 +147,7 @@ unary_clean Not = refl
 -- types
 
 kind_clean : (k : IntKind) (inner : List Token) → AllClean inner → AllClean (kind_words k ++ inner)
-kind_clean k inner x = clean_append (kind_words k) inner (elim k as (λ v. AllClean (kind_words v)) [ kind.Bool ↦ (refl, tt) | kind.Char ↦ (refl, tt) | kind.SChar ↦ (refl, (refl, tt)) | kind.UChar ↦ (refl, (refl, tt)) | kind.Short ↦ (refl, tt) | kind.UShort ↦ (refl, (refl, tt)) | kind.Int ↦ (refl, tt) | kind.UInt ↦ (refl, (refl, tt)) | kind.Long ↦ (refl, tt) | kind.ULong ↦ (refl, (refl, tt)) | kind.LLong ↦ (refl, (refl, tt)) | kind.ULLong ↦ (refl, (refl, (refl, tt))) ]) x
+kind_clean k inner x = clean_append (kind_words k) inner (elim k as (λ v. AllClean (kind_words v)) [ kind.Bool ↦ (refl, tt) | kind.Char ↦ (refl, tt) | kind.SChar ↦ (refl, (refl, tt)) | kind.UChar ↦ (refl, (refl, tt)) | kind.Short ↦ (refl, tt) | kind.UShort ↦ (refl, (refl, tt)) | kind.Int ↦ (refl, tt) | kind.UInt ↦ (refl, (refl, tt)) | kind.Long ↦ (refl, tt) | kind.ULong ↦ (refl, (refl, tt)) | kind.LLong ↦ (refl, (refl, tt)) | kind.ULLong ↦ (refl, (refl, (refl, tt))) | kind.Long4 ↦ (refl, tt) | kind.ULong4 ↦ (refl, (refl, tt)) ]) x
 
 pub keyword_clean : (k : AggKind) → is_clean (keyword_of k) ≡ true
 keyword_clean k = elim k as (λ v. is_clean (keyword_of v) ≡ true) [ Struct ↦ refl | Union ↦ refl | Enum ↦ refl ]

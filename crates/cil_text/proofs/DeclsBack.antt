@@ -4,6 +4,8 @@ use Rattle.std.specs.Option.{option_map, option_and_then}
 use Rattle.cil_base.specs.declared.kinds.IntKind.{IntKind}
 use Rattle.cil_base.specs.declared.kinds.IntKind.TheVariants as kind
 use Rattle.cil_base.specs.declared.operators.BinOp.TheVariants.{Mul}
+use Rattle.cil_base.specs.Integer.{has_kind, long_of, ulong_of}
+use Rattle.cil_base.proofs.KindLaws.{long_is, ulong_is, long4_is, ulong4_is}
 use Rattle.type_graph.specs.declared.aggregates.Aggregate.{Aggregate}
 use Rattle.type_graph.specs.declared.nodes.Quals.{Quals}
 use Rattle.type_graph.specs.Shapes.{Shape, Shapes, VoidType, IntType, PtrType, ArrayType, FuncType, AggType, NoTypes, MoreTypes}
@@ -12,10 +14,11 @@ use Rattle.cil_tree.specs.Typing.{unqualified}
 use Rattle.cil_tree.specs.WellFormedTypes.{are_parameters, is_parameter}
 use Rattle.cil_tree.specs.Names.{is_name, tags}
 use Rattle.cil_tree.specs.Declarators.{tag_text}
-use Rattle.cil_text.specs.Words.{Word, LeftParen, RightParen, LeftBracket, RightBracket, Comma, Operator, VoidWord, Name, word_of}
-use Rattle.cil_text.specs.ReadTypes.{Reading, find, is_long, read_base, tag_base, Mark, Points, Group, is_star, heads, read_name, Layer, Pointer, Elements, Called, built, is_ellipsis, closed, is_closing, is_void_alone, skip_one, listed_first, read_more, read_params, read_called, is_suffix, read_suffix, layer_first, tails, named_as, declared_as, without_name, read_decl}
+use Rattle.cil_text.specs.Words.{Word, LeftParen, RightParen, LeftBracket, RightBracket, Comma, Operator, VoidWord, Name, word_of, LongWord, UnsignedWord}
+use Rattle.cil_text.specs.ReadTypes.{Reading, find, is_long, read_base, tag_base, Mark, Points, Group, is_star, heads, read_name, Layer, Pointer, Elements, Called, built, is_ellipsis, closed, is_closing, is_void_alone, skip_one, listed_first, read_more, read_params, read_called, is_suffix, read_suffix, layer_first, tails, named_as, declared_as, without_name, read_decl, Bases}
 use Rattle.cil_text.proofs.WordsBack.{name_word, decimal_word, both}
 use Rattle.cil_text.proofs.TypesBack.{kind_spelled, tag_spelled, base_spelled, grouped, before, bound_spelled, end_spelled, behind, called_spelled, more_spelled, type_spelled, IsBound, IsShape, AreShapes}
+use Rattle.cil_text.specs.Known.{bases_of}
 
 -- how many layers and parameters a type has
 abbrev mutual
@@ -36,7 +39,7 @@ abbrev Begins : List Word → Type 0
 Begins ws = (is_star ws ≡ false) × (is_ellipsis ws ≡ false) × (is_closing ws ≡ false)
 
 kind_begins : (k : IntKind) (rest : List Word) → Begins (kind_spelled k rest)
-kind_begins k rest = elim k as (λ v. Begins (kind_spelled v rest)) [ kind.Bool ↦ (refl, refl, refl) | kind.Char ↦ (refl, refl, refl) | kind.SChar ↦ (refl, refl, refl) | kind.UChar ↦ (refl, refl, refl) | kind.Short ↦ (refl, refl, refl) | kind.UShort ↦ (refl, refl, refl) | kind.Int ↦ (refl, refl, refl) | kind.UInt ↦ (refl, refl, refl) | kind.Long ↦ (refl, refl, refl) | kind.ULong ↦ (refl, refl, refl) | kind.LLong ↦ (refl, refl, refl) | kind.ULLong ↦ (refl, refl, refl) ]
+kind_begins k rest = elim k as (λ v. Begins (kind_spelled v rest)) [ kind.Bool ↦ (refl, refl, refl) | kind.Char ↦ (refl, refl, refl) | kind.SChar ↦ (refl, refl, refl) | kind.UChar ↦ (refl, refl, refl) | kind.Short ↦ (refl, refl, refl) | kind.UShort ↦ (refl, refl, refl) | kind.Int ↦ (refl, refl, refl) | kind.UInt ↦ (refl, refl, refl) | kind.Long ↦ (refl, refl, refl) | kind.ULong ↦ (refl, refl, refl) | kind.LLong ↦ (refl, refl, refl) | kind.ULLong ↦ (refl, refl, refl) | kind.Long4 ↦ (refl, refl, refl) | kind.ULong4 ↦ (refl, refl, refl) ]
 
 tag_begins : (p : Program) (o : Option Aggregate) (x : Aggregate) (rest : List Word) → o ≡ Some x → Begins (tag_spelled p o rest)
 tag_begins p None x rest e = absurd (cc e)
@@ -60,32 +63,43 @@ base_of (ArrayType q s bound) = base_of s
 base_of (FuncType ret params proto variadic) = base_of ret
 base_of (AggType a) = AggType a
 
-kind_back : (ts : List (List ℕ)) (k : IntKind) (rest : List Word) → is_long rest ≡ false → read_base ts (kind_spelled k rest) ≡ Some (IntType k, rest)
-kind_back ts k rest e = elim k as (λ v. read_base ts (kind_spelled v rest) ≡ Some (IntType v, rest)) [
-  | kind.Bool ↦ refl
-  | kind.Char ↦ refl
-  | kind.SChar ↦ refl
-  | kind.UChar ↦ refl
-  | kind.Short ↦ refl
-  | kind.UShort ↦ refl
-  | kind.Int ↦ refl
-  | kind.UInt ↦ refl
-  | kind.Long ↦ ap (λ b. Some (cond b (IntType kind.LLong, skip_one rest) (IntType kind.Long, rest))) e
-  | kind.ULong ↦ ap (λ b. Some (cond b (IntType kind.ULLong, skip_one rest) (IntType kind.ULong, rest))) e
-  | kind.LLong ↦ refl
-  | kind.ULLong ↦ refl
-]
+kind_back : (b : Bases) (k : IntKind) (rest : List Word) → has_kind b.abi k ≡ true → is_long rest ≡ false → read_base b (kind_spelled k rest) ≡ Some (IntType k, rest)
+kind_back b k rest h e = each k h
+  where
+    signed : (v : IntKind) → long_of b.abi ≡ v → read_base b (LongWord ∷ rest) ≡ Some (IntType v, rest)
+    signed v i = ap (λ c. Some (cond c (IntType kind.LLong, skip_one rest) (IntType (long_of b.abi), rest))) e ∙ ap (λ (j : IntKind). Some (IntType j, rest)) i
 
-tag_back : (p : Program) (a : ℕ) (o : Option Aggregate) (x : Aggregate) (rest : List Word) → o ≡ Some x → is_name (tag_text p x) ≡ true → find (tag_text p x) (tags p) ≡ Some a → read_base (tags p) (tag_spelled p o rest) ≡ Some (AggType a, rest)
+    unsigned : (v : IntKind) → ulong_of b.abi ≡ v → read_base b (UnsignedWord ∷ LongWord ∷ rest) ≡ Some (IntType v, rest)
+    unsigned v i = ap (λ c. Some (cond c (IntType kind.ULLong, skip_one rest) (IntType (ulong_of b.abi), rest))) e ∙ ap (λ (j : IntKind). Some (IntType j, rest)) i
+
+    each : (k : IntKind) → has_kind b.abi k ≡ true → read_base b (kind_spelled k rest) ≡ Some (IntType k, rest)
+    each k = elim k as (λ v. has_kind b.abi v ≡ true → read_base b (kind_spelled v rest) ≡ Some (IntType v, rest)) [
+      | kind.Bool ↦ (λ i. refl)
+      | kind.Char ↦ (λ i. refl)
+      | kind.SChar ↦ (λ i. refl)
+      | kind.UChar ↦ (λ i. refl)
+      | kind.Short ↦ (λ i. refl)
+      | kind.UShort ↦ (λ i. refl)
+      | kind.Int ↦ (λ i. refl)
+      | kind.UInt ↦ (λ i. refl)
+      | kind.Long ↦ (λ i. signed kind.Long (long_is b.abi i))
+      | kind.ULong ↦ (λ i. unsigned kind.ULong (ulong_is b.abi i))
+      | kind.LLong ↦ (λ i. refl)
+      | kind.ULLong ↦ (λ i. refl)
+      | kind.Long4 ↦ (λ i. signed kind.Long4 (long4_is b.abi i))
+      | kind.ULong4 ↦ (λ i. unsigned kind.ULong4 (ulong4_is b.abi i))
+    ]
+
+tag_back : (p : Program) (a : ℕ) (o : Option Aggregate) (x : Aggregate) (rest : List Word) → o ≡ Some x → is_name (tag_text p x) ≡ true → find (tag_text p x) (tags p) ≡ Some a → read_base (bases_of p) (tag_spelled p o rest) ≡ Some (AggType a, rest)
 tag_back p a None x rest e named found = cc
 tag_back p a (Some y) x rest e named found =
     let same : y ≡ x = cc in
     let word : word_of (tag_text p y) ≡ Name (tag_text p x) = ap (λ (z : Aggregate). word_of (tag_text p z)) same ∙ name_word (tag_text p x) named in
     ap (λ (w : Word). tag_base (tags p) (w ∷ rest)) word ∙ ap (option_map (λ (n : ℕ). (AggType n, rest))) found
 
-pub base_back : (p : Program) (s : Shape) (rest : List Word) → IsShape p s → is_long rest ≡ false → read_base (tags p) (base_spelled p s rest) ≡ Some (base_of s, rest)
+pub base_back : (p : Program) (s : Shape) (rest : List Word) → IsShape p s → is_long rest ≡ false → read_base (bases_of p) (base_spelled p s rest) ≡ Some (base_of s, rest)
 base_back p VoidType rest is e = refl
-base_back p (IntType k) rest is e = kind_back (tags p) k rest e
+base_back p (IntType k) rest is e = kind_back (bases_of p) k rest is e
 base_back p (PtrType q s) rest is e = base_back p s rest is.1 e
 base_back p (ArrayType q s bound) rest is e = base_back p s rest is.2 e
 base_back p (FuncType ret params proto variadic) rest is e = base_back p ret rest is.0 e
@@ -246,7 +260,7 @@ alone (RightParen ∷ ws) e = absurd (cc e)
 alone (w ∷ ws) e = refl
 
 kind_told : (k : IntKind) (rest : List Word) → is_void_alone (kind_spelled k rest) ≡ false
-kind_told k rest = elim k as (λ v. is_void_alone (kind_spelled v rest) ≡ false) [ kind.Bool ↦ refl | kind.Char ↦ refl | kind.SChar ↦ refl | kind.UChar ↦ refl | kind.Short ↦ refl | kind.UShort ↦ refl | kind.Int ↦ refl | kind.UInt ↦ refl | kind.Long ↦ refl | kind.ULong ↦ refl | kind.LLong ↦ refl | kind.ULLong ↦ refl ]
+kind_told k rest = elim k as (λ v. is_void_alone (kind_spelled v rest) ≡ false) [ kind.Bool ↦ refl | kind.Char ↦ refl | kind.SChar ↦ refl | kind.UChar ↦ refl | kind.Short ↦ refl | kind.UShort ↦ refl | kind.Int ↦ refl | kind.UInt ↦ refl | kind.Long ↦ refl | kind.ULong ↦ refl | kind.LLong ↦ refl | kind.ULLong ↦ refl | kind.Long4 ↦ refl | kind.ULong4 ↦ refl ]
 
 tag_told : (p : Program) (o : Option Aggregate) (x : Aggregate) (rest : List Word) → o ≡ Some x → is_void_alone (tag_spelled p o rest) ≡ false
 tag_told p None x rest e = absurd (cc e)
@@ -321,7 +335,7 @@ tails_end sub rest e (suc i) some = rw e refl
 -- declarators whose heads end at some words with or without a name
 whole_back : (p : Program) (sub : List Word → Reading Shape) (n : ℕ) (s : Shape) (name : Option (List ℕ)) (words rest : List Word) → Good p sub n → size s + 1 ≤ n → IsShape p s → is_suffix rest ≡ false → is_long words ≡ false →
     ((marks : List Mark) → heads marks words ≡ (marks, words)) → read_name words ≡ (name, behind p s rest) →
-    option_and_then (declared_as sub n) (read_base (tags p) (base_spelled p s (before s words))) ≡ Some ((s, name), rest)
+    option_and_then (declared_as sub n) (read_base (bases_of p) (base_spelled p s (before s words))) ≡ Some ((s, name), rest)
 whole_back p sub n s name words rest good low is stops short flat named =
     ap (option_and_then (declared_as sub n)) (base_back p s (before s words) is (before_short s words short))
     ∙ ap (λ (h : List Mark × List Word). option_map (named_as (base_of s) (read_name h.1).0) (tails sub n h.0 (read_name h.1).1)) (heads_back s [] words ∙ flat (marks_of s []))
@@ -329,18 +343,18 @@ whole_back p sub n s name words rest good low is stops short flat named =
     ∙ ap (option_map (named_as (base_of s) name)) (tails_back p sub n good s 1 n [] rest rest [] low (omega arith) is stops (tails_end sub rest stops))
     ∙ ap (λ (x : Shape). Some ((x, name), rest)) (built_back p s is)
 
-pub abstract_back : (p : Program) (n : ℕ) (s : Shape) (rest : List Word) → size s + 2 ≤ n → IsShape p s → is_end rest ≡ true → read_decl (tags p) n (type_spelled p s rest) ≡ Some ((s, None), rest)
+pub abstract_back : (p : Program) (n : ℕ) (s : Shape) (rest : List Word) → size s + 2 ≤ n → IsShape p s → is_end rest ≡ true → read_decl (bases_of p) n (type_spelled p s rest) ≡ Some ((s, None), rest)
 abstract_back p zero s rest low is e = absurd (omega arith)
 abstract_back p (suc n) s rest low is e =
     let plain = behind_plain p s rest is (end_plain rest e).0 in
-    whole_back p (λ vs. option_map without_name (read_decl (tags p) n vs)) n s None (behind p s rest) rest
+    whole_back p (λ vs. option_map without_name (read_decl (bases_of p) n vs)) n s None (behind p s rest) rest
     (λ t after small it ends. ap (option_map without_name) (abstract_back p n t after small it ends))
     (omega arith) is (end_plain rest e).1 plain.2 plain.0 plain.1
 
 pub named_back : (p : Program) (n : ℕ) (s : Shape) (name : List ℕ) (rest : List Word) → size s + 2 ≤ n → IsShape p s → is_suffix rest ≡ false →
-    read_decl (tags p) n (base_spelled p s (before s (Name name ∷ behind p s rest))) ≡ Some ((s, Some name), rest)
+    read_decl (bases_of p) n (base_spelled p s (before s (Name name ∷ behind p s rest))) ≡ Some ((s, Some name), rest)
 named_back p zero s name rest low is e = absurd (omega arith)
 named_back p (suc n) s name rest low is e =
-    whole_back p (λ vs. option_map without_name (read_decl (tags p) n vs)) n s (Some name) (Name name ∷ behind p s rest) rest
+    whole_back p (λ vs. option_map without_name (read_decl (bases_of p) n vs)) n s (Some name) (Name name ∷ behind p s rest) rest
     (λ t after small it ends. ap (option_map without_name) (abstract_back p n t after small it ends))
     (omega arith) is e refl (λ m. refl) refl

@@ -3,6 +3,7 @@ use Rattle.std.proofs.Common.{◌≡◌, ℕ, suc, zero, ◌+◌, ◌<◌, true,
 use Rattle.std.specs.Option.{option_map, option_and_then}
 use Rattle.cil_base.specs.declared.kinds.IntKind.{IntKind}
 use Rattle.cil_base.specs.declared.kinds.IntKind.TheVariants as kind
+use Rattle.cil_base.specs.Integer.{kind_in}
 use Rattle.cil_base.specs.declared.operators.BinOp.TheVariants.{Mul, Sub, And}
 use Rattle.cil_base.specs.declared.operators.UnOp.{UnOp}
 use Rattle.cil_base.specs.declared.operators.UnOp.TheVariants.{Neg, Compl, Not}
@@ -10,12 +11,13 @@ use Rattle.type_graph.specs.declared.aggregates.Aggregate.{Aggregate}
 use Rattle.type_graph.specs.Shapes.{Shape, VoidType, IntType, PtrType, ArrayType, FuncType, AggType}
 use Rattle.cil_tree.specs.Tree.{Exp, Const, Value, Un, Bin, Cast, AddrOf, StartOf, Host, Global, Var, At, Offsets, Here, Field, Index, Lval, Place, Program}
 use Rattle.cil_tree.specs.Typing.{element_of}
-use Rattle.cil_tree.specs.Names.{tags}
 use Rattle.cil_text.specs.Words.{Word, LeftParen, RightParen, LeftBracket, RightBracket, Dot, Tilde, Bang, Operator, Number, Name}
-use Rattle.cil_text.specs.ReadTypes.{Reading, Named, read_decl}
-use Rattle.cil_text.specs.ReadExps.{Env, find_named, name_at, type_of_named, fields, host_named, type_at_host, type_at_place, is_array_type, Form, Converted, Combined, is_base, form_of, enclosed, in_brackets, is_offset, field_first, index_first, read_offsets, read_host, place_from, read_place, chosen_from, read_chosen, read_right, read_cast, read_formed, exp_from, read_exp}
+use Rattle.cil_text.specs.ReadTypes.{Reading, Named, read_decl, Bases}
+use Rattle.cil_text.specs.ReadExps.{Env, find_named, name_at, type_of_named, fields, host_named, type_at_host, type_at_place, is_array_type, Form, Converted, Combined, is_base, form_of, enclosed, in_brackets, is_offset, field_first, index_first, read_offsets, read_host, place_from, read_place, chosen_from, read_chosen, read_right, read_cast, read_formed, exp_from, read_exp, bases}
 use Rattle.cil_text.proofs.TypesBack.{kind_spelled, tag_spelled, base_spelled, before, behind, type_spelled, IsShape}
 use Rattle.cil_text.proofs.DeclsBack.{size, abstract_back}
+use Rattle.cil_text.proofs.WordsBack.{suffix_kind}
+use Rattle.cil_text.specs.Known.{bases_of}
 
 -- the words of an expression, in front of others
 
@@ -30,7 +32,7 @@ cast_spelled p (Some s) rest = type_spelled p s rest
 
 abbrev mutual
   pub exp_spelled : Program → Env → Exp → List Word → List Word
-  exp_spelled p env (Const kind value) rest = Number kind value ∷ rest
+  exp_spelled p env (Const kind value) rest = Number (suffix_kind kind) value ∷ rest
   exp_spelled p env (Value place) rest = place_spelled p env place rest
   exp_spelled p env (Un op operand) rest = LeftParen ∷ unary_word op ∷ exp_spelled p env operand (RightParen ∷ rest)
   exp_spelled p env (Bin op left right) rest = LeftParen ∷ exp_spelled p env left (Operator op ∷ exp_spelled p env right (RightParen ∷ rest))
@@ -51,7 +53,7 @@ abbrev mutual
   pub place_spelled : Program → Env → Lval → List Word → List Word
   place_spelled p env (Place host offsets) rest = host_spelled p env host (offsets_spelled p env offsets (type_at_host env host) rest)
 
--- expressions that can be read back: each name is found, types can be spelled, and a place is an array's start exactly where it has array type
+-- expressions that can be read back: a constant's kind is that of its suffix in the data model, each name is found, types can be spelled, and a place is an array's start exactly where it has array type
 
 abbrev pub IsCast : Program → Option Shape → Type 0
 IsCast p None = ⊥
@@ -59,7 +61,7 @@ IsCast p (Some s) = IsShape p s
 
 abbrev mutual
   pub IsExp : Program → Env → Exp → Type 0
-  IsExp p env (Const kind value) = Unit {0}
+  IsExp p env (Const kind value) = kind_in p.graph.abi (suffix_kind kind) ≡ kind
   IsExp p env (Value place) = IsPlace p env place × (is_array_type (type_at_place env place) ≡ false)
   IsExp p env (Un op operand) = IsExp p env operand
   IsExp p env (Bin op left right) = IsExp p env left × IsExp p env right
@@ -116,7 +118,7 @@ tag_base p None x rest e = absurd (cc e)
 tag_base p (Some y) x rest e = refl
 
 kind_base : (k : IntKind) (rest : List Word) → is_base (kind_spelled k rest) ≡ true
-kind_base k rest = elim k as (λ v. is_base (kind_spelled v rest) ≡ true) [ kind.Bool ↦ refl | kind.Char ↦ refl | kind.SChar ↦ refl | kind.UChar ↦ refl | kind.Short ↦ refl | kind.UShort ↦ refl | kind.Int ↦ refl | kind.UInt ↦ refl | kind.Long ↦ refl | kind.ULong ↦ refl | kind.LLong ↦ refl | kind.ULLong ↦ refl ]
+kind_base k rest = elim k as (λ v. is_base (kind_spelled v rest) ≡ true) [ kind.Bool ↦ refl | kind.Char ↦ refl | kind.SChar ↦ refl | kind.UChar ↦ refl | kind.Short ↦ refl | kind.UShort ↦ refl | kind.Int ↦ refl | kind.UInt ↦ refl | kind.Long ↦ refl | kind.ULong ↦ refl | kind.LLong ↦ refl | kind.ULLong ↦ refl | kind.Long4 ↦ refl | kind.ULong4 ↦ refl ]
 
 pub type_base : (p : Program) (s : Shape) (rest : List Word) → IsShape p s → is_base (base_spelled p s rest) ≡ true
 type_base p VoidType rest is = refl
@@ -165,15 +167,16 @@ operand_back : {A B : Type 0} (f : A → B) (o : Reading A) (x : A) (rest : List
 operand_back f o x rest e = ap (enclosed f) e
 
 mutual
-  pub exp_back : (p : Program) (env : Env) → env.tags ≡ tags p → (n : ℕ) (e : Exp) (rest : List Word) → weight e < n → IsExp p env e → is_offset rest ≡ false → read_exp env n (exp_spelled p env e rest) ≡ Some (e, rest)
+  pub exp_back : (p : Program) (env : Env) → bases env ≡ bases_of p → (n : ℕ) (e : Exp) (rest : List Word) → weight e < n → IsExp p env e → is_offset rest ≡ false → read_exp env n (exp_spelled p env e rest) ≡ Some (e, rest)
   exp_back p env same zero e rest low is stops = absurd (omega arith)
-  exp_back p env same (suc n) (Const kind value) rest low is stops = refl
+  exp_back p env same (suc n) (Const kind value) rest low is stops =
+      ap (λ (b : Bases). Some (Const (kind_in b.abi (suffix_kind kind)) value, rest)) same ∙ ap (λ (k : IntKind). Some (Const k value, rest)) is
   exp_back p env same (suc n) (Value place) rest low is stops =
-      place_form p env (read_exp env n) (read_decl env.tags n) n place rest
+      place_form p env (read_exp env n) (read_decl (bases env) n) n place rest
       ∙ ap (option_map (chosen_from env)) (place_back p env same n n place rest (omega arith) (omega arith) is.0 stops)
       ∙ ap (λ b. Some (cond b (StartOf place) (Value place), rest)) is.1
   exp_back p env same (suc n) (StartOf place) rest low is stops =
-      place_form p env (read_exp env n) (read_decl env.tags n) n place rest
+      place_form p env (read_exp env n) (read_decl (bases env) n) n place rest
       ∙ ap (option_map (chosen_from env)) (place_back p env same n n place rest (omega arith) (omega arith) is.0 stops)
       ∙ ap (λ b. Some (cond b (StartOf place) (Value place), rest)) is.1
   exp_back p env same (suc n) (AddrOf place) rest low is stops = operand_back AddrOf (read_place env (read_exp env n) n (place_spelled p env place (RightParen ∷ rest))) place rest (place_back p env same n n place (RightParen ∷ rest) (omega arith) (omega arith) is refl)
@@ -182,18 +185,18 @@ mutual
   exp_back p env same (suc n) (Un Not operand) rest low is stops = operand_back (Un Not) (read_exp env n (exp_spelled p env operand (RightParen ∷ rest))) operand rest (exp_back p env same n operand (RightParen ∷ rest) (omega arith) is refl)
   exp_back p env same (suc n) (Bin op left right) rest low is stops =
       let words = exp_spelled p env right (RightParen ∷ rest) in
-      ap (λ (f : Form). read_formed env (read_exp env n) (read_decl env.tags n) n f (exp_spelled p env left (Operator op ∷ words))) (operand_form p env left (Operator op ∷ words))
+      ap (λ (f : Form). read_formed env (read_exp env n) (read_decl (bases env) n) n f (exp_spelled p env left (Operator op ∷ words))) (operand_form p env left (Operator op ∷ words))
       ∙ ap (option_and_then (λ (r : Exp × List Word). read_right (read_exp env n) r.0 r.1)) (exp_back p env same n left (Operator op ∷ words) (omega arith) is.0 refl)
       ∙ operand_back (Bin op left) (read_exp env n words) right rest (exp_back p env same n right (RightParen ∷ rest) (omega arith) is.1 refl)
   exp_back p env same (suc n) (Cast None operand) rest low is stops = absurd is.0
   exp_back p env same (suc n) (Cast (Some s) operand) rest low is stops =
       let words = exp_spelled p env operand (RightParen ∷ rest) in
-      ap (λ b. read_formed env (read_exp env n) (read_decl env.tags n) n (cond b Converted Combined) (LeftParen ∷ type_spelled p s (RightParen ∷ words))) (type_base p s (before s (behind p s (RightParen ∷ words))) is.0)
+      ap (λ b. read_formed env (read_exp env n) (read_decl (bases env) n) n (cond b Converted Combined) (LeftParen ∷ type_spelled p s (RightParen ∷ words))) (type_base p s (before s (behind p s (RightParen ∷ words))) is.0)
       ∙ ap (λ ts. read_cast (read_exp env n) (read_decl ts n) (type_spelled p s (RightParen ∷ words))) same
       ∙ ap (λ o. option_and_then (λ (r : Shape × List Word). enclosed (Cast (Some r.0)) (read_exp env n r.1)) (enclosed (λ (x : Named). x.0) o)) (abstract_back p n s (RightParen ∷ words) (omega arith) is.0 refl)
       ∙ operand_back (Cast (Some s)) (read_exp env n words) operand rest (exp_back p env same n operand (RightParen ∷ rest) (omega arith) is.1 refl)
 
-  offsets_back : (p : Program) (env : Env) → env.tags ≡ tags p → (n k : ℕ) (o : Offsets) (s : Option Shape) (rest : List Word) → offsets_weight o < n → offsets_weight o < k → AreOffsets p env o s → is_offset rest ≡ false →
+  offsets_back : (p : Program) (env : Env) → bases env ≡ bases_of p → (n k : ℕ) (o : Offsets) (s : Option Shape) (rest : List Word) → offsets_weight o < n → offsets_weight o < k → AreOffsets p env o s → is_offset rest ≡ false →
       read_offsets env (read_exp env n) k s (offsets_spelled p env o s rest) ≡ Some (o, rest)
   offsets_back p env same n zero o s rest low small are stops = absurd (omega arith)
   offsets_back p env same n (suc k) Here s rest low small are stops = rw stops refl
@@ -205,12 +208,12 @@ mutual
       ap (λ o. option_and_then (λ (r : Exp × List Word). option_map (index_first r.0) (read_offsets env (read_exp env n) k (option_and_then element_of s) r.1)) (option_and_then (λ (r : Exp × List Word). in_brackets r.0 r.1) o)) (exp_back p env same n index (RightBracket ∷ words) (omega arith) are.0 refl)
       ∙ ap (option_map (index_first index)) (offsets_back p env same n k more (option_and_then element_of s) rest (omega arith) (omega arith) are.1 stops)
 
-  host_back : (p : Program) (env : Env) → env.tags ≡ tags p → (n : ℕ) (h : Host) (rest : List Word) → host_weight h < n → IsHost p env h → read_host env (read_exp env n) (host_spelled p env h rest) ≡ Some (h, rest)
+  host_back : (p : Program) (env : Env) → bases env ≡ bases_of p → (n : ℕ) (h : Host) (rest : List Word) → host_weight h < n → IsHost p env h → read_host env (read_exp env n) (host_spelled p env h rest) ≡ Some (h, rest)
   host_back p env same n (Global m) rest low is = ap (option_map (λ (h : Host). (h, rest))) is
   host_back p env same n (Var m) rest low is = ap (option_map (λ (h : Host). (h, rest))) is
   host_back p env same n (At pointer) rest low is = operand_back At (read_exp env n (exp_spelled p env pointer (RightParen ∷ rest))) pointer rest (exp_back p env same n pointer (RightParen ∷ rest) low is refl)
 
-  pub place_back : (p : Program) (env : Env) → env.tags ≡ tags p → (n k : ℕ) (place : Lval) (rest : List Word) → place_weight place < n → place_weight place < k → IsPlace p env place → is_offset rest ≡ false →
+  pub place_back : (p : Program) (env : Env) → bases env ≡ bases_of p → (n k : ℕ) (place : Lval) (rest : List Word) → place_weight place < n → place_weight place < k → IsPlace p env place → is_offset rest ≡ false →
       read_place env (read_exp env n) k (place_spelled p env place rest) ≡ Some (place, rest)
   place_back p env same n k (Place host offsets) rest low small is stops =
       ap (option_and_then (λ (h : Host × List Word). option_map (place_from h.0) (read_offsets env (read_exp env n) k (type_at_host env h.0) h.1))) (host_back p env same n host (offsets_spelled p env offsets (type_at_host env host) rest) (omega arith) is.0)

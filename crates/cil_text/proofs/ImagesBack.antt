@@ -7,11 +7,11 @@ use Rattle.std.specs.Ordering.{int_eq}
 use Rattle.cil_base.specs.declared.constants.Constant.{Constant}
 use Rattle.cil_base.specs.declared.constants.Constant.TheVariants.{Int as Integer, Address, Function as Code}
 use Rattle.cil_base.specs.declared.kinds.Abi.{Abi}
-use Rattle.cil_base.specs.declared.kinds.Abi.TheVariants.{Lp64}
+use Rattle.cil_base.specs.declared.kinds.Abi.TheVariants.{Lp64, Ilp32}
 use Rattle.cil_base.specs.declared.kinds.IntKind.{IntKind}
 use Rattle.cil_base.specs.declared.kinds.IntKind.TheVariants as kind
 use Rattle.cil_base.specs.declared.operators.BinOp.TheVariants.{Mul, Add, And}
-use Rattle.cil_base.specs.Integer.{ulong_of, long_of, least, greatest}
+use Rattle.cil_base.specs.Integer.{ulong_of, long_of, least, greatest, kind_in}
 use Rattle.cil_base.specs.Arithmetic.{fits}
 use Rattle.type_graph.specs.declared.aggregates.Aggregate.{Aggregate}
 use Rattle.type_graph.specs.declared.aggregates.Member.{Member}
@@ -139,8 +139,19 @@ path_back p is (suc k) (ToIndex i ∷ path) a b low shaped e =
 
 -- constants
 
-abi_kinds : (a : Abi) → (suffix_kind (ulong_of a) ≡ ulong_of a) × (ulong_of a ≡ kind.ULong) × (long_of a ≡ kind.Long)
-abi_kinds a = elim a as (λ x. (suffix_kind (ulong_of x) ≡ ulong_of x) × (ulong_of x ≡ kind.ULong) × (long_of x ≡ kind.Long)) [ Lp64 ↦ (refl, refl, refl) ]
+-- the suffix of a pointer's constant names the data model's unsigned long, which has no negative value
+ulong_word : (abi : Abi) → kind_in abi (suffix_kind (ulong_of abi)) ≡ ulong_of abi
+ulong_word Lp64 = refl
+ulong_word Ilp32 = refl
+
+ulong_natural : (abi : Abi) (n : ℕ) → fits (ulong_of abi) (negsuc n) ≡ true → ⊥
+ulong_natural Lp64 n e = cc e
+ulong_natural Ilp32 n e = cc e
+
+-- an offset is a value of long
+offset_fits : (abi : Abi) (m : ℕ) → m < 2 ^ 31 → fits (long_of abi) (pos m) ≡ true
+offset_fits Lp64 m small = le-leb m (2 ^ 63 - 1) (omega (arith, small))
+offset_fits Ilp32 m small = le-leb m (2 ^ 31 - 1) (omega (arith, small))
 
 number_told : (place k : IntKind) (v : ℤ) → number_fits place k v ≡ true → (k ≡ place) × (fits k v ≡ true)
 number_told place k v e =
@@ -181,10 +192,11 @@ converted_back p n q s value x rest low shaped e =
     ∙ ap (λ b. cond b (read_pointer env (onto value rest)) None) (shape_itself (PtrType q s))
     ∙ e
 
-ulong_back : (p : Program) (v : ℤ) (rest : List Word) → fits kind.ULong v ≡ true → is_minus rest ≡ false → read_pointer (known_of p []) (onto (number kind.ULong v) rest) ≡ Some (Integer kind.ULong v, rest)
+ulong_back : (p : Program) (v : ℤ) (rest : List Word) → fits (ulong_of p.graph.abi) v ≡ true → is_minus rest ≡ false → read_pointer (known_of p []) (onto (number (ulong_of p.graph.abi) v) rest) ≡ Some (Integer (ulong_of p.graph.abi) v, rest)
 ulong_back p (pos v) rest small stops =
-    ap (λ (w : Word). read_pointer (known_of p []) (w ∷ rest)) (digits_word kind.ULong v (fits_small kind.ULong v small))
-ulong_back p (negsuc v) rest small stops = absurd (cc small)
+    ap (λ (w : Word). read_pointer (known_of p []) (w ∷ rest)) (digits_word (ulong_of p.graph.abi) v (fits_small (ulong_of p.graph.abi) v small))
+    ∙ ap (λ (k : IntKind). Some (Integer k (pos v), rest)) (ulong_word p.graph.abi)
+ulong_back p (negsuc v) rest small stops = absurd (ulong_natural p.graph.abi v small)
 
 address_back : (p : Program) → IsFile p → (n : ℕ) (v : ℤ) (rest : List Word) → address_fits p n v ≡ true → read_pointer (known_of p []) (onto (address_tokens p n v) rest) ≡ Some (Address (record { 0 = n }) v, rest)
 unfolding word_of
@@ -197,9 +209,9 @@ address_back p is n (pos m) rest e =
     let small : m < 2 ^ 64 = omega (arith, ltb-true m (2 ^ 31) b.1) in
     ap (λ (ws : List Word). read_pointer env (LeftParen ∷ LeftParen ∷ CharWord ∷ Operator Mul ∷ RightParen ∷ Operator And ∷ word_of (global_name p n) ∷ Operator Add ∷ ws)) (enclosed_words (number (long_of p.graph.abi) (pos m)) rest)
     ∙ ap (λ (w : Word). read_pointer env (LeftParen ∷ LeftParen ∷ CharWord ∷ Operator Mul ∷ RightParen ∷ Operator And ∷ w ∷ Operator Add ∷ word_of (digits (long_of p.graph.abi) m) ∷ RightParen ∷ rest)) g.0
-    ∙ ap (option_and_then (λ (k : ℕ). option_and_then (offset_at k) (read_number (word_of (digits (long_of p.graph.abi) m) ∷ RightParen ∷ rest)))) g.1
-    ∙ ap (λ (w : Word). option_and_then (offset_at n) (read_number (w ∷ RightParen ∷ rest))) (digits_word (long_of p.graph.abi) m small)
-    ∙ ap (λ b. cond b (Some (Address (record { 0 = n }) (pos m), rest)) None) (le-leb m (2 ^ 63 - 1) (omega (arith, ltb-true m (2 ^ 31) b.1)))
+    ∙ ap (option_and_then (λ (k : ℕ). option_and_then (offset_at p.graph.abi k) (read_number (word_of (digits (long_of p.graph.abi) m) ∷ RightParen ∷ rest)))) g.1
+    ∙ ap (λ (w : Word). option_and_then (offset_at p.graph.abi n) (read_number (w ∷ RightParen ∷ rest))) (digits_word (long_of p.graph.abi) m small)
+    ∙ ap (λ b. cond b (Some (Address (record { 0 = n }) (pos m), rest)) None) (offset_fits p.graph.abi m (ltb-true m (2 ^ 31) b.1))
 address_back p is n (negsuc m) rest e = absurd (cc (both (is_object p n) false e).1)
 
 code_back : (p : Program) → IsFile p → (n : ℕ) (rest : List Word) → is_function_type (global_type p n) ≡ true → read_pointer (known_of p []) (onto (codes "&" ∷ global_name p n ∷ []) rest) ≡ Some (Code (record { 0 = n }), rest)
@@ -219,9 +231,8 @@ constant_back p is n (AggType a) (Integer j v) rest low shaped e stops =
     ap (option_map (integer_of kind.Int)) (number_back j v rest h.1 stops) ∙ ap (λ (y : IntKind). Some (Integer y v, rest)) (sym h.0)
 constant_back p is n (PtrType q s) (Integer j v) rest low shaped e stops =
     let h = number_told (ulong_of p.graph.abi) j v e in
-    let same : j ≡ kind.ULong = h.0 ∙ (abi_kinds p.graph.abi).1 in
     converted_back p n q s (number j v) (Integer j v) rest low shaped
-    (subst (λ (y : IntKind). read_pointer (known_of p []) (onto (number y v) rest) ≡ Some (Integer y v, rest)) (sym same) (ulong_back p v rest (subst (λ (y : IntKind). fits y v ≡ true) same h.1) stops))
+    (subst (λ (y : IntKind). read_pointer (known_of p []) (onto (number y v) rest) ≡ Some (Integer y v, rest)) (sym h.0) (ulong_back p v rest (subst (λ (y : IntKind). fits y v ≡ true) h.0 h.1) stops))
 constant_back p is n (PtrType q s) (Address object at) rest low shaped e stops = converted_back p n q s (address_tokens p object.0 at) (Address object at) rest low shaped (address_back p is object.0 at rest e)
 constant_back p is n (PtrType q s) (Code function) rest low shaped e stops = converted_back p n q s (codes "&" ∷ global_name p function.0 ∷ []) (Code function) rest low shaped (code_back p is function.0 rest e)
 constant_back p is n s x rest low shaped e stops = absurd (cc e)

@@ -8,12 +8,11 @@ use Rattle.cil_tree.specs.Tree.{Exp, Const, Value, Un, Bin, Cast, AddrOf, StartO
 use Rattle.cil_tree.specs.Typing.{Scope, place_type}
 use Rattle.cil_tree.specs.Lines.{Token}
 use Rattle.cil_tree.specs.Declarators.{separated, in_parentheses}
-use Rattle.cil_tree.specs.Names.{tags}
 use Rattle.cil_tree.specs.Text.{exp_tokens, place_tokens, argument_tokens, callee_tokens, size_tokens, instr_tokens}
 use Rattle.cil_text.specs.Words.{Word, LeftParen, RightParen, Comma, Semicolon, Assign, Operator, Name, word_of, onto}
 use Rattle.cil_text.specs.ReadTypes.{is_closing}
-use Rattle.cil_text.specs.ReadExps.{Env, name_at, is_array_type, type_at_place, read_exp}
-use Rattle.cil_text.specs.Known.{env_of}
+use Rattle.cil_text.specs.ReadExps.{Env, name_at, is_array_type, type_at_place, read_exp, bases}
+use Rattle.cil_text.specs.Known.{env_of, bases_of}
 use Rattle.cil_text.specs.ReadStmts.{argument_first, read_next, read_list, read_args, memset, opens_address, is_zero, zero_from, line_end, callee_of, read_call, read_assigned, read_effect, read_instr, is_label}
 use Rattle.cil_text.proofs.WordsBack.{onto_append}
 use Rattle.cil_text.proofs.TypesBack.{nonempty, append_nonempty, separated_some}
@@ -90,7 +89,7 @@ args_are : (c : Scope) (es : List Exp) → ArgsTold c es → AreExps c.program (
 args_are c [] told = tt
 args_are c (e ∷ es) told = (told.0.1, args_are c es told.1)
 
-list_back : (p : Program) (env : Env) → env.tags ≡ tags p → (n k : ℕ) (e : Exp) (es : List Exp) (rest : List Word) → args_weight (e ∷ es) ≤ n → args_weight (e ∷ es) ≤ k → IsExp p env e → AreExps p env es →
+list_back : (p : Program) (env : Env) → bases env ≡ bases_of p → (n k : ℕ) (e : Exp) (es : List Exp) (rest : List Word) → args_weight (e ∷ es) ≤ n → args_weight (e ∷ es) ≤ k → IsExp p env e → AreExps p env es →
     read_list (read_exp env n) k (exp_spelled p env e (more_args p env es rest)) ≡ Some (e ∷ es, rest)
 list_back p env same n zero e es rest low small is are = absurd (omega arith)
 list_back p env same n (suc k) e [] rest low small is are =
@@ -99,7 +98,7 @@ list_back p env same n (suc k) e (f ∷ es) rest low small is are =
     ap (option_and_then (λ (r : Exp × List Word). read_next (read_list (read_exp env n) k) r.0 r.1)) (exp_back p env same n e (more_args p env (f ∷ es) rest) (omega arith) is refl)
     ∙ ap (option_map (argument_first e)) (list_back p env same n k f es rest (omega arith) (omega arith) are.0 are.1)
 
-args_back : (p : Program) (env : Env) → env.tags ≡ tags p → (n : ℕ) (es : List Exp) (rest : List Word) → args_weight es ≤ n → AreExps p env es → read_args (read_exp env n) n (args_spelled p env es rest) ≡ Some (es, rest)
+args_back : (p : Program) (env : Env) → bases env ≡ bases_of p → (n : ℕ) (es : List Exp) (rest : List Word) → args_weight es ≤ n → AreExps p env es → read_args (read_exp env n) n (args_spelled p env es rest) ≡ Some (es, rest)
 args_back p env same n [] rest low are = refl
 args_back p env same n (e ∷ es) rest low are = rw (exp_open p env e (more_args p env es rest)) (list_back p env same n n e es rest low low are.0 are.1)
 

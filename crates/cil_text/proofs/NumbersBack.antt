@@ -29,6 +29,8 @@ least_is k n = elim k as (λ x. negsuc n ≡ least x → unsigned_abs (greatest 
   | kind.ULong ↦ (λ e. absurd (cc e))
   | kind.LLong ↦ (λ e. cc)
   | kind.ULLong ↦ (λ e. absurd (cc e))
+  | kind.Long4 ↦ (λ e. cc)
+  | kind.ULong4 ↦ (λ e. absurd (cc e))
 ]
 
 above_least : (n g : ℕ) → int_le (negsuc g) (negsuc n) ≡ true → suc g < 2 ^ 64 → suc n < 2 ^ 64
@@ -48,6 +50,8 @@ negative_small k n = elim k as (λ x. int_le (least x) (negsuc n) ≡ true → s
   | kind.ULong ↦ (λ e. absurd (cc e))
   | kind.LLong ↦ (λ e. above_least n (2 ^ 63 - 1) e (omega arith))
   | kind.ULLong ↦ (λ e. absurd (cc e))
+  | kind.Long4 ↦ (λ e. above_least n (2 ^ 31 - 1) e (omega arith))
+  | kind.ULong4 ↦ (λ e. absurd (cc e))
 ]
 
 pub number_back : (k : IntKind) (v : ℤ) (rest : List Word) → fits k v ≡ true → is_minus rest ≡ false → read_number (onto (number k v) rest) ≡ Some ((suffix_kind k, v), rest)

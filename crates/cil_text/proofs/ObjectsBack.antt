@@ -9,14 +9,14 @@ use Rattle.cil_tree.proofs.ShapeEquality.{shape_itself}
 use Rattle.cil_tree.specs.Tree.{Item, Definition, Declared, Zeros, Image, Function, GlobalDecl, Program}
 use Rattle.cil_tree.specs.Typing.{is_void, is_function}
 use Rattle.cil_tree.specs.Lines.{Token, Line}
-use Rattle.cil_tree.specs.Names.{is_name, is_among, are_different, tags}
+use Rattle.cil_tree.specs.Names.{is_name, is_among, are_different}
 use Rattle.cil_tree.specs.Declarators.{type_tokens}
 use Rattle.cil_tree.specs.Text.{closed, is_function_type, declarator, linkage, storage, image_tokens, declaration_line, object_lines, concat_each}
 use Rattle.cil_tree.specs.Globals.{has_definition, is_defined, image_fits}
 use Rattle.cil_text.specs.Words.{Word, Semicolon, Assign, ExternWord, StaticWord, Name, word_of, onto}
-use Rattle.cil_text.specs.ReadTypes.{read_decl}
+use Rattle.cil_text.specs.ReadTypes.{read_decl, Bases}
 use Rattle.cil_text.specs.ReadExps.{Env, is_base}
-use Rattle.cil_text.specs.Known.{known_of}
+use Rattle.cil_text.specs.Known.{known_of, bases_of}
 use Rattle.cil_text.specs.ReadAggregates.{Lines}
 use Rattle.cil_text.specs.ReadGlobals.{Declaration, is_open_brace, ends_open, name_in_front, first_name, is_call_in_front, names_function, is_called, declares_alone, declares, declared_with, only_function, declaration_from, declaration_first, read_declarations, without_static, own_name, image_end, defined_by, object_defined, own_definition, default_of, Definitions, definition_first, read_objects}
 use Rattle.cil_text.proofs.WordsBack.{onto_append, both, denied, name_word}
@@ -61,11 +61,11 @@ opened ts = last_word ts (codes "{")
 
 -- base words are no storage class
 
-no_storage : (tags : List (List ℕ)) (n : ℕ) (ws : List Word) → is_base ws ≡ true → declaration_from tags n ws ≡ option_and_then only_function (option_and_then (declared_with false) (read_decl tags n ws))
-no_storage tags n [] e = absurd (cc e)
-no_storage tags n (ExternWord ∷ ws) e = absurd (cc e)
-no_storage tags n (StaticWord ∷ ws) e = absurd (cc e)
-no_storage tags n (w ∷ ws) e = refl
+no_storage : (bases : Bases) (n : ℕ) (ws : List Word) → is_base ws ≡ true → declaration_from bases n ws ≡ option_and_then only_function (option_and_then (declared_with false) (read_decl bases n ws))
+no_storage bases n [] e = absurd (cc e)
+no_storage bases n (ExternWord ∷ ws) e = absurd (cc e)
+no_storage bases n (StaticWord ∷ ws) e = absurd (cc e)
+no_storage bases n (w ∷ ws) e = refl
 
 no_static : (ws : List Word) → is_base ws ≡ true → without_static ws ≡ ws
 no_static [] e = refl
@@ -130,19 +130,19 @@ declares_itself p x is =
     by false false f = refl
     by false true f = alone_function p x (Semicolon ∷ []) is refl ∙ f
 
-declaration_back : (p : Program) (n : ℕ) (x : GlobalDecl) → size (shape_of x.type) + 2 ≤ n → IsDeclared p x → declaration_from (tags p) n (onto (declaration_line p x) []) ≡ Some (declaration_of x)
+declaration_back : (p : Program) (n : ℕ) (x : GlobalDecl) → size (shape_of x.type) + 2 ≤ n → IsDeclared p x → declaration_from (bases_of p) n (onto (declaration_line p x) []) ≡ Some (declaration_of x)
 declaration_back p n x low is =
-    ap (declaration_from (tags p) n) (storage_words p x is)
+    ap (declaration_from (bases_of p) n) (storage_words p x is)
     ∙ by x.internal (is_function (shape_of x.type)) refl refl
   where
-    read : read_decl (tags p) n (declarator_spelled p x (Semicolon ∷ [])) ≡ Some ((shape_of x.type, Some x.name), Semicolon ∷ [])
+    read : read_decl (bases_of p) n (declarator_spelled p x (Semicolon ∷ [])) ≡ Some ((shape_of x.type, Some x.name), Semicolon ∷ [])
     read = named_back p n (shape_of x.type) x.name (Semicolon ∷ []) low is.2 refl
 
-    by : (a b : Bool) → x.internal ≡ a → is_function (shape_of x.type) ≡ b → declaration_from (tags p) n (storage_word a b (declarator_spelled p x (Semicolon ∷ []))) ≡ Some (declaration_of x)
+    by : (a b : Bool) → x.internal ≡ a → is_function (shape_of x.type) ≡ b → declaration_from (bases_of p) n (storage_word a b (declarator_spelled p x (Semicolon ∷ []))) ≡ Some (declaration_of x)
     by true b e f = ap (option_and_then (declared_with true)) read ∙ ap (λ (i : Bool). Some (record (declaration_of x) { internal = i })) (sym e)
     by false false e f = ap (option_and_then (declared_with false)) read ∙ ap (λ (i : Bool). Some (record (declaration_of x) { internal = i })) (sym e)
     by false true e f =
-        no_storage (tags p) n (declarator_spelled p x (Semicolon ∷ [])) (declarator_base p x (Semicolon ∷ []) is)
+        no_storage (bases_of p) n (declarator_spelled p x (Semicolon ∷ [])) (declarator_base p x (Semicolon ∷ []) is)
         ∙ ap (λ o. option_and_then only_function (option_and_then (declared_with false) o)) read
         ∙ ap (λ (b : Bool). cond b (Some (record (declaration_of x) { internal = false })) None) f
         ∙ ap (λ (i : Bool). Some (record (declaration_of x) { internal = i })) (sym e)
@@ -152,22 +152,22 @@ abbrev pub declared_first : Lines → Bool
 declared_first [] = false
 declared_first (line ∷ lines) = declares line
 
-declarations_end : (tags : List (List ℕ)) (n : ℕ) (more : Lines) → declared_first more ≡ false → read_declarations tags n more ≡ Some ([], more)
-declarations_end tags n [] e = refl
-declarations_end tags n (line ∷ lines) e = rw (e, read_declarations) refl
+declarations_end : (bases : Bases) (n : ℕ) (more : Lines) → declared_first more ≡ false → read_declarations bases n more ≡ Some ([], more)
+declarations_end bases n [] e = refl
+declarations_end bases n (line ∷ lines) e = rw (e, read_declarations) refl
 
 abbrev pub globals_size : List GlobalDecl → ℕ
 globals_size [] = 0
 globals_size (x ∷ xs) = 2 + size (shape_of x.type) + globals_size xs
 
 pub declarations_back : (p : Program) (n : ℕ) (xs : List GlobalDecl) (more : Lines) → globals_size xs ≤ n → EachGlobal (IsDeclared p) xs → declared_first more ≡ false →
-    read_declarations (tags p) n (lines_onto (map (declaration_line p) xs) more) ≡ Some (map declaration_of xs, more)
-declarations_back p n [] more low is e = declarations_end (tags p) n more e
+    read_declarations (bases_of p) n (lines_onto (map (declaration_line p) xs) more) ≡ Some (map declaration_of xs, more)
+declarations_back p n [] more low is e = declarations_end (bases_of p) n more e
 declarations_back p n (x ∷ xs) more low is e =
     let line = onto (declaration_line p x) [] in
     let rest = lines_onto (map (declaration_line p) xs) more in
-    ap (λ b. cond b (option_and_then (λ (d : Declaration). option_map (declaration_first d) (read_declarations (tags p) n rest)) (declaration_from (tags p) n line)) (Some ([], line ∷ rest))) (declares_itself p x is.0)
-    ∙ ap (option_and_then (λ (d : Declaration). option_map (declaration_first d) (read_declarations (tags p) n rest))) (declaration_back p n x (omega arith) is.0)
+    ap (λ b. cond b (option_and_then (λ (d : Declaration). option_map (declaration_first d) (read_declarations (bases_of p) n rest)) (declaration_from (bases_of p) n line)) (Some ([], line ∷ rest))) (declares_itself p x is.0)
+    ∙ ap (option_and_then (λ (d : Declaration). option_map (declaration_first d) (read_declarations (bases_of p) n rest))) (declaration_back p n x (omega arith) is.0)
     ∙ ap (option_map (declaration_first (declaration_of x))) (declarations_back p n xs more (omega arith) is.1 e)
 
 -- objects
@@ -261,7 +261,7 @@ zero_named p x is =
     ∙ ap name_in_front (named_from p (shape_of x.type) x.name (Semicolon ∷ []) is.2)
 
 -- an object's line is read where its declarator is
-own_told : (p : Program) (n : ℕ) (x : GlobalDecl) (line rest : List Word) → read_decl (tags p) n (without_static line) ≡ Some ((shape_of x.type, Some x.name), rest) →
+own_told : (p : Program) (n : ℕ) (x : GlobalDecl) (line rest : List Word) → read_decl (bases_of p) n (without_static line) ≡ Some ((shape_of x.type, Some x.name), rest) →
     own_definition (known_of p []) n (declaration_of x) line ≡ defined_by (known_of p []) n (shape_of x.type) rest
 own_told p n x line rest e =
     ap (option_and_then (object_defined (known_of p []) n (declaration_of x))) e
@@ -297,8 +297,8 @@ linkage_cut false ws e = no_static ws e
 
 zero_told : (p : Program) (n : ℕ) (x : GlobalDecl) → size (shape_of x.type) + 2 ≤ n → IsDeclared p x → own_definition (known_of p []) n (declaration_of x) (onto (closed (declarator p x)) []) ≡ Some Zeros
 zero_told p n x low is = own_told p n x (onto (closed (declarator p x)) []) (Semicolon ∷ []) (
-    ap (λ (ws : List Word). read_decl (tags p) n (without_static ws)) (closed_words (declarator p x) ∙ declarator_words p x (Semicolon ∷ []) is)
-    ∙ ap (read_decl (tags p) n) (no_static (declarator_spelled p x (Semicolon ∷ [])) (declarator_base p x (Semicolon ∷ []) is))
+    ap (λ (ws : List Word). read_decl (bases_of p) n (without_static ws)) (closed_words (declarator p x) ∙ declarator_words p x (Semicolon ∷ []) is)
+    ∙ ap (read_decl (bases_of p) n) (no_static (declarator_spelled p x (Semicolon ∷ [])) (declarator_base p x (Semicolon ∷ []) is))
     ∙ named_back p n (shape_of x.type) x.name (Semicolon ∷ []) low is.2 refl)
 
 image_told : (p : Program) (n : ℕ) (x : GlobalDecl) (items : List Item) → size (shape_of x.type) + 2 ≤ n → IsDeclared p x →
@@ -307,8 +307,8 @@ unfolding image_line
 image_told p n x items low is =
     let image = onto (image_tokens p (Some (shape_of x.type)) items) (Semicolon ∷ []) in
     own_told p n x (onto (image_line p x items) []) (Assign ∷ image) (
-    ap (λ (ws : List Word). read_decl (tags p) n (without_static ws)) (image_words p x items is)
-    ∙ ap (read_decl (tags p) n) (linkage_cut x.internal (declarator_spelled p x (Assign ∷ image)) (declarator_base p x (Assign ∷ image) is))
+    ap (λ (ws : List Word). read_decl (bases_of p) n (without_static ws)) (image_words p x items is)
+    ∙ ap (read_decl (bases_of p) n) (linkage_cut x.internal (declarator_spelled p x (Assign ∷ image)) (declarator_base p x (Assign ∷ image) is))
     ∙ named_back p n (shape_of x.type) x.name (Assign ∷ image) low is.2 refl)
 
 linkage_named : (a : Bool) (ws : List Word) → first_name (linkage_word a ws) ≡ first_name ws

@@ -1,7 +1,6 @@
--- Device: no text is that of two programs.
+-- Device: no text is that of two programs of one data model.
 use Rattle.std.proofs.Common.{◌≡◌, ℕ, ◌+◌, ◌≤◌, ◌&&◌, Bool, true, false, cond, List, [], ◌∷◌, ◌++◌, map, Some, refl, sym, ap, ◌∙◌, subst, arith}
 use Rattle.cil_base.specs.declared.kinds.Abi.{Abi}
-use Rattle.cil_base.specs.declared.kinds.Abi.TheVariants.{Lp64}
 use Rattle.type_graph.specs.declared.aggregates.Aggregate.{Aggregate}
 use Rattle.cil_tree.specs.Tree.{Definition, Declared, Zeros, Image, Function, GlobalDecl, Program}
 use Rattle.cil_tree.specs.Lines.{Line}
@@ -68,18 +67,15 @@ program_clean p is =
     (lines_joined o f (objects_clean p (file_there p is) xs (rules_there p is)) (functions_clean p (program_weight p) xs told.functions)))))
 
 -- the reading of a well-formed program's text gives its aggregates and globals
-pub text_back : (p : Program) (n : ℕ) → IsProgram p → program_weight p ≤ n → read_text n (Text p) ≡ Some (map (seen_aggregate p) p.graph.aggs, p.globals)
-text_back p n is low = ap (read_lines n) (lines_cut 0 (program_lines p) (program_clean p is)) ∙ program_back p n is low
-
-pub same_abi : (a b : Abi) → a ≡ b
-same_abi Lp64 Lp64 = refl
+pub text_back : (p : Program) (n : ℕ) → IsProgram p → program_weight p ≤ n → read_text p.graph.abi n (Text p) ≡ Some (map (seen_aggregate p) p.graph.aggs, p.globals)
+text_back p n is low = ap (read_lines p.graph.abi n) (lines_cut 0 (program_lines p) (program_clean p is)) ∙ program_back p n is low
 
 pub same_seen : {s t : Seen} → Some s ≡ Some t → s ≡ t
 same_seen e = cc
 
-pub same_text : (bytes : List ℕ) (p q : Program) → IsTextOf bytes p → IsTextOf bytes q → SameProgram p q
-same_text bytes p q is also =
+pub same_text : (bytes : List ℕ) (p q : Program) → IsTextOf bytes p → IsTextOf bytes q → p.graph.abi ≡ q.graph.abi → SameProgram p q
+same_text bytes p q is also model =
     let n = program_weight p + program_weight q in
     let seen : (map (seen_aggregate p) p.graph.aggs, p.globals) ≡ (map (seen_aggregate q) q.graph.aggs, q.globals) =
-    same_seen (sym (text_back p n is.program (omega arith)) ∙ ap (read_text n) (sym is.text ∙ also.text) ∙ text_back q n also.program (omega arith)) in
-    record { abi = same_abi p.graph.abi q.graph.abi; aggregates = ap (λ (s : Seen). s.0) seen; globals = ap (λ (s : Seen). s.1) seen }
+    same_seen (sym (text_back p n is.program (omega arith)) ∙ ap (read_text p.graph.abi n) (sym is.text ∙ also.text) ∙ ap (λ (a : Abi). read_text a n (Text q)) model ∙ text_back q n also.program (omega arith)) in
+    record { abi = model; aggregates = ap (λ (s : Seen). s.0) seen; globals = ap (λ (s : Seen). s.1) seen }

@@ -3,7 +3,7 @@ use Rattle.std.proofs.Common.{◌≡◌, ℕ, suc, zero, ◌*◌, ◌^◌, ◌<�
 use Rattle.std.specs.Option.{option_map, option_and_then}
 use Rattle.std.proofs.Math.Nat.{le-mul_of_pos_right}
 use Rattle.cil_base.specs.declared.kinds.Abi.{Abi}
-use Rattle.cil_base.specs.declared.kinds.Abi.TheVariants.{Lp64}
+use Rattle.cil_base.specs.declared.kinds.Abi.TheVariants.{Lp64, Ilp32}
 use Rattle.cil_base.specs.declared.kinds.IntKind.{IntKind}
 use Rattle.cil_base.specs.declared.kinds.IntKind.TheVariants as kind
 use Rattle.cil_base.specs.Integer.{size_of, pointer_size_of}
@@ -37,10 +37,11 @@ HasBounds (ArrayType q s None) = HasBounds s
 HasBounds _ = Unit {0}
 
 size_positive : (k : IntKind) → 0 < size_of k
-size_positive k = elim k as (λ v. 0 < size_of v) [ kind.Bool ↦ omega arith | kind.Char ↦ omega arith | kind.SChar ↦ omega arith | kind.UChar ↦ omega arith | kind.Short ↦ omega arith | kind.UShort ↦ omega arith | kind.Int ↦ omega arith | kind.UInt ↦ omega arith | kind.Long ↦ omega arith | kind.ULong ↦ omega arith | kind.LLong ↦ omega arith | kind.ULLong ↦ omega arith ]
+size_positive k = elim k as (λ v. 0 < size_of v) [ kind.Bool ↦ omega arith | kind.Char ↦ omega arith | kind.SChar ↦ omega arith | kind.UChar ↦ omega arith | kind.Short ↦ omega arith | kind.UShort ↦ omega arith | kind.Int ↦ omega arith | kind.UInt ↦ omega arith | kind.Long ↦ omega arith | kind.ULong ↦ omega arith | kind.LLong ↦ omega arith | kind.ULLong ↦ omega arith | kind.Long4 ↦ omega arith | kind.ULong4 ↦ omega arith ]
 
 pointer_positive : (abi : Abi) → 0 < pointer_size_of abi
 pointer_positive Lp64 = omega arith
+pointer_positive Ilp32 = omega arith
 
 pub product_positive : (m n : ℕ) → 0 < m → 0 < n → 0 < m * n
 product_positive m n a b = omega (arith, le-mul_of_pos_right m b)

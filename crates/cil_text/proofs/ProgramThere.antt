@@ -411,5 +411,5 @@ told_there p n is low =
       names_differ = last_different (enumerators p) (map global_name_of p.globals) is.names.file;
     }
 
-pub program_back : (p : Program) (n : ℕ) → IsProgram p → program_weight p ≤ n → read_lines n (lines_onto (text.program_lines p) []) ≡ Some (map (seen_aggregate p) p.graph.aggs, p.globals)
+pub program_back : (p : Program) (n : ℕ) → IsProgram p → program_weight p ≤ n → read_lines p.graph.abi n (lines_onto (text.program_lines p) []) ≡ Some (map (seen_aggregate p) p.graph.aggs, p.globals)
 program_back p n is low = lines_back p n (told_there p n is low)

@@ -122,7 +122,7 @@ shapes_below p arena types names (suc m) t low small =
   where
     by : (n : Node) → slice_get p.graph.nodes t ≡ Some n → NamesBelow t (length p.graph.aggs) n → shape p.graph.nodes t ≡ shape_of (shape p.graph.nodes) n → ((k : ℕ) → k < t → IsShape p (shape p.graph.nodes k)) → IsShape p (shape_of (shape p.graph.nodes) n)
     by Void e grounded same below = tt
-    by (Int k) e grounded same below = tt
+    by (Int k) e grounded same below = arena.kinds t (Int k) e
     by (Ptr q) e grounded same below = (no_quals q.quals (all_get node_is_unqualified p.graph.nodes t (Ptr q) types.fit.unqualified e), below q.of.0 grounded)
     by (Array q None) e grounded same below = (no_quals q.quals (all_get node_is_unqualified p.graph.nodes t (Array q None) types.fit.unqualified e), tt, below q.of.0 grounded)
     by (Array q (Some n)) e grounded same below = (no_quals q.quals (all_get node_is_unqualified p.graph.nodes t (Array q (Some n)) types.fit.unqualified e), bound_small p arena types t q n e, below q.of.0 grounded)

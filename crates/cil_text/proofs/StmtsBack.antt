@@ -3,6 +3,7 @@ use Rattle.std.proofs.Common.{◌≡◌, ℕ, suc, zero, ◌+◌, ◌<◌, ◌�
 use Rattle.std.specs.Prelude.{ℤ}
 use Rattle.std.specs.Option.{option_map, option_and_then}
 use Rattle.cil_base.specs.declared.kinds.IntKind.{IntKind}
+use Rattle.cil_base.specs.Integer.{kind_in}
 use Rattle.cil_base.specs.Arithmetic.{fits}
 use Rattle.cil_tree.specs.Tree.{Exp, Const, Value, Un, Bin, Cast, AddrOf, StartOf, Global, Var, At, Lval, Place, Instr, Set, Call, Zero, Direct, Through, Stmt, Do, If, Switch, Loop, Block, Label, Case, Default, Goto, Break, Return, Stmts, Done, Seq, Program}
 use Rattle.cil_tree.specs.Typing.{Scope}
@@ -69,7 +70,7 @@ abbrev mutual
   StmtTold c (Loop body) = StmtsTold c body
   StmtTold c (Block body) = StmtsTold c body
   StmtTold c (Label n) = IsLabelOf c n
-  StmtTold c (Case k v) = (suffix_kind k ≡ k) × (fits k v ≡ true)
+  StmtTold c (Case k v) = (kind_in c.program.graph.abi (suffix_kind k) ≡ k) × (fits k v ≡ true)
   StmtTold c Default = Unit {0}
   StmtTold c (Goto n) = IsLabelOf c n
   StmtTold c Break = Unit {0}
@@ -183,11 +184,11 @@ goto_head c n l is =
     ap (λ (w : Word). read_head (env_of c) c.labels n (GotoWord ∷ w ∷ Semicolon ∷ [])) (name_word (label_name c l) is.0)
     ∙ ap (option_map (λ (m : ℕ). Whole (Goto m))) is.1
 
-case_head : (c : Scope) (n : ℕ) (k : IntKind) (v : ℤ) → suffix_kind k ≡ k → fits k v ≡ true → read_head (env_of c) c.labels n (CaseWord ∷ onto (number k v ++ codes ":" ∷ codes ";" ∷ []) []) ≡ Some (Whole (Case k v))
+case_head : (c : Scope) (n : ℕ) (k : IntKind) (v : ℤ) → kind_in c.program.graph.abi (suffix_kind k) ≡ k → fits k v ≡ true → read_head (env_of c) c.labels n (CaseWord ∷ onto (number k v ++ codes ":" ∷ codes ";" ∷ []) []) ≡ Some (Whole (Case k v))
 unfolding word_of
 case_head c n k v same small =
-    ap (λ (ws : List Word). option_and_then case_of (read_number ws)) (onto_append (number k v) (codes ":" ∷ codes ";" ∷ []) [])
-    ∙ ap (option_and_then case_of) (number_back k v (Colon ∷ Semicolon ∷ []) small refl)
+    ap (λ (ws : List Word). option_and_then (case_of c.program.graph.abi) (read_number ws)) (onto_append (number k v) (codes ":" ∷ codes ";" ∷ []) [])
+    ∙ ap (option_and_then (case_of c.program.graph.abi)) (number_back k v (Colon ∷ Semicolon ∷ []) small refl)
     ∙ ap (λ (x : IntKind). Some (Whole (Case x v))) same
 
 line_step : (c : Scope) (n : ℕ) (line : List Word) (more : List (List Word)) (h : Head) (hs : List Head) → read_head (env_of c) c.labels n line ≡ Some h → read_heads (env_of c) c.labels n more ≡ Some hs → read_heads (env_of c) c.labels n (line ∷ more) ≡ Some (h ∷ hs)

@@ -16,6 +16,8 @@ use Rattle.cil_tree.specs.Text.{global_name, label_name, exp_tokens, callee_toke
 use Rattle.cil_base.proofs.KindLaws.{kind_told}
 use Rattle.cil_tree.proofs.ShapeEquality.{shape_told}
 use Rattle.cil_base.specs.declared.operators.BinOp.TheVariants.{Mul}
+use Rattle.cil_base.specs.Integer.{has_kind, kind_in}
+use Rattle.cil_base.specs.declared.kinds.Abi.{Abi}
 use Rattle.cil_text.specs.Words.{Word, LeftParen, RightParen, Operator, Name, word_of, onto}
 use Rattle.cil_text.specs.ReadGlobals.{params_of}
 use Rattle.cil_text.specs.ReadExps.{name_at, is_array_type}
@@ -216,11 +218,12 @@ switch_wide c e = by (type_of c e)
     by None = tt
     by (Some s) = kind_wide s
 
-case_there : (o : Option IntKind) (k : IntKind) (v : ℤ) → WideKind o → case_fits o k v ≡ true → (suffix_kind k ≡ k) × (fits k v ≡ true)
-case_there None k v wide e = absurd (cc e)
-case_there (Some j) k v wide e =
-    let h = both (same_kind k j) (fits k v) e in
-    (wide_suffix k (ap is_wide (kind_told k j h.0) ∙ wide), h.1)
+case_there : (abi : Abi) (o : Option IntKind) (k : IntKind) (v : ℤ) → WideKind o → case_fits abi o k v ≡ true → (kind_in abi (suffix_kind k) ≡ k) × (fits k v ≡ true)
+case_there abi None k v wide e = absurd (cc e)
+case_there abi (Some j) k v wide e =
+    let h = both (same_kind k j) (has_kind abi k && fits k v) e in
+    let f = both (has_kind abi k) (fits k v) h.1 in
+    (wide_suffix abi k (ap is_wide (kind_told k j h.0) ∙ wide) f.0, f.1)
 
 some_there : {A B : Type 0} (f : A → Option B) (o : Option A) → is_some (option_and_then f o) ≡ true → (x : A) × (o ≡ Some x)
 some_there f None e = absurd (cc e)
@@ -251,7 +254,7 @@ mutual
   stmt_there c scope has labels kind wide ret (Loop body) cast part parts low goto_ gotos cases return returns = stmts_there c scope has labels kind wide ret body cast parts low gotos cases returns
   stmt_there c scope has labels kind wide ret (Block body) cast part parts low goto_ gotos cases return returns = stmts_there c scope has labels kind wide ret body cast parts low gotos cases returns
   stmt_there c scope has labels kind wide ret (Label l) cast part parts low goto_ gotos cases return returns = labels l (both (nat_lt l (length c.labels)) true low).0
-  stmt_there c scope has labels kind wide ret (Case k v) cast part parts low goto_ gotos cases return returns = case_there kind k v wide cases
+  stmt_there c scope has labels kind wide ret (Case k v) cast part parts low goto_ gotos cases return returns = case_there c.program.graph.abi kind k v wide cases
   stmt_there c scope has labels kind wide ret Default cast part parts low goto_ gotos cases return returns = tt
   stmt_there c scope has labels kind wide ret (Goto l) cast part parts low goto_ gotos cases return returns = labels l goto_
   stmt_there c scope has labels kind wide ret Break cast part parts low goto_ gotos cases return returns = tt

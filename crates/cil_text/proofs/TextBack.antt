@@ -19,7 +19,7 @@ use Rattle.cil_text.specs.Known.{known_member, known_members, known_global, know
 use Rattle.std.specs.List.{list_all}
 use Rattle.cil_text.specs.Allowed.{allowed, is_filled}
 use Rattle.cil_text.specs.ReadAggregates.{Lines, opened_tag, lone_tag, tag_of, aggregates_allowed, first_filled}
-use Rattle.cil_text.specs.ReadGlobals.{read_declarations, read_objects, read_bodies, seen_field, seen_fields, declared_local, env_from, definition_with, assembled, seen_end, declared_name, read_defined, read_lines, Definitions}
+use Rattle.cil_text.specs.ReadGlobals.{read_declarations, read_objects, read_bodies, seen_field, seen_fields, declared_local, env_from, definition_with, assembled, seen_end, declared_name, read_defined, read_lines, Definitions, bases_from}
 use Rattle.cil_text.proofs.WordsBack.{name_word}
 use Rattle.cil_text.proofs.TypesBack.{kind_spelled, tag_spelled, base_spelled, grouped, before, behind, IsShape}
 use Rattle.cil_text.proofs.DeclsBack.{cond_both}
@@ -45,7 +45,7 @@ tag_apart x name (Semicolon ∷ ws) e = absurd (cc e)
 tag_apart x name (w ∷ ws) e = (refl, refl)
 
 kind_apart : (k : IntKind) (rest : List Word) → Apart (kind_spelled k rest)
-kind_apart k rest = elim k as (λ v. Apart (kind_spelled v rest)) [ kind.Bool ↦ (refl, refl) | kind.Char ↦ (refl, refl) | kind.SChar ↦ (refl, refl) | kind.UChar ↦ (refl, refl) | kind.Short ↦ (refl, refl) | kind.UShort ↦ (refl, refl) | kind.Int ↦ (refl, refl) | kind.UInt ↦ (refl, refl) | kind.Long ↦ (refl, refl) | kind.ULong ↦ (refl, refl) | kind.LLong ↦ (refl, refl) | kind.ULLong ↦ (refl, refl) ]
+kind_apart k rest = elim k as (λ v. Apart (kind_spelled v rest)) [ kind.Bool ↦ (refl, refl) | kind.Char ↦ (refl, refl) | kind.SChar ↦ (refl, refl) | kind.UChar ↦ (refl, refl) | kind.Short ↦ (refl, refl) | kind.UShort ↦ (refl, refl) | kind.Int ↦ (refl, refl) | kind.UInt ↦ (refl, refl) | kind.Long ↦ (refl, refl) | kind.ULong ↦ (refl, refl) | kind.LLong ↦ (refl, refl) | kind.ULLong ↦ (refl, refl) | kind.Long4 ↦ (refl, refl) | kind.ULong4 ↦ (refl, refl) ]
 
 spelled_apart : (p : Program) (o : Option Aggregate) (x : Aggregate) (rest : List Word) → o ≡ Some x → is_name (tag_text p x) ≡ true → is_tag_end rest ≡ false → Apart (tag_spelled p o rest)
 spelled_apart p None x rest e named stops = absurd (cc e)
@@ -111,11 +111,11 @@ globals_seen p [] is = refl
 globals_seen p (x ∷ xs) is =
     ap (λ (o : Option Shape). record { name = x.name; type = o } ∷ map declared_local (map declaration_of xs)) (sym is.0.1) ∙ ap (λ ls. known_global x ∷ ls) (globals_seen p xs is.1)
 
-env_seen : (p : Program) → EachGlobal (IsDeclared p) p.globals → env_from (map (seen_aggregate p) p.graph.aggs) (map declaration_of p.globals) ≡ known_of p []
+env_seen : (p : Program) → EachGlobal (IsDeclared p) p.globals → env_from p.graph.abi (map (seen_aggregate p) p.graph.aggs) (map declaration_of p.globals) ≡ known_of p []
 env_seen p is =
-    ap (λ (ts : List (List ℕ)). record { tags = ts; members = map seen_fields (map (seen_aggregate p) p.graph.aggs); globals = map declared_local (map declaration_of p.globals); locals = [] }) (tags_seen p p.graph.aggs)
-    ∙ ap (λ (ms : List (List Local)). record { tags = tags p; members = ms; globals = map declared_local (map declaration_of p.globals); locals = [] }) (all_members_seen p p.graph.aggs)
-    ∙ ap (λ (gs : List Local). record { tags = tags p; members = map (known_members p) p.graph.aggs; globals = gs; locals = [] }) (globals_seen p p.globals is)
+    ap (λ (ts : List (List ℕ)). record { abi = p.graph.abi; tags = ts; members = map seen_fields (map (seen_aggregate p) p.graph.aggs); globals = map declared_local (map declaration_of p.globals); locals = [] }) (tags_seen p p.graph.aggs)
+    ∙ ap (λ (ms : List (List Local)). record { abi = p.graph.abi; tags = tags p; members = ms; globals = map declared_local (map declaration_of p.globals); locals = [] }) (all_members_seen p p.graph.aggs)
+    ∙ ap (λ (gs : List Local). record { abi = p.graph.abi; tags = tags p; members = map (known_members p) p.graph.aggs; globals = gs; locals = [] }) (globals_seen p p.globals is)
 
 whole_definition : (d : Definition) → definition_with (object_of d) (body_of d) ≡ d
 whole_definition Declared = refl
@@ -165,7 +165,7 @@ lines_are p =
     ∙ ap (lines_onto s) (lines_append d (o ++ f) []
     ∙ ap (lines_onto d) (lines_append o f []))))
 
-pub lines_back : (p : Program) (n : ℕ) → IsTold p n → read_lines n (lines_onto (program_lines p) []) ≡ Some (map (seen_aggregate p) p.graph.aggs, p.globals)
+pub lines_back : (p : Program) (n : ℕ) → IsTold p n → read_lines p.graph.abi n (lines_onto (program_lines p) []) ≡ Some (map (seen_aggregate p) p.graph.aggs, p.globals)
 lines_back p n is =
     let xs = p.globals in
     let seen = map (seen_aggregate p) p.graph.aggs in
@@ -173,12 +173,12 @@ lines_back p n is =
     let functions = lines_onto (functions_of p xs) [] in
     let objects = lines_onto (objects_of p xs) functions in
     let nothing = headed_declares_nothing functions (functions_headed p n xs is.functions) in
-    ap (read_lines n) (lines_are p)
-    ∙ ap (λ o. option_and_then (λ (r : List SeenAggregate × Lines). option_and_then (read_defined n r.0) (read_declarations (map tag_of r.0) n r.1)) (option_and_then (allowed first_filled) o)) (aggregates_back p n is.enums is.structs (global_lines p xs) is.both_are is.are_enums is.are_structs is.aggregates_low is.tags_differ is.allowed apart.0 apart.1)
-    ∙ ap (λ b. option_and_then (λ (r : List SeenAggregate × Lines). option_and_then (read_defined n r.0) (read_declarations (map tag_of r.0) n r.1)) (cond b (Some (seen, global_lines p xs)) None)) is.filled
-    ∙ ap (λ ts. option_and_then (read_defined n seen) (read_declarations ts n (global_lines p xs))) (tags_seen p p.graph.aggs)
-    ∙ ap (option_and_then (read_defined n seen)) (declarations_back p n xs objects is.globals_low is.declared (objects_declare_nothing p n xs functions is.objects nothing.0))
-    ∙ ap (λ b. cond b (option_and_then (λ (o : Definitions × Lines). option_and_then (seen_end seen (map declaration_of xs) o.0) (read_bodies (env_from seen (map declaration_of xs)) n (map declaration_of xs) o.1)) (read_objects (env_from seen (map declaration_of xs)) n (map declaration_of xs) objects)) None) (ap are_different (names_declared xs) ∙ is.names_differ)
+    ap (read_lines p.graph.abi n) (lines_are p)
+    ∙ ap (λ o. option_and_then (λ (r : List SeenAggregate × Lines). option_and_then (read_defined p.graph.abi n r.0) (read_declarations (bases_from p.graph.abi r.0) n r.1)) (option_and_then (allowed first_filled) o)) (aggregates_back p n is.enums is.structs (global_lines p xs) is.both_are is.are_enums is.are_structs is.aggregates_low is.tags_differ is.allowed apart.0 apart.1)
+    ∙ ap (λ b. option_and_then (λ (r : List SeenAggregate × Lines). option_and_then (read_defined p.graph.abi n r.0) (read_declarations (bases_from p.graph.abi r.0) n r.1)) (cond b (Some (seen, global_lines p xs)) None)) is.filled
+    ∙ ap (λ (ts : List (List ℕ)). option_and_then (read_defined p.graph.abi n seen) (read_declarations (record { abi = p.graph.abi; tags = ts }) n (global_lines p xs))) (tags_seen p p.graph.aggs)
+    ∙ ap (option_and_then (read_defined p.graph.abi n seen)) (declarations_back p n xs objects is.globals_low is.declared (objects_declare_nothing p n xs functions is.objects nothing.0))
+    ∙ ap (λ b. cond b (option_and_then (λ (o : Definitions × Lines). option_and_then (seen_end seen (map declaration_of xs) o.0) (read_bodies (env_from p.graph.abi seen (map declaration_of xs)) n (map declaration_of xs) o.1)) (read_objects (env_from p.graph.abi seen (map declaration_of xs)) n (map declaration_of xs) objects)) None) (ap are_different (names_declared xs) ∙ is.names_differ)
     ∙ ap (λ (env : Env). option_and_then (λ (o : Definitions × Lines). option_and_then (seen_end seen (map declaration_of xs) o.0) (read_bodies env n (map declaration_of xs) o.1)) (read_objects env n (map declaration_of xs) objects)) (env_seen p is.declared)
     ∙ ap (option_and_then (λ (o : Definitions × Lines). option_and_then (seen_end seen (map declaration_of xs) o.0) (read_bodies (known_of p []) n (map declaration_of xs) o.1))) (objects_back p n xs functions is.objects is.names_differ nothing.1)
     ∙ ap (option_and_then (seen_end seen (map declaration_of xs) (objects_told xs))) (bodies_back p n xs is.functions is.names_differ)

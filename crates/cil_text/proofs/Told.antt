@@ -2,12 +2,13 @@
 use Rattle.std.proofs.Common.{◌≡◌, ℕ, ◌<◌, ◌^◌, ◌-◌, ◌&&◌, not, true, false, List, [], ◌∷◌, ◌++◌, codes, Option, Some, None, refl, sym, ap, ◌∙◌, subst, arith, leb-true}
 use Rattle.std.specs.Prelude.{pos, int_le}
 use Rattle.std.specs.Option.{option_and_then}
+use Rattle.cil_base.specs.declared.kinds.Abi.{Abi}
 use Rattle.cil_base.specs.declared.kinds.IntKind.{IntKind}
 use Rattle.cil_base.specs.declared.kinds.IntKind.TheVariants as kind
 use Rattle.cil_base.specs.declared.operators.UnOp.{UnOp}
 use Rattle.cil_base.specs.declared.operators.UnOp.TheVariants.{Neg, Compl, Not}
 use Rattle.cil_base.specs.declared.operators.BinOp.TheVariants.{Mul, And}
-use Rattle.cil_base.specs.Integer.{has_kind, least, greatest}
+use Rattle.cil_base.specs.Integer.{has_kind, least, greatest, kind_in}
 use Rattle.cil_base.specs.Arithmetic.{fits}
 use Rattle.cil_base.specs.Operators.{operator_spelling}
 use Rattle.type_graph.specs.Shapes.{Shape, IntType}
@@ -18,7 +19,8 @@ use Rattle.cil_tree.specs.Lines.{Token}
 use Rattle.cil_tree.specs.Declarators.{in_parentheses, type_tokens}
 use Rattle.cil_tree.specs.Names.{is_name}
 use Rattle.cil_tree.specs.Text.{name_in, global_name, local_name, unary_spelling, exp_tokens, host_tokens, offset_tokens, place_tokens}
-use Rattle.cil_text.specs.Words.{Word, LeftParen, RightParen, LeftBracket, RightBracket, Dot, Operator, Number, Name, word_of, onto}
+use Rattle.cil_base.proofs.KindLaws.{long_is, ulong_is, long4_is, ulong4_is}
+use Rattle.cil_text.specs.Words.{Word, LeftParen, RightParen, LeftBracket, RightBracket, Dot, Operator, Name, word_of, onto}
 use Rattle.cil_text.specs.ReadExps.{find_named, name_at, type_of_named, fields, host_named, is_array_type, type_at_host}
 use Rattle.cil_text.specs.Known.{env_of}
 use Rattle.cil_text.proofs.WordsBack.{onto_append, both, denied, name_word, digits_word, suffix_kind, operator_word}
@@ -46,25 +48,29 @@ value_is_small k v = elim k as (λ x. int_le (pos v) (greatest x) ≡ true → v
   | kind.ULong ↦ (λ e. below_greatest v (2 ^ 64 - 1) e (omega arith))
   | kind.LLong ↦ (λ e. below_greatest v (2 ^ 63 - 1) e (omega arith))
   | kind.ULLong ↦ (λ e. below_greatest v (2 ^ 64 - 1) e (omega arith))
+  | kind.Long4 ↦ (λ e. below_greatest v (2 ^ 31 - 1) e (omega arith))
+  | kind.ULong4 ↦ (λ e. below_greatest v (2 ^ 32 - 1) e (omega arith))
 ]
 
 pub fits_small : (k : IntKind) (v : ℕ) → fits k (pos v) ≡ true → v < 2 ^ 64
 fits_small k v e = value_is_small k v (both (int_le (least k) (pos v)) (int_le (pos v) (greatest k)) e).1
 
-pub wide_suffix : (k : IntKind) → is_wide k ≡ true → suffix_kind k ≡ k
-wide_suffix k = elim k as (λ x. is_wide x ≡ true → suffix_kind x ≡ x) [
-  | kind.Bool ↦ (λ e. absurd (cc e))
-  | kind.Char ↦ (λ e. absurd (cc e))
-  | kind.SChar ↦ (λ e. absurd (cc e))
-  | kind.UChar ↦ (λ e. absurd (cc e))
-  | kind.Short ↦ (λ e. absurd (cc e))
-  | kind.UShort ↦ (λ e. absurd (cc e))
-  | kind.Int ↦ (λ e. refl)
-  | kind.UInt ↦ (λ e. refl)
-  | kind.Long ↦ (λ e. refl)
-  | kind.ULong ↦ (λ e. refl)
-  | kind.LLong ↦ (λ e. refl)
-  | kind.ULLong ↦ (λ e. refl)
+pub wide_suffix : (abi : Abi) (k : IntKind) → is_wide k ≡ true → has_kind abi k ≡ true → kind_in abi (suffix_kind k) ≡ k
+wide_suffix abi k = elim k as (λ x. is_wide x ≡ true → has_kind abi x ≡ true → kind_in abi (suffix_kind x) ≡ x) [
+  | kind.Bool ↦ (λ e h. absurd (cc e))
+  | kind.Char ↦ (λ e h. absurd (cc e))
+  | kind.SChar ↦ (λ e h. absurd (cc e))
+  | kind.UChar ↦ (λ e h. absurd (cc e))
+  | kind.Short ↦ (λ e h. absurd (cc e))
+  | kind.UShort ↦ (λ e h. absurd (cc e))
+  | kind.Int ↦ (λ e h. refl)
+  | kind.UInt ↦ (λ e h. refl)
+  | kind.Long ↦ (λ e h. long_is abi h)
+  | kind.ULong ↦ (λ e h. ulong_is abi h)
+  | kind.LLong ↦ (λ e h. refl)
+  | kind.ULLong ↦ (λ e h. refl)
+  | kind.Long4 ↦ (λ e h. long4_is abi h)
+  | kind.ULong4 ↦ (λ e h. ulong4_is abi h)
 ]
 
 -- names are found, and are told apart from other words
@@ -135,7 +141,7 @@ mutual
       let h = test_some (is_wide k && (has_kind c.program.graph.abi k && fits k (pos v))) (IntType k) t e in
       let w = both (is_wide k) (has_kind c.program.graph.abi k && fits k (pos v)) h.0 in
       let f = both (has_kind c.program.graph.abi k) (fits k (pos v)) w.1 in
-      ((λ rest. ap (λ (x : Word). x ∷ rest) (digits_word k v (fits_small k v f.1) ∙ ap (λ (x : IntKind). Number x v) (wide_suffix k w.0))), tt, (digits_clean k v (fits_small k v f.1), tt))
+      ((λ rest. ap (λ (x : Word). x ∷ rest) (digits_word k v (fits_small k v f.1))), wide_suffix c.program.graph.abi k w.0 f.0, (digits_clean k v (fits_small k v f.1), tt))
   exp_told c scope (Value place) t cast e =
       let h = bound_some (read_type c) (place_type c place) t e in
       let told = place_told c scope place h.0 cast h.1 in

@@ -3,6 +3,7 @@ use Rattle.std.proofs.Common.{◌≡◌, ℕ, ◌<◌, ◌^◌, ◌||◌, Bool, 
 use Rattle.cil_base.specs.declared.kinds.IntKind.{IntKind}
 use Rattle.cil_base.specs.declared.kinds.IntKind.TheVariants as kind
 use Rattle.cil_base.specs.declared.operators.BinOp.TheVariants.{Mul}
+use Rattle.cil_base.specs.Integer.{has_kind}
 use Rattle.type_graph.specs.declared.aggregates.AggKind.{AggKind}
 use Rattle.type_graph.specs.declared.aggregates.AggKind.TheVariants.{Struct, Union, Enum}
 use Rattle.type_graph.specs.declared.aggregates.Aggregate.{Aggregate}
@@ -32,6 +33,8 @@ kind_spelled kind.Long rest = LongWord ∷ rest
 kind_spelled kind.ULong rest = UnsignedWord ∷ LongWord ∷ rest
 kind_spelled kind.LLong rest = LongWord ∷ LongWord ∷ rest
 kind_spelled kind.ULLong rest = UnsignedWord ∷ LongWord ∷ LongWord ∷ rest
+kind_spelled kind.Long4 rest = LongWord ∷ rest
+kind_spelled kind.ULong4 rest = UnsignedWord ∷ LongWord ∷ rest
 
 abbrev pub tag_spelled : Program → Option Aggregate → List Word → List Word
 tag_spelled p None rest = rest
@@ -95,7 +98,7 @@ nonempty (t ∷ ts) = true
 
 kind_tokens : (k : IntKind) (inner : List Token) (rest : List Word) → onto (kind_words k ++ inner) rest ≡ kind_spelled k (onto inner rest)
 unfolding word_of
-kind_tokens k inner rest = elim k as (λ v. onto (kind_words v ++ inner) rest ≡ kind_spelled v (onto inner rest)) [ kind.Bool ↦ refl | kind.Char ↦ refl | kind.SChar ↦ refl | kind.UChar ↦ refl | kind.Short ↦ refl | kind.UShort ↦ refl | kind.Int ↦ refl | kind.UInt ↦ refl | kind.Long ↦ refl | kind.ULong ↦ refl | kind.LLong ↦ refl | kind.ULLong ↦ refl ]
+kind_tokens k inner rest = elim k as (λ v. onto (kind_words v ++ inner) rest ≡ kind_spelled v (onto inner rest)) [ kind.Bool ↦ refl | kind.Char ↦ refl | kind.SChar ↦ refl | kind.UChar ↦ refl | kind.Short ↦ refl | kind.UShort ↦ refl | kind.Int ↦ refl | kind.UInt ↦ refl | kind.Long ↦ refl | kind.ULong ↦ refl | kind.LLong ↦ refl | kind.ULLong ↦ refl | kind.Long4 ↦ refl | kind.ULong4 ↦ refl ]
 
 pub keyword_word : (k : AggKind) → word_of (keyword_of k) ≡ TagWord k
 unfolding word_of
@@ -120,7 +123,7 @@ bound_words None rest = refl
 bound_words (Some n) rest = refl
 
 pub kind_nonempty : (k : IntKind) (inner : List Token) → nonempty (kind_words k ++ inner) ≡ true
-kind_nonempty k inner = elim k as (λ v. nonempty (kind_words v ++ inner) ≡ true) [ kind.Bool ↦ refl | kind.Char ↦ refl | kind.SChar ↦ refl | kind.UChar ↦ refl | kind.Short ↦ refl | kind.UShort ↦ refl | kind.Int ↦ refl | kind.UInt ↦ refl | kind.Long ↦ refl | kind.ULong ↦ refl | kind.LLong ↦ refl | kind.ULLong ↦ refl ]
+kind_nonempty k inner = elim k as (λ v. nonempty (kind_words v ++ inner) ≡ true) [ kind.Bool ↦ refl | kind.Char ↦ refl | kind.SChar ↦ refl | kind.UChar ↦ refl | kind.Short ↦ refl | kind.UShort ↦ refl | kind.Int ↦ refl | kind.UInt ↦ refl | kind.Long ↦ refl | kind.ULong ↦ refl | kind.LLong ↦ refl | kind.ULLong ↦ refl | kind.Long4 ↦ refl | kind.ULong4 ↦ refl ]
 
 -- the aggregate has a tag that is a name, and is the first with it
 abbrev pub IsTagged : Program → ℕ → Type 0
@@ -134,7 +137,7 @@ abbrev mutual
   -- a type that a declaration can spell
   pub IsShape : Program → Shape → Type 0
   IsShape p VoidType = Unit {0}
-  IsShape p (IntType k) = Unit {0}
+  IsShape p (IntType k) = has_kind p.graph.abi k ≡ true
   IsShape p (PtrType q s) = (q ≡ unqualified) × IsShape p s
   IsShape p (ArrayType q s bound) = (q ≡ unqualified) × IsBound bound × IsShape p s
   IsShape p (FuncType ret params proto variadic) = IsShape p ret × AreShapes p params × (are_parameters params ≡ true) × (prototype_fits (FuncType ret params proto variadic) ≡ true)

@@ -58,6 +58,8 @@ kind_skipped scan s k rest =
       | kind.ULong ↦ two UnsignedWord LongWord refl refl
       | kind.LLong ↦ two LongWord LongWord refl refl
       | kind.ULLong ↦ s.word UnsignedWord (LongWord ∷ LongWord ∷ rest) refl ∙ two LongWord LongWord refl refl
+      | kind.Long4 ↦ one LongWord refl
+      | kind.ULong4 ↦ two UnsignedWord LongWord refl refl
     ]
 
 tag_skipped : {A : Type 0} (scan : List Word → A) → Skips A scan → (p : Program) (o : Option Aggregate) (x : Aggregate) (rest : List Word) → o ≡ Some x → is_name (tag_text p x) ≡ true → scan (tag_spelled p o rest) ≡ scan rest

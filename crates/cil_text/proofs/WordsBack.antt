@@ -69,17 +69,19 @@ name_word text is =
 
 -- numbers
 
--- the kind that a constant with the kind's suffix has (C11 6.4.4.1)
+-- the kind that a word with the kind's suffix has (C11 6.4.4.1)
 abbrev pub suffix_kind : IntKind → IntKind
 suffix_kind kind.UInt = kind.UInt
 suffix_kind kind.Long = kind.Long
 suffix_kind kind.ULong = kind.ULong
 suffix_kind kind.LLong = kind.LLong
 suffix_kind kind.ULLong = kind.ULLong
+suffix_kind kind.Long4 = kind.Long
+suffix_kind kind.ULong4 = kind.ULong
 suffix_kind _ = kind.Int
 
 suffix_back : (n : ℕ) (k : IntKind) → number_from n (suffix_of k) ≡ Number (suffix_kind k) n
-suffix_back n k = elim k as (λ v. number_from n (suffix_of v) ≡ Number (suffix_kind v) n) [ kind.Bool ↦ refl | kind.Char ↦ refl | kind.SChar ↦ refl | kind.UChar ↦ refl | kind.Short ↦ refl | kind.UShort ↦ refl | kind.Int ↦ refl | kind.UInt ↦ refl | kind.Long ↦ refl | kind.ULong ↦ refl | kind.LLong ↦ refl | kind.ULLong ↦ refl ]
+suffix_back n k = elim k as (λ v. number_from n (suffix_of v) ≡ Number (suffix_kind v) n) [ kind.Bool ↦ refl | kind.Char ↦ refl | kind.SChar ↦ refl | kind.UChar ↦ refl | kind.Short ↦ refl | kind.UShort ↦ refl | kind.Int ↦ refl | kind.UInt ↦ refl | kind.Long ↦ refl | kind.ULong ↦ refl | kind.LLong ↦ refl | kind.ULLong ↦ refl | kind.Long4 ↦ refl | kind.ULong4 ↦ refl ]
 
 -- the number whose digits follow those of n
 abbrev followed : ℕ → List ℕ → ℕ

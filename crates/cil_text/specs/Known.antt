@@ -7,6 +7,7 @@ use Rattle.cil_tree.specs.Tree.{Local, GlobalDecl, Program}
 use Rattle.cil_tree.specs.Typing.{Scope, is_enum}
 use Rattle.cil_tree.specs.Text.{member_name}
 use Rattle.cil_tree.specs.Names.{tags}
+use Rattle.cil_text.specs.ReadTypes.{Bases}
 use Rattle.cil_text.specs.ReadExps.{Env}
 
 abbrev pub known_member : Program → Member → Local
@@ -19,8 +20,12 @@ known_members p x = if is_enum x.kind then [] else elim x.members [ None ↦ [] 
 abbrev pub known_global : GlobalDecl → Local
 known_global x = record { name = x.name; type = x.type }
 
+abbrev pub bases_of : Program → Bases
+bases_of p = record { abi = p.graph.abi; tags = tags p }
+
 abbrev pub known_of : Program → List Local → Env
 known_of p locals = record {
+  abi = p.graph.abi;
   tags = tags p;
   members = map (known_members p) p.graph.aggs;
   globals = map known_global p.globals;

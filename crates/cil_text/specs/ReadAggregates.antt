@@ -3,6 +3,7 @@ use Rattle.std.specs.Prelude.{ℕ, suc, zero, ◌&&◌, Bool, true, false, if◌
 use Rattle.std.specs.List.{list_all}
 use Rattle.std.specs.Option.{option_map, option_and_then}
 use Rattle.std.specs.Str.{bytes_eq}
+use Rattle.cil_base.specs.declared.kinds.Abi.{Abi}
 use Rattle.cil_base.specs.declared.kinds.IntKind.TheVariants.{Int as int}
 use Rattle.cil_base.specs.Arithmetic.{fits}
 use Rattle.type_graph.specs.declared.aggregates.AggKind.{AggKind}
@@ -13,7 +14,7 @@ use Rattle.cil_tree.specs.Names.{are_different}
 use Rattle.cil_tree.specs.Programs.{SeenMember, SeenAggregate}
 use Rattle.cil_text.specs.Allowed.{allowed, stand_well, is_filled}
 use Rattle.cil_text.specs.Words.{Word, LeftBrace, RightBrace, Comma, Semicolon, Assign, TagWord, Name}
-use Rattle.cil_text.specs.ReadTypes.{Named, read_decl}
+use Rattle.cil_text.specs.ReadTypes.{Bases, Named, read_decl}
 use Rattle.cil_text.specs.ReadStmts.{Numbered, read_number}
 
 abbrev pub Lines : Type 0
@@ -37,8 +38,8 @@ abbrev pub member_at : Named × List Word → Option SeenMember
 member_at ((s, Some name), Semicolon ∷ []) = Some (record { name = name; type = s; value = pos 0 })
 member_at _ = None
 
-abbrev pub read_member : List (List ℕ) → ℕ → List Word → Option SeenMember
-read_member tags n ws = option_and_then member_at (read_decl tags n ws)
+abbrev pub read_member : Bases → ℕ → List Word → Option SeenMember
+read_member bases n ws = option_and_then member_at (read_decl bases n ws)
 
 abbrev pub member_first : SeenMember → List SeenMember × Lines → List SeenMember × Lines
 member_first m r = (m ∷ r.0, r.1)
@@ -119,8 +120,11 @@ all_tags enums xs = map tag_of enums ++ map tag_text_of xs
 abbrev pub with_enums : List SeenAggregate → List SeenAggregate × Lines → List SeenAggregate × Lines
 with_enums enums r = (enums ++ r.0, r.1)
 
-abbrev pub structs_from : ℕ → List SeenAggregate → List Tag × Lines → LinesReading (List SeenAggregate)
-structs_from n enums t = option_map (with_enums enums) (read_structs (read_member (all_tags enums t.0) n) t.0 t.1)
+abbrev pub all_bases : Abi → List SeenAggregate → List Tag → Bases
+all_bases abi enums xs = record { abi = abi; tags = all_tags enums xs }
+
+abbrev pub structs_from : Abi → ℕ → List SeenAggregate → List Tag × Lines → LinesReading (List SeenAggregate)
+structs_from abi n enums t = option_map (with_enums enums) (read_structs (read_member (all_bases abi enums t.0) n) t.0 t.1)
 
 -- tags differ (C11 6.2.3), and each aggregate's members may be where it stands
 abbrev pub aggregates_allowed : List SeenAggregate → Bool
@@ -130,12 +134,12 @@ abbrev pub first_allowed : List SeenAggregate × Lines → Bool
 first_allowed r = aggregates_allowed r.0
 
 -- aggregates that may stand as they do, and the lines behind them
-abbrev pub read_placed : ℕ → Lines → LinesReading (List SeenAggregate)
-read_placed n lines = option_and_then (allowed first_allowed) (option_and_then (λ (r : List SeenAggregate × Lines). structs_from n r.0 (read_tags r.1)) (read_enums n lines))
+abbrev pub read_placed : Abi → ℕ → Lines → LinesReading (List SeenAggregate)
+read_placed abi n lines = option_and_then (allowed first_allowed) (option_and_then (λ (r : List SeenAggregate × Lines). structs_from abi n r.0 (read_tags r.1)) (read_enums n lines))
 
 abbrev pub first_filled : List SeenAggregate × Lines → Bool
 first_filled r = list_all is_filled r.0
 
 -- all aggregates, and the lines behind them
-abbrev pub read_aggregates : ℕ → Lines → LinesReading (List SeenAggregate)
-read_aggregates n lines = option_and_then (allowed first_filled) (read_placed n lines)
+abbrev pub read_aggregates : Abi → ℕ → Lines → LinesReading (List SeenAggregate)
+read_aggregates abi n lines = option_and_then (allowed first_filled) (read_placed abi n lines)

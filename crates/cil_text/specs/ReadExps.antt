@@ -1,6 +1,8 @@
 -- Device: the executable reading of CIL's expressions and lvalues (C11 6.5) from words. Types of places are known while it reads: a place of array type is an array's start, and a member is found in the type of the place before it.
 use Rattle.std.specs.Prelude.{ℕ, suc, zero, Bool, true, false, if◌then◌else◌, List, [], ◌∷◌, Option, Some, None, map, slice_get}
 use Rattle.std.specs.Option.{option_map, option_and_then}
+use Rattle.cil_base.specs.declared.kinds.Abi.{Abi}
+use Rattle.cil_base.specs.Integer.{kind_in}
 use Rattle.cil_base.specs.declared.operators.BinOp.{BinOp}
 use Rattle.cil_base.specs.declared.operators.BinOp.TheVariants.{Mul, Add, Sub, And}
 use Rattle.cil_base.specs.declared.operators.UnOp.TheVariants.{Neg, Compl, Not}
@@ -9,14 +11,19 @@ use Rattle.cil_tree.specs.Tree.{Exp, Const, Value, Un, Bin, Cast, AddrOf, StartO
 use Rattle.cil_tree.specs.Typing.{is_array, pointed, element_of}
 use Rattle.cil_tree.specs.Names.{local_name_of}
 use Rattle.cil_text.specs.Words.{Word, LeftParen, LeftBracket, RightBracket, Dot, Tilde, Bang, Operator, VoidWord, BoolWord, CharWord, ShortWord, IntWord, LongWord, SignedWord, UnsignedWord, TagWord, Number, Name}
-use Rattle.cil_text.specs.ReadTypes.{Reading, find, skip_one, closed, Named, read_decl}
+use Rattle.cil_text.specs.ReadTypes.{Reading, Bases, find, skip_one, closed, Named, read_decl}
 
--- what is known while a function is read: tags and members of aggregates by their numbers, globals and locals with their types
+-- what is known while a function is read: the data model, tags and members of aggregates by their numbers, globals and locals with their types
 pub record Env : Type 0 where
+  pub abi : Abi
   pub tags : List (List ℕ)
   pub members : List (List Local)
   pub globals : List Local
   pub locals : List Local
+
+-- what base words are read by
+abbrev pub bases : Env → Bases
+bases env = record { abi = env.abi; tags = env.tags }
 
 -- the place of the first that has the name
 abbrev pub find_named : List ℕ → List Local → Option ℕ
@@ -194,7 +201,7 @@ read_formed env exp decl k Converted ws = read_cast exp decl (skip_one ws)
 read_formed env exp decl k Combined ws = read_binary exp ws
 
 abbrev pub exp_from : Env → (List Word → Reading Exp) → (List Word → Reading Named) → ℕ → List Word → Reading Exp
-exp_from env exp decl k (Number kind n ∷ ws) = Some (Const kind n, ws)
+exp_from env exp decl k (Number kind n ∷ ws) = Some (Const (kind_in env.abi kind) n, ws)
 exp_from env exp decl k (Name name ∷ ws) = read_chosen env exp k (Name name ∷ ws)
 exp_from env exp decl k (LeftParen ∷ ws) = read_formed env exp decl k (form_of ws) ws
 exp_from env exp decl k _ = None
@@ -202,4 +209,4 @@ exp_from env exp decl k _ = None
 -- an expression; what stands within it is read with one unit of fuel less
 abbrev pub read_exp : Env → ℕ → List Word → Reading Exp
 read_exp env zero ws = None
-read_exp env (suc n) ws = exp_from env (read_exp env n) (read_decl env.tags n) n ws
+read_exp env (suc n) ws = exp_from env (read_exp env n) (read_decl (bases env) n) n ws

@@ -2,14 +2,15 @@
 use Rattle.std.specs.Prelude.{ℕ, suc, zero, ◌&&◌, not, Bool, true, false, if◌then◌else◌, List, [], ◌∷◌, ◌++◌, Option, Some, None, map}
 use Rattle.std.specs.Option.{option_map, option_and_then}
 use Rattle.std.specs.Str.{bytes_eq}
+use Rattle.cil_base.specs.declared.kinds.Abi.{Abi}
 use Rattle.type_graph.specs.Shapes.{Shape, Shapes, FuncType, NoTypes, MoreTypes}
 use Rattle.cil_tree.specs.Tree.{Stmts, Item, Local, Body, Definition, Declared, Zeros, Image, Function, GlobalDecl}
 use Rattle.cil_tree.specs.Typing.{same_shape, is_function, is_enum}
 use Rattle.cil_tree.specs.Names.{are_different, local_name_of}
 use Rattle.cil_tree.specs.Programs.{SeenMember, SeenAggregate}
 use Rattle.cil_text.specs.Words.{Word, LeftParen, LeftBrace, Semicolon, Assign, TagWord, ExternWord, StaticWord, Name}
-use Rattle.cil_text.specs.ReadTypes.{Named, read_decl}
-use Rattle.cil_text.specs.ReadExps.{Env, is_base}
+use Rattle.cil_text.specs.ReadTypes.{Bases, Named, read_decl}
+use Rattle.cil_text.specs.ReadExps.{Env, bases, is_base}
 use Rattle.cil_text.specs.ReadStmts.{Head, is_label, label_text, read_heads, read_nested}
 use Rattle.cil_text.specs.ReadImages.{read_image}
 use Rattle.cil_text.specs.ReadAggregates.{Lines, LinesReading, is_close, tag_of, read_aggregates}
@@ -84,19 +85,19 @@ declared_with internal _ = None
 abbrev pub only_function : Declaration → Option Declaration
 only_function d = if is_function d.type then Some d else None
 
-abbrev pub declaration_from : List (List ℕ) → ℕ → List Word → Option Declaration
-declaration_from tags n (ExternWord ∷ ws) = option_and_then (declared_with false) (read_decl tags n ws)
-declaration_from tags n (StaticWord ∷ ws) = option_and_then (declared_with true) (read_decl tags n ws)
-declaration_from tags n ws = option_and_then only_function (option_and_then (declared_with false) (read_decl tags n ws))
+abbrev pub declaration_from : Bases → ℕ → List Word → Option Declaration
+declaration_from bases n (ExternWord ∷ ws) = option_and_then (declared_with false) (read_decl bases n ws)
+declaration_from bases n (StaticWord ∷ ws) = option_and_then (declared_with true) (read_decl bases n ws)
+declaration_from bases n ws = option_and_then only_function (option_and_then (declared_with false) (read_decl bases n ws))
 
 abbrev pub declaration_first : Declaration → List Declaration × Lines → List Declaration × Lines
 declaration_first d r = (d ∷ r.0, r.1)
 
-abbrev pub read_declarations : List (List ℕ) → ℕ → Lines → LinesReading (List Declaration)
-read_declarations tags n [] = Some ([], [])
-read_declarations tags n (line ∷ lines) =
+abbrev pub read_declarations : Bases → ℕ → Lines → LinesReading (List Declaration)
+read_declarations bases n [] = Some ([], [])
+read_declarations bases n (line ∷ lines) =
     if declares line
-    then option_and_then (λ (d : Declaration). option_map (declaration_first d) (read_declarations tags n lines)) (declaration_from tags n line)
+    then option_and_then (λ (d : Declaration). option_map (declaration_first d) (read_declarations bases n lines)) (declaration_from bases n line)
     else Some ([], line ∷ lines)
 
 -- objects that are defined
@@ -123,7 +124,7 @@ abbrev pub object_defined : Env → ℕ → Declaration → Named × List Word �
 object_defined env n d r = if same_shape r.0.0 d.type then defined_by env n d.type r.1 else None
 
 abbrev pub own_definition : Env → ℕ → Declaration → List Word → Option Definition
-own_definition env n d line = option_and_then (object_defined env n d) (read_decl env.tags n (without_static line))
+own_definition env n d line = option_and_then (object_defined env n d) (read_decl (bases env) n (without_static line))
 
 -- what a global is that no later line defines
 abbrev pub default_of : Declaration → Definition
@@ -194,11 +195,11 @@ abbrev pub local_first : Local → List Local × Lines → List Local × Lines
 local_first x r = (x ∷ r.0, r.1)
 
 -- locals that are no parameters
-abbrev pub read_locals : List (List ℕ) → ℕ → Lines → LinesReading (List Local)
-read_locals tags n [] = Some ([], [])
-read_locals tags n (line ∷ lines) =
+abbrev pub read_locals : Bases → ℕ → Lines → LinesReading (List Local)
+read_locals bases n [] = Some ([], [])
+read_locals bases n (line ∷ lines) =
     if is_base line
-    then option_and_then (λ (x : Local). option_map (local_first x) (read_locals tags n lines)) (option_and_then local_of (read_decl tags n line))
+    then option_and_then (λ (x : Local). option_map (local_first x) (read_locals bases n lines)) (option_and_then local_of (read_decl bases n line))
     else Some ([], line ∷ lines)
 
 abbrev pub params_of : Shape → Shapes
@@ -227,7 +228,7 @@ read_stmts env n params locals lines =
     option_and_then (body_with params locals (labels_in lines)) (option_and_then (read_nested n) (read_heads (record env { locals = locals }) (labels_in lines) n lines))
 
 abbrev pub read_body : Env → ℕ → Shape → List (List ℕ) → Lines → Option Body
-read_body env n type params lines = option_and_then (λ (l : List Local × Lines). read_stmts env n params (param_locals (params_of type) params ++ l.0) l.1) (read_locals env.tags n lines)
+read_body env n type params lines = option_and_then (λ (l : List Local × Lines). read_stmts env n params (param_locals (params_of type) params ++ l.0) l.1) (read_locals (bases env) n lines)
 
 abbrev pub Bodies : Type 0
 Bodies = List (Option Body)
@@ -255,8 +256,12 @@ seen_fields x = if is_enum x.kind then [] else elim x.members [ None ↦ [] | So
 abbrev pub declared_local : Declaration → Local
 declared_local d = record { name = d.name; type = Some d.type }
 
-abbrev pub env_from : List SeenAggregate → List Declaration → Env
-env_from xs ds = record { tags = map tag_of xs; members = map seen_fields xs; globals = map declared_local ds; locals = [] }
+-- what base words are read by, behind the aggregates
+abbrev pub bases_from : Abi → List SeenAggregate → Bases
+bases_from abi xs = record { abi = abi; tags = map tag_of xs }
+
+abbrev pub env_from : Abi → List SeenAggregate → List Declaration → Env
+env_from abi xs ds = record { abi = abi; tags = map tag_of xs; members = map seen_fields xs; globals = map declared_local ds; locals = [] }
 
 abbrev pub definition_with : Definition → Option Body → Definition
 definition_with x None = x
@@ -278,12 +283,12 @@ abbrev pub declared_name : Declaration → List ℕ
 declared_name d = d.name
 
 -- behind declarations, whose names differ (C11 6.2.1p4)
-abbrev pub read_defined : ℕ → List SeenAggregate → List Declaration × Lines → Option Seen
-read_defined n xs r =
+abbrev pub read_defined : Abi → ℕ → List SeenAggregate → List Declaration × Lines → Option Seen
+read_defined abi n xs r =
     if are_different (map declared_name r.0)
-    then option_and_then (λ (o : Definitions × Lines). option_and_then (seen_end xs r.0 o.0) (read_bodies (env_from xs r.0) n r.0 o.1)) (read_objects (env_from xs r.0) n r.0 r.1)
+    then option_and_then (λ (o : Definitions × Lines). option_and_then (seen_end xs r.0 o.0) (read_bodies (env_from abi xs r.0) n r.0 o.1)) (read_objects (env_from abi xs r.0) n r.0 r.1)
     else None
 
 -- the lines of a text; n bounds the depth of what is read
-abbrev pub read_lines : ℕ → Lines → Option Seen
-read_lines n lines = option_and_then (λ (r : List SeenAggregate × Lines). option_and_then (read_defined n r.0) (read_declarations (map tag_of r.0) n r.1)) (read_aggregates n lines)
+abbrev pub read_lines : Abi → ℕ → Lines → Option Seen
+read_lines abi n lines = option_and_then (λ (r : List SeenAggregate × Lines). option_and_then (read_defined abi n r.0) (read_declarations (bases_from abi r.0) n r.1)) (read_aggregates abi n lines)

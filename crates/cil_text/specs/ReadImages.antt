@@ -3,8 +3,10 @@ use Rattle.std.specs.Prelude.{ℕ, suc, zero, Bool, true, false, if◌then◌els
 use Rattle.std.specs.Option.{option_map, option_and_then}
 use Rattle.cil_base.specs.declared.constants.Constant.{Constant}
 use Rattle.cil_base.specs.declared.constants.Constant.TheVariants.{Int as Integer, Address, Function as Code}
+use Rattle.cil_base.specs.declared.kinds.Abi.{Abi}
 use Rattle.cil_base.specs.declared.kinds.IntKind.{IntKind}
-use Rattle.cil_base.specs.declared.kinds.IntKind.TheVariants.{Int as int, Long}
+use Rattle.cil_base.specs.declared.kinds.IntKind.TheVariants.{Int as int}
+use Rattle.cil_base.specs.Integer.{long_of, kind_in}
 use Rattle.cil_base.specs.Arithmetic.{fits}
 use Rattle.cil_base.specs.declared.operators.BinOp.TheVariants.{Mul, Add, And}
 use Rattle.type_graph.specs.Shapes.{Shape, IntType, PtrType, AggType}
@@ -12,7 +14,7 @@ use Rattle.cil_tree.specs.Tree.{Host, Global, Step, ToField, ToIndex, Item}
 use Rattle.cil_tree.specs.Typing.{same_shape, element_of}
 use Rattle.cil_text.specs.Words.{Word, LeftParen, RightParen, LeftBracket, RightBracket, LeftBrace, RightBrace, Dot, Comma, Assign, Operator, CharWord, Number, Name}
 use Rattle.cil_text.specs.ReadTypes.{Reading, Named, skip_one, closed, read_decl}
-use Rattle.cil_text.specs.ReadExps.{Env, find_named, type_of_named, fields, host_named, enclosed}
+use Rattle.cil_text.specs.ReadExps.{Env, bases, find_named, type_of_named, fields, host_named, enclosed}
 use Rattle.cil_text.specs.ReadStmts.{Numbered, read_number}
 
 -- a path, and the type of the place that it leads to
@@ -33,8 +35,8 @@ read_path env (suc k) s _ = None
 abbrev pub integer_of : IntKind → Numbered × List Word → Constant × List Word
 integer_of kind r = (Integer kind r.0.1, r.1)
 
-abbrev pub integer_as : Numbered × List Word → Constant × List Word
-integer_as r = (Integer r.0.0 r.0.1, r.1)
+abbrev pub integer_as : Abi → Numbered × List Word → Constant × List Word
+integer_as abi r = (Integer (kind_in abi r.0.0) r.0.1, r.1)
 
 abbrev pub only_global : Option Host → Option ℕ
 only_global (Some (Global n)) = Some n
@@ -48,27 +50,27 @@ abbrev pub address_at : ℕ → Numbered → Constant
 address_at n x = Address (record { 0 = n }) x.1
 
 -- an offset from the beginning of an object, and `)`; the offset is one of long
-abbrev pub offset_at : ℕ → Numbered × List Word → Reading Constant
-offset_at n r = if fits Long r.0.1 then closed (address_at n r.0) r.1 else None
+abbrev pub offset_at : Abi → ℕ → Numbered × List Word → Reading Constant
+offset_at abi n r = if fits (long_of abi) r.0.1 then closed (address_at n r.0) r.1 else None
 
 -- `( char * ) & x + n )` behind a `(`
 abbrev pub read_address : Env → List Word → Reading Constant
 read_address env (LeftParen ∷ CharWord ∷ Operator Mul ∷ RightParen ∷ Operator And ∷ Name name ∷ Operator Add ∷ ws) =
-    option_and_then (λ (n : ℕ). option_and_then (offset_at n) (read_number ws)) (only_global (host_named env name))
+    option_and_then (λ (n : ℕ). option_and_then (offset_at env.abi n) (read_number ws)) (only_global (host_named env name))
 read_address env _ = None
 
 -- behind the cast of a pointer
 abbrev pub read_pointer : Env → List Word → Reading Constant
 read_pointer env (LeftParen ∷ ws) = read_address env ws
 read_pointer env (Operator And ∷ ws) = function_named env ws
-read_pointer env ws = option_map integer_as (read_number ws)
+read_pointer env ws = option_map (integer_as env.abi) (read_number ws)
 
 -- behind a cast to a type, which is that of the place
 abbrev pub converted_to : Env → Shape → Shape × List Word → Reading Constant
 converted_to env s r = if same_shape r.0 s then read_pointer env r.1 else None
 
 abbrev pub read_converted : Env → ℕ → Shape → List Word → Reading Constant
-read_converted env n s (LeftParen ∷ ws) = option_and_then (converted_to env s) (enclosed (λ (x : Named). x.0) (read_decl env.tags n ws))
+read_converted env n s (LeftParen ∷ ws) = option_and_then (converted_to env s) (enclosed (λ (x : Named). x.0) (read_decl (bases env) n ws))
 read_converted env n s _ = None
 
 -- the value of a scalar of that type

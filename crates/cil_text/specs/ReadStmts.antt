@@ -2,7 +2,9 @@
 use Rattle.std.specs.Prelude.{ℕ, suc, zero, ◌&&◌, Bool, true, false, if◌then◌else◌, List, [], ◌∷◌, Option, Some, None, codes, ℤ, pos, negsuc}
 use Rattle.std.specs.Option.{option_map, option_and_then}
 use Rattle.std.specs.Str.{bytes_eq}
+use Rattle.cil_base.specs.declared.kinds.Abi.{Abi}
 use Rattle.cil_base.specs.declared.kinds.IntKind.{IntKind}
+use Rattle.cil_base.specs.Integer.{kind_in}
 use Rattle.cil_base.specs.declared.operators.BinOp.TheVariants.{Sub, And}
 use Rattle.cil_tree.specs.Tree.{Exp, Value, Global, At, Here, Lval, Place, Callee, Direct, Through, Instr, Set, Call, Zero, Stmt, Do, If, Switch, Loop, Block, Label, Case, Default, Goto, Break, Return, Stmts, Done, Seq}
 use Rattle.cil_text.specs.Words.{Word, LeftParen, RightParen, LeftBrace, RightBrace, Comma, Semicolon, Colon, Assign, Operator, IfWord, ElseWord, SwitchWord, WhileWord, CaseWord, DefaultWord, GotoWord, BreakWord, ReturnWord, Number, Name}
@@ -129,9 +131,9 @@ returned r = line_end (Return (Some r.0)) r.1
 abbrev pub read_return : Env → ℕ → List Word → Option Head
 read_return env n ws = if is_end_of_line ws then Some (Whole (Return None)) else option_map Whole (option_and_then returned (read_exp env n ws))
 
-abbrev pub case_of : Numbered × List Word → Option Head
-case_of (x, Colon ∷ Semicolon ∷ []) = Some (Whole (Case x.0 x.1))
-case_of _ = None
+abbrev pub case_of : Abi → Numbered × List Word → Option Head
+case_of abi (x, Colon ∷ Semicolon ∷ []) = Some (Whole (Case (kind_in abi x.0) x.1))
+case_of abi _ = None
 
 abbrev pub is_label : List Word → Bool
 is_label (Name name ∷ Colon ∷ ws) = true
@@ -152,7 +154,7 @@ read_head env labels n (WhileWord ∷ ws) = Some Looped
 read_head env labels n (LeftBrace ∷ ws) = Some Opened
 read_head env labels n (RightBrace ∷ ElseWord ∷ ws) = Some Otherwise
 read_head env labels n (RightBrace ∷ ws) = Some Closed
-read_head env labels n (CaseWord ∷ ws) = option_and_then case_of (read_number ws)
+read_head env labels n (CaseWord ∷ ws) = option_and_then (case_of env.abi) (read_number ws)
 read_head env labels n (DefaultWord ∷ ws) = Some (Whole Default)
 read_head env labels n (GotoWord ∷ ws) = option_map (λ (l : ℕ). Whole (Goto l)) (find (label_text ws) labels)
 read_head env labels n (BreakWord ∷ ws) = Some (Whole Break)

@@ -2,9 +2,11 @@
 use Rattle.std.specs.Prelude.{ℕ, suc, zero, Bool, true, false, if◌then◌else◌, List, [], ◌∷◌, Option, Some, None}
 use Rattle.std.specs.Option.{option_map, option_and_then}
 use Rattle.std.specs.Str.{bytes_eq}
+use Rattle.cil_base.specs.declared.kinds.Abi.{Abi}
 use Rattle.cil_base.specs.declared.kinds.IntKind.{IntKind}
 use Rattle.cil_base.specs.declared.kinds.IntKind.TheVariants as kind
 use Rattle.cil_base.specs.declared.operators.BinOp.TheVariants.{Mul}
+use Rattle.cil_base.specs.Integer.{long_of, ulong_of}
 use Rattle.type_graph.specs.Shapes.{Shape, Shapes, VoidType, IntType, PtrType, ArrayType, FuncType, AggType, NoTypes, MoreTypes}
 use Rattle.cil_tree.specs.Typing.{unqualified}
 use Rattle.cil_text.specs.Words.{Word, LeftParen, RightParen, LeftBracket, RightBracket, Comma, Ellipsis, Operator, VoidWord, BoolWord, CharWord, ShortWord, IntWord, LongWord, SignedWord, UnsignedWord, TagWord, Number, Name}
@@ -30,12 +32,12 @@ skip_one (w ∷ ws) = ws
 abbrev pub long_base : IntKind → IntKind → List Word → Shape × List Word
 long_base one two ws = if is_long ws then (IntType two, skip_one ws) else (IntType one, ws)
 
-abbrev pub unsigned_base : List Word → Reading Shape
-unsigned_base (CharWord ∷ ws) = Some (IntType kind.UChar, ws)
-unsigned_base (ShortWord ∷ ws) = Some (IntType kind.UShort, ws)
-unsigned_base (IntWord ∷ ws) = Some (IntType kind.UInt, ws)
-unsigned_base (LongWord ∷ ws) = Some (long_base kind.ULong kind.ULLong ws)
-unsigned_base _ = None
+abbrev pub unsigned_base : Abi → List Word → Reading Shape
+unsigned_base abi (CharWord ∷ ws) = Some (IntType kind.UChar, ws)
+unsigned_base abi (ShortWord ∷ ws) = Some (IntType kind.UShort, ws)
+unsigned_base abi (IntWord ∷ ws) = Some (IntType kind.UInt, ws)
+unsigned_base abi (LongWord ∷ ws) = Some (long_base (ulong_of abi) kind.ULLong ws)
+unsigned_base abi _ = None
 
 abbrev pub signed_base : List Word → Reading Shape
 signed_base (CharWord ∷ ws) = Some (IntType kind.SChar, ws)
@@ -45,18 +47,23 @@ abbrev pub tag_base : List (List ℕ) → List Word → Reading Shape
 tag_base tags (Name tag ∷ ws) = option_map (λ (a : ℕ). (AggType a, ws)) (find tag tags)
 tag_base tags _ = None
 
--- type specifiers (C11 6.7.2), where the aggregates have these tags
-abbrev pub read_base : List (List ℕ) → List Word → Reading Shape
-read_base tags (VoidWord ∷ ws) = Some (VoidType, ws)
-read_base tags (BoolWord ∷ ws) = Some (IntType kind.Bool, ws)
-read_base tags (CharWord ∷ ws) = Some (IntType kind.Char, ws)
-read_base tags (ShortWord ∷ ws) = Some (IntType kind.Short, ws)
-read_base tags (IntWord ∷ ws) = Some (IntType kind.Int, ws)
-read_base tags (LongWord ∷ ws) = Some (long_base kind.Long kind.LLong ws)
-read_base tags (SignedWord ∷ ws) = signed_base ws
-read_base tags (UnsignedWord ∷ ws) = unsigned_base ws
-read_base tags (TagWord kind ∷ ws) = tag_base tags ws
-read_base tags _ = None
+-- what base words are read by: the data model, of which long and unsigned long are kinds, and the tags of the aggregates by their numbers
+pub record Bases : Type 0 where
+  pub abi : Abi
+  pub tags : List (List ℕ)
+
+-- type specifiers (C11 6.7.2)
+abbrev pub read_base : Bases → List Word → Reading Shape
+read_base bases (VoidWord ∷ ws) = Some (VoidType, ws)
+read_base bases (BoolWord ∷ ws) = Some (IntType kind.Bool, ws)
+read_base bases (CharWord ∷ ws) = Some (IntType kind.Char, ws)
+read_base bases (ShortWord ∷ ws) = Some (IntType kind.Short, ws)
+read_base bases (IntWord ∷ ws) = Some (IntType kind.Int, ws)
+read_base bases (LongWord ∷ ws) = Some (long_base (long_of bases.abi) kind.LLong ws)
+read_base bases (SignedWord ∷ ws) = signed_base ws
+read_base bases (UnsignedWord ∷ ws) = unsigned_base bases.abi ws
+read_base bases (TagWord kind ∷ ws) = tag_base bases.tags ws
+read_base bases _ = None
 
 -- what stands before the name: a pointer's `*`, or a parenthesis
 pub data Mark : Type 0 where
@@ -181,6 +188,6 @@ abbrev pub without_name : Named × List Word → Shape × List Word
 without_name r = (r.0.0, r.1)
 
 -- a declaration without storage class, or a type's name; each parameter is read with one unit of fuel less
-abbrev pub read_decl : List (List ℕ) → ℕ → List Word → Reading Named
-read_decl tags zero ws = None
-read_decl tags (suc n) ws = option_and_then (declared_as (λ vs. option_map without_name (read_decl tags n vs)) n) (read_base tags ws)
+abbrev pub read_decl : Bases → ℕ → List Word → Reading Named
+read_decl bases zero ws = None
+read_decl bases (suc n) ws = option_and_then (declared_as (λ vs. option_map without_name (read_decl bases n vs)) n) (read_base bases ws)

@@ -72,7 +72,7 @@ reserved =
     ∷ (codes "extern", ExternWord) ∷ (codes "static", StaticWord) ∷ (codes "if", IfWord) ∷ (codes "else", ElseWord) ∷ (codes "switch", SwitchWord) ∷ (codes "while", WhileWord)
     ∷ (codes "case", CaseWord) ∷ (codes "default", DefaultWord) ∷ (codes "goto", GotoWord) ∷ (codes "break", BreakWord) ∷ (codes "return", ReturnWord) ∷ []
 
--- the kinds of constants by their suffixes (C11 6.4.4.1)
+-- the kinds of constants by their suffixes (C11 6.4.4.1), in the data model whose long has 8 bytes
 abbrev pub suffixes : List (Token × IntKind)
 suffixes = ([], Int) ∷ (codes "U", UInt) ∷ (codes "L", Long) ∷ (codes "UL", ULong) ∷ (codes "LL", LLong) ∷ (codes "ULL", ULLong) ∷ []
 

@@ -11,10 +11,10 @@ ghost use Rattle.cil_text.specs.Occurs.{Occurs};
 ghost use Rattle.cil_text.specs.ReadText.{read_text};
 ghost use Rattle.cil_text.specs.TypesOf.{HasNeeded};
 
-/// A law, which does nothing when it is called: no bytes are the text of two programs (own), so a text names one
-/// program, up to the numbers that its types and names have.
+/// A law, which does nothing when it is called: no bytes are the text of two programs of one data model (own), so a text
+/// names one program of it, up to the numbers that its types and names have.
 pub fn one_text()
-    ensures { (bytes : List ℕ) → (p q : Program) → IsTextOf bytes p → IsTextOf bytes q → SameProgram p q }
+    ensures { (bytes : List ℕ) → (p q : Program) → IsTextOf bytes p → IsTextOf bytes q → p.graph.abi ≡ q.graph.abi → SameProgram p q }
 {}
 
 /// A law, which does nothing when it is called: equal programs have one text (own).
@@ -25,7 +25,7 @@ pub fn equal_programs_have_one_text()
 /// A law, which does nothing when it is called: the executable reading, with as much fuel as twice the bytes of the
 /// text, gives the aggregates and the globals of each well-formed program from its text (own).
 pub fn text_is_read()
-    ensures { (p : Program) (n : ℕ) → IsProgram p → 2 * length (Text p) ≤ n → read_text n (Text p) ≡ Some (map (seen_aggregate p) p.graph.aggs, p.globals) }
+    ensures { (p : Program) (n : ℕ) → IsProgram p → 2 * length (Text p) ≤ n → read_text p.graph.abi n (Text p) ≡ Some (map (seen_aggregate p) p.graph.aggs, p.globals) }
 {}
 
 /// A law, which does nothing when it is called: what equals a well-formed program and has no other types and no
@@ -40,8 +40,8 @@ pub fn needed_types_occur()
     ensures { (p q : Program) → IsProgram p → SameProgram p q → HasNeeded q → list_all members_are_unqualified q.graph.aggs ≡ true → Occurs p q }
 {}
 
-/// A law, which does nothing when it is called: where bytes are a program's text, the tree that is read from them is
-/// a program with that text, if it has no types but those that occur in it and their parts (own).
+/// A law, which does nothing when it is called: where bytes are a program's text, the tree that is read from them in its
+/// data model is a program with that text, if it has no types but those that occur in it and their parts (own).
 pub fn what_is_read_has_the_text()
-    ensures { (bytes : List ℕ) (p q : Program) (u : CilUnit) (n : ℕ) → IsTextOf bytes p → 2 * length bytes ≤ n → read_text n bytes ≡ Some (map (seen_aggregate q) q.graph.aggs, q.globals) → HasNeeded q → list_all members_are_unqualified q.graph.aggs ≡ true → IsArena q.graph → program_of q.names u ≡ q → IsTextOf bytes q }
+    ensures { (bytes : List ℕ) (p q : Program) (u : CilUnit) (n : ℕ) → IsTextOf bytes p → 2 * length bytes ≤ n → p.graph.abi ≡ q.graph.abi → read_text p.graph.abi n bytes ≡ Some (map (seen_aggregate q) q.graph.aggs, q.globals) → HasNeeded q → list_all members_are_unqualified q.graph.aggs ≡ true → IsArena q.graph → program_of q.names u ≡ q → IsTextOf bytes q }
 {}

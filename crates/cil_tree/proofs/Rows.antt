@@ -2,7 +2,9 @@
 use Rattle.std.proofs.Common.{◌≡◌, ℕ, Bool, true, false, List, [], ◌∷◌, ◌++◌, Option, Some, None, refl}
 use Rattle.std.specs.Prelude.{ℤ, pos, negsuc, codes, map, replicate}
 use Rattle.std.specs.Fmt.{digits}
-use Rattle.cil_base.specs.declared.kinds.Abi.TheVariants.{Lp64}
+use Rattle.cil_base.specs.declared.kinds.Abi.{Abi}
+use Rattle.cil_base.specs.declared.kinds.Abi.TheVariants.{Lp64, Ilp32}
+use Rattle.cil_base.specs.declared.kinds.IntKind.{IntKind}
 use Rattle.cil_base.specs.declared.kinds.IntKind.TheVariants as kind
 use Rattle.cil_base.specs.declared.constants.Constant.{Constant}
 use Rattle.cil_base.specs.declared.constants.Constant.TheVariants as constant
@@ -161,7 +163,41 @@ full_fits : all_fit full ≡ true
 unfolding shape agg_layout
 full_fits = refl
 
--- statements and expressions of each kind, in a function of the program above
+-- the same text but for a size and a least value in either data model, with its kinds of long
+abbrev modelled : Abi → IntKind → IntKind → Program
+modelled abi long ulong = record {
+  graph = record { abi = abi; nodes = Int kind.Int ∷ Agg (record { 0 = 0 }) ∷ Ptr (plain 1) ∷ []; aggs = aggregate Struct 3 (Some (member 4 2 (pos 0) ∷ [])) ∷ []; completed = record { 0 = 0 } ∷ [] };
+  names = names;
+  globals =
+      object (codes "first") (AggType 0) false Zeros
+      ∷ object (codes "p") (pointer (AggType 0)) false (Image (item [] (constant.Address (record { 0 = 0 }) (pos 0)) ∷ []))
+      ∷ object (codes "raw") (pointer VoidType) false (Image (item [] (constant.Int ulong (pos 16)) ∷ []))
+      ∷ object (codes "low") (IntType long) false (Image (item [] (constant.Int long (negsuc 2147483647)) ∷ []))
+      ∷ object (codes "f") (FuncType (IntType long) (MoreTypes (IntType ulong) NoTypes) true false) false (Function (record {
+        params = codes "x" ∷ [];
+        locals = a_local (codes "x") (IntType ulong) ∷ [];
+        labels = [];
+        stmts = Seq (Do (Zero (Place (Global 0) Here))) (Seq (Switch (var 0) (Seq (Case ulong (pos 1)) Done)) (Seq (Return (Some (Bin op.Add (Const long 2) (Const long 3)))) Done));
+      }))
+      ∷ [];
+}
+
+text_of_eight : Text (modelled Lp64 kind.Long kind.ULong)
+    ≡ codes "struct node ;\nstruct node {\n  struct node * next ;\n} ;\nextern struct node first ;\nextern struct node * p ;\nextern void * raw ;\nextern long low ;\nlong f ( unsigned long ) ;\nstruct node first ;\nstruct node * p = ( struct node * ) ( ( char * ) & first + 0L ) ;\nvoid * raw = ( void * ) 16UL ;\nlong low = - 2147483648L ;\nlong f ( unsigned long x ) {\n  __builtin_memset ( ( & first ) , 0 , 8UL ) ;\n  switch ( x ) {\n    case 1UL : ;\n  }\n  return ( 2L + 3L ) ;\n}\n"
+unfolding digits shape agg_layout
+text_of_eight = refl
+
+text_of_four : Text (modelled Ilp32 kind.Long4 kind.ULong4)
+    ≡ codes "struct node ;\nstruct node {\n  struct node * next ;\n} ;\nextern struct node first ;\nextern struct node * p ;\nextern void * raw ;\nextern long low ;\nlong f ( unsigned long ) ;\nstruct node first ;\nstruct node * p = ( struct node * ) ( ( char * ) & first + 0L ) ;\nvoid * raw = ( void * ) 16UL ;\nlong low = - 2147483647L - 1 ;\nlong f ( unsigned long x ) {\n  __builtin_memset ( ( & first ) , 0 , 4UL ) ;\n  switch ( x ) {\n    case 1UL : ;\n  }\n  return ( 2L + 3L ) ;\n}\n"
+unfolding digits shape agg_layout
+text_of_four = refl
+
+-- its globals fit with the kinds of its model alone
+models_fit : map all_fit (modelled Lp64 kind.Long kind.ULong ∷ modelled Ilp32 kind.Long4 kind.ULong4 ∷ modelled Lp64 kind.Long4 kind.ULong4 ∷ modelled Ilp32 kind.Long kind.ULong ∷ []) ≡ true ∷ true ∷ false ∷ false ∷ []
+unfolding shape agg_layout
+models_fit = refl
+
+-- statements and expressions of each kind, in a function of the full program
 abbrev scope : Scope
 scope = record { program = full; locals = a_local (codes "x") int ∷ a_local (codes "q") (pointer node) ∷ a_local (codes "y") (IntType kind.ULong) ∷ a_local (codes "u") pair ∷ a_local (codes "z") (pointer node) ∷ a_local (codes "t") (pointer main_type) ∷ a_local (codes "e") (AggType 0) ∷ []; labels = codes "again" ∷ [] }
 

@@ -38,17 +38,21 @@ declarators : map bytes (
     ∷ ArrayType unqualified (ArrayType unqualified (IntType kind.ULLong) (Some 3)) (Some 2)
     ∷ FuncType VoidType (MoreTypes (pointer (no_parameters VoidType)) (MoreTypes (pointer node) NoTypes)) true true
     ∷ pointer (FuncType (pointer (no_parameters int)) (MoreTypes (pointer four) NoTypes) true false)
+    ∷ IntType kind.Long4
+    ∷ IntType kind.ULong4
     ∷ [])
     ≡ codes "int x" ∷ codes "void * * x" ∷ codes "int ( * x ) [ 3 ]" ∷ codes "int * x [ ]" ∷ codes "int ( * x ( void ) ) [ 3 ]" ∷ codes "int ( * x ) ( )"
-    ∷ codes "unsigned long long x [ 2 ] [ 3 ]" ∷ codes "void x ( void ( * ) ( void ) , struct node * , ... )" ∷ codes "int ( * ( * x ) ( int ( * ) [ 4 ] ) ) ( void )" ∷ []
+    ∷ codes "unsigned long long x [ 2 ] [ 3 ]" ∷ codes "void x ( void ( * ) ( void ) , struct node * , ... )" ∷ codes "int ( * ( * x ) ( int ( * ) [ 4 ] ) ) ( void )" ∷ codes "long x" ∷ codes "unsigned long x" ∷ []
 unfolding digits
 declarators = refl
 
 numbers : map (join_with_byte 32) (
     number kind.Int (pos 0) ∷ number kind.Int (negsuc 0) ∷ number kind.Int (negsuc 2147483647) ∷ number kind.Char (negsuc 127) ∷ number kind.Short (negsuc 32766)
-    ∷ number kind.UInt (pos 4294967295) ∷ number kind.Long (negsuc 9223372036854775807) ∷ number kind.LLong (negsuc 4) ∷ number kind.ULong (pos 1) ∷ number kind.ULLong (pos 18446744073709551615) ∷ number kind.Bool (pos 1) ∷ [])
+    ∷ number kind.UInt (pos 4294967295) ∷ number kind.Long (negsuc 9223372036854775807) ∷ number kind.LLong (negsuc 4) ∷ number kind.ULong (pos 1) ∷ number kind.ULLong (pos 18446744073709551615) ∷ number kind.Bool (pos 1)
+    ∷ number kind.Long4 (negsuc 2147483647) ∷ number kind.ULong4 (pos 1) ∷ [])
     ≡ codes "0" ∷ codes "- 1" ∷ codes "- 2147483647 - 1" ∷ codes "- 127 - 1" ∷ codes "- 32767"
-    ∷ codes "4294967295U" ∷ codes "- 9223372036854775807L - 1" ∷ codes "- 5LL" ∷ codes "1UL" ∷ codes "18446744073709551615ULL" ∷ codes "1" ∷ []
+    ∷ codes "4294967295U" ∷ codes "- 9223372036854775807L - 1" ∷ codes "- 5LL" ∷ codes "1UL" ∷ codes "18446744073709551615ULL" ∷ codes "1"
+    ∷ codes "- 2147483647L - 1" ∷ codes "1UL" ∷ []
 unfolding digits
 numbers = refl
 

@@ -4,7 +4,9 @@ use Rattle.std.specs.List.{list_all, list_any}
 use Rattle.std.specs.Option.{option_and_then}
 use Rattle.std.specs.Ordering.{int_eq}
 use Rattle.std.specs.Str.{bytes_eq}
+use Rattle.cil_base.specs.declared.kinds.Abi.{Abi}
 use Rattle.cil_base.specs.declared.kinds.IntKind.{IntKind}
+use Rattle.cil_base.specs.Integer.{has_kind}
 use Rattle.cil_base.specs.Arithmetic.{fits}
 use Rattle.type_graph.specs.Shapes.{Shape, Shapes, IntType, PtrType, FuncType, AggType, NoTypes, MoreTypes}
 use Rattle.type_graph.specs.Arena.{Graph, complete_shape}
@@ -164,9 +166,10 @@ abbrev pub cases_are_once : Stmt → Bool
 cases_are_once (Switch value body) = are_distinct (cases_of body) && nat_lt (defaults_of body) 2
 cases_are_once _ = true
 
-abbrev pub case_fits : Option IntKind → IntKind → ℤ → Bool
-case_fits None kind value = false
-case_fits (Some k) kind value = same_kind kind k && fits kind value
+-- a case's constant has the kind of its switch, which is one of the data model, and is a value of it
+abbrev pub case_fits : Abi → Option IntKind → IntKind → ℤ → Bool
+case_fits abi None kind value = false
+case_fits abi (Some k) kind value = same_kind kind k && (has_kind abi kind && fits kind value)
 
 abbrev mutual
   -- cases and defaults stand in a switch, and a case's number is a value of the kind of its expression (C11 6.8.1p2, 6.8.4.2p5)
@@ -179,7 +182,7 @@ abbrev mutual
   cases_fit_in c kind (Switch value body) = cases_fit c (switch_kind c value) body
   cases_fit_in c kind (Loop body) = cases_fit c kind body
   cases_fit_in c kind (Block body) = cases_fit c kind body
-  cases_fit_in c kind (Case k value) = case_fits kind k value
+  cases_fit_in c kind (Case k value) = case_fits c.program.graph.abi kind k value
   cases_fit_in c kind Default = is_some kind
   cases_fit_in c kind _ = true
 

@@ -1,5 +1,5 @@
 use c_tree::BasicType;
-use cil_base::IntKind;
+use cil_base::{Abi, IntKind};
 
 /// The keyword that says what kind of type it is.
 #[derive(Clone, Copy, PartialEq, Eq)]
@@ -113,18 +113,18 @@ impl Basics {
         })
     }
 
-    /// The type that the keywords name (C11 6.7.2p2); None where they name none.
-    pub(crate) fn meaning(self) -> Option<BasicMeaning> {
+    /// The type that the keywords name in the data model (C11 6.7.2p2); None where they name none.
+    pub(crate) fn meaning(self, abi: Abi) -> Option<BasicMeaning> {
         match self.base {
             Some(Base::Void) => self.unadorned(BasicMeaning::Void),
             Some(Base::Bool) => self.unadorned(BasicMeaning::Int(IntKind::Bool)),
             Some(Base::Char) => self.character(),
-            Some(Base::Int) => Some(BasicMeaning::Int(self.integer())),
+            Some(Base::Int) => Some(BasicMeaning::Int(self.integer(abi))),
             None => {
                 if self.is_empty() {
                     return None;
                 }
-                Some(BasicMeaning::Int(self.integer()))
+                Some(BasicMeaning::Int(self.integer(abi)))
             }
         }
     }
@@ -151,11 +151,11 @@ impl Basics {
     }
 
     /// Another integer type (C11 6.2.5p4, p6).
-    fn integer(self) -> IntKind {
+    fn integer(self, abi: Abi) -> IntKind {
         let signed = match self.length {
             Length::Plain => IntKind::Int,
             Length::Short => IntKind::Short,
-            Length::Long => IntKind::Long,
+            Length::Long => abi.long(),
             Length::LongLong => IntKind::LLong,
         };
         match self.sign {

@@ -4,7 +4,7 @@ ghost use Rattle.decl_types.specs.Refusals.{IsRefusal, of_specifiers};
 use crate::basics::{BasicMeaning, Basics, NO_BASICS};
 use crate::stops::bad;
 use c_tree::{Qualifier, Specifier, StructKind, TagKind};
-use cil_base::{Code, NameId, RuleStop};
+use cil_base::{Abi, Code, NameId, RuleStop};
 use type_graph::{AggKind, Quals};
 
 /// A type specifier that is no keyword.
@@ -141,10 +141,10 @@ impl Sorted {
         }
     }
 
-    /// What they name together (C11 6.7.2p2).
-    fn meaning(self) -> Option<Meaning> {
+    /// What they name together in the data model (C11 6.7.2p2).
+    fn meaning(self, abi: Abi) -> Option<Meaning> {
         match self.named {
-            None => match self.basics.meaning() {
+            None => match self.basics.meaning(abi) {
                 None => None,
                 Some(basic) => Some(Meaning::Basic(basic)),
             },
@@ -159,8 +159,8 @@ impl Sorted {
     }
 }
 
-/// What specifiers say of a type. `Specifiers` where they name none (C11 6.7.2p2).
-pub(crate) fn spelled_by(s: &[Specifier]) -> Result<Spelled, RuleStop>
+/// What specifiers say of a type, in a data model. `Specifiers` where they name none (C11 6.7.2p2).
+pub(crate) fn spelled_by(s: &[Specifier], abi: Abi) -> Result<Spelled, RuleStop>
     ensures { IfErr result (IsRefusal of_specifiers) }
 {
     let mut sorted = Sorted {
@@ -174,7 +174,7 @@ pub(crate) fn spelled_by(s: &[Specifier]) -> Result<Spelled, RuleStop>
     for specifier in s {
         sorted = sorted.with(specifier)?;
     }
-    match sorted.meaning() {
+    match sorted.meaning(abi) {
         None => Err(bad(Code::Specifiers)),
         Some(meaning) => Ok(Spelled {
             meaning,

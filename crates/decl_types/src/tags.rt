@@ -151,7 +151,7 @@ impl Declarer {
     ) -> Result<QualType, RuleStop>
         ensures { IfErr result (IsRefusal of_specifiers) }
     {
-        let spelled = spelled_by(s)?;
+        let spelled = spelled_by(s, t.graph().abi())?;
         let ty = match spelled.meaning {
             Meaning::Basic(basic) => basic_type(basic, t)?,
             Meaning::Named(Named::Typedef(n)) => self.typedef_type(n)?,
@@ -199,7 +199,7 @@ impl Declarer {
     ) -> Result<AggId, RuleStop>
         ensures { IfErr result (IsRefusal of_specifiers) }
     {
-        let spelled = spelled_by(s)?;
+        let spelled = spelled_by(s, t.graph().abi())?;
         match spelled.meaning {
             Meaning::Named(Named::Body(kind, tag)) => {
                 let tag = new_tag(tag, names);

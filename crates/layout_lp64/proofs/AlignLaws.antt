@@ -2,7 +2,7 @@
 use Rattle.std.proofs.Common.{◌≡◌, ℕ, zero, suc, ◌^◌, true, false, List, slice_get, Option, Some, None, inl, inr, refl, subst}
 use Rattle.std.specs.Option.{option_map, option_and_then}
 use Rattle.cil_base.specs.declared.kinds.Abi.{Abi}
-use Rattle.cil_base.specs.declared.kinds.Abi.TheVariants.{Lp64}
+use Rattle.cil_base.specs.declared.kinds.Abi.TheVariants.{Lp64, Ilp32}
 use Rattle.cil_base.specs.declared.kinds.IntKind.{IntKind}
 use Rattle.cil_base.specs.declared.kinds.IntKind.TheVariants as kind
 use Rattle.cil_base.specs.Integer.{size_of, pointer_size_of}
@@ -16,10 +16,11 @@ use Rattle.type_graph.specs.Layouts.{AggLayout, Placed, layout_in, member_in, ar
 use Rattle.layout_lp64.proofs.CapLaws.{Aligned, all_aligned}
 
 pub size_aligned : (k : IntKind) → Aligned (size_of k)
-size_aligned k = elim k as (λ v. Aligned (size_of v)) [ kind.Bool ↦ inl refl | kind.Char ↦ inl refl | kind.SChar ↦ inl refl | kind.UChar ↦ inl refl | kind.Short ↦ inr (inl refl) | kind.UShort ↦ inr (inl refl) | kind.Int ↦ inr (inr (inl refl)) | kind.UInt ↦ inr (inr (inl refl)) | kind.Long ↦ inr (inr (inr refl)) | kind.ULong ↦ inr (inr (inr refl)) | kind.LLong ↦ inr (inr (inr refl)) | kind.ULLong ↦ inr (inr (inr refl)) ]
+size_aligned k = elim k as (λ v. Aligned (size_of v)) [ kind.Bool ↦ inl refl | kind.Char ↦ inl refl | kind.SChar ↦ inl refl | kind.UChar ↦ inl refl | kind.Short ↦ inr (inl refl) | kind.UShort ↦ inr (inl refl) | kind.Int ↦ inr (inr (inl refl)) | kind.UInt ↦ inr (inr (inl refl)) | kind.Long ↦ inr (inr (inr refl)) | kind.ULong ↦ inr (inr (inr refl)) | kind.LLong ↦ inr (inr (inr refl)) | kind.ULLong ↦ inr (inr (inr refl)) | kind.Long4 ↦ inr (inr (inl refl)) | kind.ULong4 ↦ inr (inr (inl refl)) ]
 
 pub pointer_aligned : (abi : Abi) → Aligned (pointer_size_of abi)
 pointer_aligned Lp64 = inr (inr (inr refl))
+pointer_aligned Ilp32 = inr (inr (inl refl))
 
 -- what a map gives comes from something
 pub mapped_from : {S T : Type 0} (f : S → T) (o : Option S) (y : T) → option_map f o ≡ Some y → (x : S) × (o ≡ Some x) × (f x ≡ y)

@@ -3,7 +3,7 @@ use Rattle.std.proofs.Common.{◌≡◌, ℕ, zero, suc, ◌+◌, ◌*◌, ◌/�
 use Rattle.std.proofs.lemmas.List.{map-append}
 use Rattle.std.specs.Option.{option_map, option_and_then}
 use Rattle.cil_base.specs.declared.kinds.Abi.{Abi}
-use Rattle.cil_base.specs.declared.kinds.Abi.TheVariants.{Lp64}
+use Rattle.cil_base.specs.declared.kinds.Abi.TheVariants.{Lp64, Ilp32}
 use Rattle.cil_base.specs.declared.kinds.IntKind.{IntKind}
 use Rattle.cil_base.specs.declared.kinds.IntKind.TheVariants as kind
 use Rattle.cil_base.specs.Integer.{size_of, pointer_size_of}
@@ -47,10 +47,11 @@ cap_twice n k m =
     cap_mul (n * k) m ∙ ap cap e ∙ sym (cap_mul_right n (k * m))
 
 cap_size : (k : IntKind) → cap (size_of k) ≡ size_of k
-cap_size k = elim k as (λ v. cap (size_of v) ≡ size_of v) [ kind.Bool ↦ refl | kind.Char ↦ refl | kind.SChar ↦ refl | kind.UChar ↦ refl | kind.Short ↦ refl | kind.UShort ↦ refl | kind.Int ↦ refl | kind.UInt ↦ refl | kind.Long ↦ refl | kind.ULong ↦ refl | kind.LLong ↦ refl | kind.ULLong ↦ refl ]
+cap_size k = elim k as (λ v. cap (size_of v) ≡ size_of v) [ kind.Bool ↦ refl | kind.Char ↦ refl | kind.SChar ↦ refl | kind.UChar ↦ refl | kind.Short ↦ refl | kind.UShort ↦ refl | kind.Int ↦ refl | kind.UInt ↦ refl | kind.Long ↦ refl | kind.ULong ↦ refl | kind.LLong ↦ refl | kind.ULLong ↦ refl | kind.Long4 ↦ refl | kind.ULong4 ↦ refl ]
 
 cap_pointer : (abi : Abi) → cap (pointer_size_of abi) ≡ pointer_size_of abi
 cap_pointer Lp64 = refl
+cap_pointer Ilp32 = refl
 
 same_layout : (m n a : ℕ) → m ≡ n → ◌≡◌ {A = Layout} (record { size = m; align = a }) (record { size = n; align = a })
 same_layout m n a e = ap (λ k. let l : Layout = record { size = k; align = a } in l) e

@@ -1,6 +1,7 @@
 -- Definition: what units are refused for, and where.
 use Rattle.std.specs.Prelude.{◌≡◌, ℕ, ◌<◌, Bool, true, false, length, Option, Some, None}
 use Rattle.std.specs.Option.{ForSome}
+use Rattle.cil_base.specs.declared.kinds.Abi.TheVariants.{Lp64}
 use Rattle.cil_base.specs.declared.faults.Fault.{Fault}
 use Rattle.cil_base.specs.declared.faults.Fault.TheVariants.{Lexical, Excluded, Syntax, Constraint, Limit, Duplicate, Incompatible}
 use Rattle.cil_base.specs.declared.faults.What.TheVariants.{PrintedBytes}
@@ -74,10 +75,11 @@ abbrev pub IfRefusal : Stop → (Refusal → Type 0) → Type 0
 IfRefusal (Refused refusal) Says = Says refusal
 IfRefusal Memory Says = Unit {0}
 
--- the text of some well-formed program is too long to be printed, and the place is that of the first token of the first unit
+-- the text of some well-formed program of LP64 is too long to be printed, and the place is that of the first token of the first unit
 pub record IsTooLong (at : Place) : Type 0 where
   pub program : Program
   pub formed : IsProgram program
+  pub model : program.graph.abi ≡ Lp64
   pub long : text_limit < length (Text program)
   pub unit : at.unit ≡ record { 0 = 0 }
   pub token : at.token ≡ 0

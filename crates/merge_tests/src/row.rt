@@ -133,7 +133,7 @@ fn ordinary_of(alloc: Global, names: &NamePool, unit: &CilUnit) -> Result<Vec<Or
 
 /// The unit of a text.
 fn unit_of(alloc: Global, u: u32, text: &str, names: &mut NamePool) -> Result<Fronted, Fail> {
-    let cil = read(alloc, text.as_bytes(), names)?;
+    let cil = read(alloc, text.as_bytes(), names, Abi::Lp64)?;
     let sites = sites_of(alloc, &cil, u)?;
     let ordinary = ordinary_of(alloc, names, &cil)?;
     Ok(Fronted {

@@ -1,6 +1,8 @@
 //! Kinds, arithmetic, names and words of `cil_base`.
 
-use cil_base::{BinOp, HOST_NAMES, IntKind, Memory, NameId, NamePool, arith, is_host_name, wrap};
+use cil_base::{
+    Abi, BinOp, HOST_NAMES, IntKind, Memory, NameId, NamePool, arith, is_host_name, wrap,
+};
 use std::alloc::AllocError;
 use std::process::Abort;
 use std::test::Fail;
@@ -15,6 +17,7 @@ fn knows_the_names_of_the_host(rt: HostRuntime) {
     }
 }
 
+/// The kinds of the data model whose long has 8 bytes.
 const KINDS: [IntKind; 12] = [
     IntKind::Bool,
     IntKind::Char,
@@ -47,21 +50,53 @@ const COMMON: [(u8, &[u8; 12]); 12] = [
     (b'M', b"MMMMMMMMMMMM"),
 ];
 
+/// The kinds of the data model whose long has 4 bytes.
+const KINDS_OF_FOUR: [IntKind; 12] = [
+    IntKind::Bool,
+    IntKind::Char,
+    IntKind::SChar,
+    IntKind::UChar,
+    IntKind::Short,
+    IntKind::UShort,
+    IntKind::Int,
+    IntKind::UInt,
+    IntKind::Long4,
+    IntKind::ULong4,
+    IntKind::LLong,
+    IntKind::ULLong,
+];
+
+/// The same by gcc -m32.
+const COMMON_OF_FOUR: [(u8, &[u8; 12]); 12] = [
+    (b'i', b"iiiiiiiulmLM"),
+    (b'i', b"iiiiiiiulmLM"),
+    (b'i', b"iiiiiiiulmLM"),
+    (b'i', b"iiiiiiiulmLM"),
+    (b'i', b"iiiiiiiulmLM"),
+    (b'i', b"iiiiiiiulmLM"),
+    (b'i', b"iiiiiiiulmLM"),
+    (b'u', b"uuuuuuuummLM"),
+    (b'l', b"lllllllmlmLM"),
+    (b'm', b"mmmmmmmmmmLM"),
+    (b'L', b"LLLLLLLLLLLM"),
+    (b'M', b"MMMMMMMMMMMM"),
+];
+
 fn letter(kind: IntKind) -> u8 {
     match kind {
         IntKind::Int => b'i',
         IntKind::UInt => b'u',
-        IntKind::Long => b'l',
-        IntKind::ULong => b'm',
+        IntKind::Long | IntKind::Long4 => b'l',
+        IntKind::ULong | IntKind::ULong4 => b'm',
         IntKind::LLong => b'L',
         IntKind::ULLong => b'M',
         _ => b'?',
     }
 }
 
-fn row_is_met(rt: &impl Abort, kind: IntKind, row: &[u8; 12]) {
+fn row_is_met(rt: &impl Abort, kinds: [IntKind; 12], kind: IntKind, row: &[u8; 12]) {
     for j in 0..12 {
-        assert_eq!(rt; letter(kind.common(KINDS[j])), row[j]);
+        assert_eq!(rt; letter(kind.common(kinds[j])), row[j]);
     }
 }
 
@@ -70,8 +105,31 @@ fn converts_operands_as_a_c_compiler(rt: HostRuntime) {
     for i in 0..12 {
         let (promoted, row) = COMMON[i];
         assert_eq!(rt; letter(KINDS[i].promoted()), promoted);
-        row_is_met(&rt, KINDS[i], row);
+        row_is_met(&rt, KINDS, KINDS[i], row);
     }
+}
+
+#[test]
+fn converts_operands_as_a_c_compiler_of_32_bits(rt: HostRuntime) {
+    for i in 0..12 {
+        let (promoted, row) = COMMON_OF_FOUR[i];
+        assert_eq!(rt; letter(KINDS_OF_FOUR[i].promoted()), promoted);
+        row_is_met(&rt, KINDS_OF_FOUR, KINDS_OF_FOUR[i], row);
+    }
+}
+
+/// Each data model has its kinds, and no kind of long or unsigned long of the other.
+#[test]
+fn tells_the_kinds_of_each_model(rt: HostRuntime) {
+    for i in 0..12 {
+        let other = i == 8 || i == 9;
+        assert!(rt; KINDS[i].is_of(Abi::Lp64));
+        assert!(rt; KINDS_OF_FOUR[i].is_of(Abi::Ilp32));
+        assert!(rt; KINDS[i].is_of(Abi::Ilp32) != other);
+        assert!(rt; KINDS_OF_FOUR[i].is_of(Abi::Lp64) != other);
+    }
+    assert!(rt; Abi::Ilp32.long() == IntKind::Long4 && Abi::Ilp32.ulong() == IntKind::ULong4);
+    assert_eq!(rt; Abi::Ilp32.pointer_size(), 4);
 }
 
 /// The limits of C11 5.2.4.2.1 at which a number begins not to fit.
@@ -83,6 +141,8 @@ fn has_the_values_of_its_range(rt: HostRuntime) {
         (IntKind::UShort, 0, 65535),
         (IntKind::Int, -2147483648, 2147483647),
         (IntKind::ULLong, 0, 18446744073709551615),
+        (IntKind::Long4, -2147483648, 2147483647),
+        (IntKind::ULong4, 0, 4294967295),
     ] {
         assert!(rt; kind.fits(least) && kind.fits(greatest));
         assert!(rt; !kind.fits(least - 1) && !kind.fits(greatest + 1));

@@ -34,10 +34,41 @@ const CONSTANTS: [(&[u8], Option<(IntKind, i128)>); 17] = [
     (b"18446744073709551616u", None),
 ];
 
+/// The same by gcc -m32.
+const CONSTANTS_OF_FOUR: [(&[u8], Option<(IntKind, i128)>); 14] = [
+    (b"2147483647", Some((IntKind::Int, 2147483647))),
+    (b"2147483648", Some((IntKind::LLong, 2147483648))),
+    (b"0x80000000", Some((IntKind::UInt, 2147483648))),
+    (
+        b"0XFFFFFFFFFFFFFFFF",
+        Some((IntKind::ULLong, 18446744073709551615)),
+    ),
+    (b"1L", Some((IntKind::Long4, 1))),
+    (b"1ll", Some((IntKind::LLong, 1))),
+    (b"4294967295U", Some((IntKind::UInt, 4294967295))),
+    (b"4294967296U", Some((IntKind::ULLong, 4294967296))),
+    (b"2147483648L", Some((IntKind::LLong, 2147483648))),
+    (b"0x80000000L", Some((IntKind::ULong4, 2147483648))),
+    (b"4294967295UL", Some((IntKind::ULong4, 4294967295))),
+    (b"4294967296UL", Some((IntKind::ULLong, 4294967296))),
+    (
+        b"9223372036854775807",
+        Some((IntKind::LLong, 9223372036854775807)),
+    ),
+    (b"9223372036854775808", None),
+];
+
 #[test]
 fn integer_constants_have_the_first_type_that_holds_them(rt: HostRuntime) {
     for (text, expected) in CONSTANTS {
         assert!(rt; integer_value(text, Abi::Lp64) == expected);
+    }
+}
+
+#[test]
+fn integer_constants_of_four_have_the_first_type_that_holds_them(rt: HostRuntime) {
+    for (text, expected) in CONSTANTS_OF_FOUR {
+        assert!(rt; integer_value(text, Abi::Ilp32) == expected);
     }
 }
 

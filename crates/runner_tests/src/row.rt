@@ -1,7 +1,7 @@
 ghost use Rattle.std.specs.Prelude.{IfOk};
 ghost use Rattle.cil_runner.specs.Beginning.{IsFresh};
 
-use cil_base::NamePool;
+use cil_base::{Abi, NamePool};
 use cil_reader::read;
 use cil_runner::{Machine, RunEnd};
 use outside::{MemSink, MemSource};
@@ -45,7 +45,7 @@ pub(crate) fn machine_of(alloc: Global, text: &str, words: &[&str]) -> Result<Ma
     ensures { IfOk result IsFresh }
 {
     let mut names = NamePool::new(alloc);
-    let unit = read(alloc, text.as_bytes(), &mut names)?;
+    let unit = read(alloc, text.as_bytes(), &mut names, Abi::Lp64)?;
     let words = owned(alloc, words)?;
     Ok(Machine::load(alloc, &unit, &names, &words)?)
 }

@@ -1,5 +1,6 @@
 -- Definition: what `sample` answers (own).
-use Rattle.std.specs.Prelude.{ℕ, ◌<◌, List, Option}
+use Rattle.std.specs.Prelude.{◌≡◌, ℕ, ◌<◌, List, Option}
+use Rattle.cil_base.specs.declared.kinds.Abi.TheVariants.{Lp64}
 use Rattle.outside.specs.Moves.{Began, Wrote}
 use Rattle.cil_tree.specs.Tree.{Program}
 use Rattle.cil_tree.specs.Programs.{IsProgram}
@@ -10,16 +11,18 @@ use Rattle.sample_summary.specs.declared.stop.SampleStop.TheVariants as stop
 use Rattle.cil_lines.specs.declared.status.Status.{Status}
 use Rattle.cil_lines.specs.declared.status.Status.TheVariants.{Done, Exited, StillRunning, WentUndefined, Usage, Refused, NotCil, ReadFault, WriteFault, Memory}
 
--- the lines tell a well-formed program that is made of so many units
+-- the lines tell a well-formed program of LP64 that is made of so many units
 pub record AreOfProgram (units : ℕ) (lines : List ℕ) : Type 0 where
   pub program : Program
   pub formed : IsProgram program
+  pub model : program.graph.abi ≡ Lp64
   pub summary : IsSummary units program lines
 
--- a well-formed program has no summary, for this cause
+-- a well-formed program of LP64 has no summary, for this cause
 pub record HasNone (cause : SampleStop) : Type 0 where
   pub program : Program
   pub formed : IsProgram program
+  pub model : program.graph.abi ≡ Lp64
   pub stops : StopsSo program cause
 
 -- the lines that out took, or a front of which it took

@@ -2,6 +2,7 @@ ghost use Rattle.std.specs.Prelude.{◌≡◌, ◌≢◌, ◌≤◌, ◌^◌, �
 ghost use Rattle.std.specs.String.{string_bytes};
 ghost use Rattle.c_lexer.specs.Lexed.{IfRefused};
 ghost use Rattle.outside.specs.Counts.{Rose};
+ghost use Rattle.cil_base.specs.declared.kinds.Abi.TheVariants.{Lp64};
 ghost use Rattle.cil_tree.specs.View.{program_of};
 ghost use Rattle.cil_tree.specs.Programs.{IsProgram};
 ghost use Rattle.merge_refusals.specs.Refusals.{IsMergeRefusal, PrintedIfLong};
@@ -20,6 +21,7 @@ use unit_merger::units_program;
 /// The program of a sample.
 fn program(alloc: Global, seed: u32, units: u32, names: &mut NamePool) -> Result<CilUnit, Stop>
     ensures program { IfOk result (λ u. IsProgram (program_of names.new u)) }
+    ensures model { IfOk result (λ u. u.graph.abi ≡ Lp64) }
     ensures refused { IfRefused result (IsMergeRefusal units (length names.new)) }
     ensures printed { IfRefused result PrintedIfLong }
 {
@@ -36,7 +38,8 @@ fn tell<O: Sink>(
     units: u32,
     out: &mut O,
 ) -> Status
-    requires { IsProgram (program_of names.now program.now) }
+    requires formed { IsProgram (program_of names.now program.now) }
+    requires model { program.now.graph.abi ≡ Lp64 }
     ensures says { SampleSays units result (O.taken out.old) (O.taken out.new) }
     ensures files { HasFiles (length names.now) result }
     ensures idle { result ≢ Status.Done → result ≢ Status.WriteFault → out.new ≡ out.old }

@@ -4,8 +4,8 @@ use Rattle.std.specs.Prelude.{nat_lt, unsigned_abs}
 use Rattle.std.specs.Ordering.{int_eq}
 use Rattle.std.proofs.lemmas.Int.{ints}
 use Rattle.cil_base.specs.declared.kinds.Abi.{Abi}
-use Rattle.cil_base.specs.declared.kinds.IntKind.TheVariants.{Int as Int', ULong}
-use Rattle.cil_base.specs.declared.kinds.Abi.TheVariants.{Lp64}
+use Rattle.cil_base.specs.declared.kinds.IntKind.TheVariants.{Int as Int', ULong, ULong4}
+use Rattle.cil_base.specs.declared.kinds.Abi.TheVariants.{Lp64, Ilp32}
 use Rattle.cil_base.specs.Integer.{IsOf}
 use Rattle.cil_base.proofs.IntegerLaws.{wrapped_value}
 use Rattle.cil_base.proofs.KindLaws.{kind_told}
@@ -101,6 +101,7 @@ memset_fits abi s (Part p k) b n = tt
 
 null_fits : (abi : Abi) → IsValue abi OfPointer (Int (pos 0))
 null_fits Lp64 = wrapped_value ULong (pos 0)
+null_fits Ilp32 = wrapped_value ULong4 (pos 0)
 
 malloc_fits : (abi : Abi) (s : HostState) (n : ℕ) → Fits abi (Some OfPointer) (malloc s n)
 unfolding Fits

@@ -1,11 +1,11 @@
-//! Reads a CIL text from standard input, which includes the test and the printing of its program, and prints the program once more.
+//! Reads a CIL text of LP64 from standard input, which includes the test and the printing of its program, and prints the program once more.
 //!
 //! It is there to be measured (bench/text.sh): what it prints is what was read, since the calls that it makes keep their contracts.
 //!
 //! The program is own.
 #![tactic(auto)]
 
-use cil_base::{Bytes, NamePool};
+use cil_base::{Abi, Bytes, NamePool};
 use cil_printer::print;
 use cil_reader::read;
 use std::alloc::Global;
@@ -22,7 +22,7 @@ fn input(rt: &HostRuntime) -> io::Result<Vec<u8>> {
 /// The program that a text says, as a text.
 fn again(alloc: Global, bytes: &[u8]) -> Option<Bytes> {
     let mut names = NamePool::new(alloc);
-    match read(alloc, bytes, &mut names) {
+    match read(alloc, bytes, &mut names, Abi::Lp64) {
         Ok(unit) => print(&unit, &names).ok(),
         Err(_) => None,
     }

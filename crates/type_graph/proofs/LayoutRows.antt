@@ -1,6 +1,6 @@
--- Device: worked rows of the layout: sizes, alignments and offsets that gcc gives on x86-64 too.
+-- Device: worked rows of the layout in both data models: sizes, alignments and offsets that gcc gives on x86-64 and on x86 with -malign-double too.
 use Rattle.std.proofs.Common.{◌≡◌, ℕ, true, false, List, [], ◌∷◌, Some, None, refl}
-use Rattle.cil_base.specs.declared.kinds.Abi.TheVariants.{Lp64}
+use Rattle.cil_base.specs.declared.kinds.Abi.TheVariants.{Lp64, Ilp32}
 use Rattle.cil_base.specs.declared.kinds.IntKind.TheVariants as kind
 use Rattle.type_graph.specs.declared.aggregates.AggKind.{AggKind}
 use Rattle.type_graph.specs.declared.aggregates.AggKind.TheVariants.{Struct, Union}
@@ -95,3 +95,31 @@ no_void = refl
 completeness : complete sample 0 ∷ complete sample 7 ∷ complete sample 8 ∷ complete sample 15 ∷ [] ≡ true ∷ false ∷ true ∷ false ∷ []
 unfolding sample plain member aggregate shape agg_layout
 completeness = refl
+
+-- ILP32, in which long and pointers have 4 bytes: long, long *, struct { char a; long b; char c[3]; }, struct { char a; long *b; },
+-- struct { char a; long long b; }, struct { short a; struct { char a; long *b; } d; }
+small : Graph
+small = record {
+  abi = Ilp32;
+  nodes = Int kind.Char ∷ Int kind.Short ∷ Int kind.Long4 ∷ Int kind.LLong ∷ Ptr (plain 2) ∷ Array (plain 0) (Some 3) ∷ Int kind.ULong4
+      ∷ Agg (record { 0 = 0 }) ∷ Agg (record { 0 = 1 }) ∷ Agg (record { 0 = 2 }) ∷ Agg (record { 0 = 3 }) ∷ [];
+  aggs = aggregate Struct (member 0 ∷ member 2 ∷ member 5 ∷ [])
+      ∷ aggregate Struct (member 0 ∷ member 4 ∷ [])
+      ∷ aggregate Struct (member 0 ∷ member 3 ∷ [])
+      ∷ aggregate Struct (member 1 ∷ member 8 ∷ []) ∷ [];
+  completed = record { 0 = 0 } ∷ record { 0 = 1 } ∷ record { 0 = 2 } ∷ record { 0 = 3 } ∷ [];
+}
+
+small_scalars : layout small 2 ∷ layout small 3 ∷ layout small 4 ∷ layout small 6 ∷ []
+    ≡ Some (record { size = 4; align = 4 }) ∷ Some (record { size = 8; align = 8 }) ∷ Some (record { size = 4; align = 4 }) ∷ Some (record { size = 4; align = 4 }) ∷ []
+unfolding small plain member aggregate shape agg_layout
+small_scalars = refl
+
+small_structs : layout small 7 ∷ layout small 8 ∷ layout small 9 ∷ layout small 10 ∷ []
+    ≡ Some (record { size = 12; align = 4 }) ∷ Some (record { size = 8; align = 4 }) ∷ Some (record { size = 16; align = 8 }) ∷ Some (record { size = 12; align = 4 }) ∷ []
+unfolding small plain member aggregate shape agg_layout
+small_structs = refl
+
+small_offsets : offset small 0 1 ∷ offset small 0 2 ∷ offset small 1 1 ∷ offset small 2 1 ∷ offset small 3 1 ∷ [] ≡ Some 4 ∷ Some 8 ∷ Some 4 ∷ Some 8 ∷ Some 4 ∷ []
+unfolding small plain member aggregate shape agg_layout
+small_offsets = refl

@@ -3,3 +3,4 @@ pub mod Links
 pub mod Named
 pub mod OneUnit
 pub mod Places
+pub mod Texts

@@ -5,6 +5,7 @@ ghost use Rattle.cil_tree.specs.Tree.{Program};
 ghost use Rattle.cil_tree.specs.View.{program_of};
 ghost use Rattle.cil_tree.specs.Programs.{IsProgram, IsTextOf};
 ghost use Rattle.cil_base.specs.NamePool.{Stays};
+ghost use Rattle.cil_base.specs.declared.kinds.Abi.TheVariants.{Lp64};
 ghost use Rattle.merge_refusals.specs.Refusals.{IsUnitRefusal, IsMergeRefusal, PrintedIfLong, IfRefusal};
 ghost use Rattle.unit_merger.specs.Units.{AreGrammatical, AreMerged, IsRefusedAmong, IsUnitCause, over_limit};
 ghost use Rattle.unit_front.specs.Refusals.{IsFrontFault};
@@ -24,13 +25,14 @@ use std::alloc::Global;
 use unit_front::{front, parsed_front};
 
 /// The text of the CIL program that a translation unit, of these tokens, becomes. Own.
+#[tactic(auto, using(crate::proofs::Texts::text_in))]
 pub fn unit_text(
     alloc: Global,
     unit: &Unit,
     tokens: &Tokens<'_>,
     names: &mut NamePool,
 ) -> Result<Bytes, Stop>
-    ensures text { IfOk result (λ b. (p : Program) × IsTextOf b p) }
+    ensures text { IfOk result (λ b. (p : Program) × IsTextOf b p × (p.graph.abi ≡ Lp64)) }
     ensures refused { IfRefused result (IsUnitRefusal (length names.new)) }
     ensures cause { IfRefused result (IsUnitCause tokens.now) }
     ensures printed { IfRefused result PrintedIfLong }
@@ -42,7 +44,7 @@ pub fn unit_text(
 
 /// The text of the CIL program that translation units of these files become, whose tentative definitions of one name are one object
 /// where they are common. Own.
-#[tactic(auto, using(crate::proofs::InOrder::late, crate::proofs::Links::of_printing, crate::proofs::Links::linked_later, cil_base::proofs::PoolLemmas::stays_then))]
+#[tactic(auto, using(crate::proofs::Texts::text_in, crate::proofs::InOrder::late, crate::proofs::Links::of_printing, crate::proofs::Links::linked_later, cil_base::proofs::PoolLemmas::stays_then))]
 pub fn units_text(
     alloc: Global,
     sources: &Sources,
@@ -50,7 +52,7 @@ pub fn units_text(
     common: bool,
     names: &mut NamePool,
 ) -> Result<Bytes, Stop>
-    ensures text { IfOk result (λ b. (p : Program) × IsTextOf b p) }
+    ensures text { IfOk result (λ b. (p : Program) × IsTextOf b p × (p.graph.abi ≡ Lp64)) }
     ensures refused { IfRefused result (IsMergeRefusal (length files.now) (length names.new)) }
     ensures merged { IfOk result (λ _. AreMerged sources.now.units.items sources.now.over (map string_bytes files.now)) }
     ensures cause { IfRefused result (IsRefusedAmong sources.now.units.items sources.now.over (map string_bytes files.now) names.new) }
@@ -73,6 +75,7 @@ pub fn units_program(
     names: &mut NamePool,
 ) -> Result<CilUnit, Stop>
     ensures program { IfOk result (λ u. IsProgram (program_of names.new u)) }
+    ensures model { IfOk result (λ u. u.graph.abi ≡ Lp64) }
     ensures refused { IfRefused result (IsMergeRefusal (length files.now) (length names.new)) }
     ensures merged { IfOk result (λ _. AreMerged units.now None (map string_bytes files.now)) }
     ensures cause { IfRefused result (IsRefusedAmong units.now None (map string_bytes files.now) names.new) }
@@ -92,6 +95,7 @@ fn merged_unit(
     tokens: &Tokens<'_>,
     names: &mut NamePool,
 ) -> Result<CilUnit, Stop>
+    ensures model { IfOk result (λ u. u.graph.abi ≡ Lp64) }
     ensures refused { IfRefused result (IsUnitRefusal (length names.new)) }
     ensures cause { IfRefused result (IsUnitCause tokens.now) }
     ensures printed { IfRefused result PrintedIfLong }
@@ -114,6 +118,7 @@ fn merged(
     common: bool,
     names: &mut NamePool,
 ) -> Result<CilUnit, Stop>
+    ensures model { IfOk result (λ u. u.graph.abi ≡ Lp64) }
     ensures refused { IfRefused result (IsMergeRefusal (length files.now) (length names.new)) }
     ensures merged { IfOk result (λ _. AreMerged units.now over (map string_bytes files.now)) }
     ensures cause { IfRefused result (IsRefusedAmong units.now over (map string_bytes files.now) names.new) }
@@ -136,6 +141,7 @@ fn program_of_unit(
     tokens: &Tokens<'_>,
     names: &mut NamePool,
 ) -> Result<CilUnit, Stop>
+    ensures model { IfOk result (λ u. u.graph.abi ≡ Lp64) }
     ensures cause { IfRefused result (IsUnitCause tokens.now) }
     ensures stays { Stays names.old names.new }
 {
@@ -162,6 +168,7 @@ fn program_of_units(
     common: bool,
     names: &mut NamePool,
 ) -> Result<CilUnit, Stop>
+    ensures model { IfOk result (λ u. u.graph.abi ≡ Lp64) }
     ensures merged { IfOk result (λ _. AreMerged units.now over (map string_bytes files.now)) }
     ensures cause { IfRefused result (IsRefusedAmong units.now over (map string_bytes files.now) names.new) }
     ensures links { SaysFirst common units.now (map string_bytes files.now) names.new result }

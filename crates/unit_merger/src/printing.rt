@@ -1,10 +1,10 @@
 ghost use Rattle.std.specs.Prelude.{◌≡◌, ◌≤◌, ◌<◌, Some, None, length, map, MatchOption, IfOk, OnOk};
 ghost use Rattle.std.specs.String.{string_bytes};
 ghost use Rattle.cil_base.specs.NamePool.{Stays};
+ghost use Rattle.cil_base.specs.declared.kinds.Abi.TheVariants.{Lp64};
 ghost use Rattle.cil_base.specs.declared.faults.Fault.TheVariants.{Limit};
 ghost use Rattle.cil_base.specs.declared.faults.What.TheVariants.{PrintedBytes};
 ghost use Rattle.c_lexer.specs.Lexed.{IfRefused, place_at};
-ghost use Rattle.cil_tree.specs.Tree.{Program};
 ghost use Rattle.cil_tree.specs.Text.{Text};
 ghost use Rattle.cil_tree.specs.View.{program_of};
 ghost use Rattle.cil_tree.specs.Programs.{IsProgram, IsTextOf, text_limit};
@@ -53,14 +53,15 @@ fn first_place(tokens: &Tokens<'_>) -> Result<Place, Stop>
     Ok(place)
 }
 
-/// The text of the program that a unit of these tokens becomes.
+/// The text of the program that a unit of these tokens becomes, in the data model of the commands.
 #[tactic(auto, using(crate::proofs::InOrder::of_length))]
 pub(crate) fn unit_printed(
     program: &CilUnit,
     tokens: &Tokens<'_>,
     names: &NamePool,
 ) -> Result<Bytes, Stop>
-    ensures text { IfOk result (λ b. (p : Program) × IsTextOf b p) }
+    requires { program.now.graph.abi ≡ Lp64 }
+    ensures text { IfOk result (λ b. IsTextOf b (program_of names.now program.now)) }
     ensures refused { IfRefused result (IsUnitRefusal (length names.now)) }
     ensures cause { IfRefused result (IsUnitCause tokens.now) }
     ensures printed { IfRefused result PrintedIfLong }
@@ -100,7 +101,7 @@ fn place_in(
     }
 }
 
-/// The text of the program that units of these files become.
+/// The text of the program that units of these files become, in the data model of the commands.
 #[tactic(auto, using(crate::proofs::Places::long_among))]
 pub(crate) fn units_printed(
     alloc: Global,
@@ -109,7 +110,8 @@ pub(crate) fn units_printed(
     files: &[String],
     names: &mut NamePool,
 ) -> Result<Bytes, Stop>
-    ensures text { IfOk result (λ b. (p : Program) × IsTextOf b p) }
+    requires { program.now.graph.abi ≡ Lp64 }
+    ensures text { IfOk result (λ b. IsTextOf b (program_of names.new program.now)) }
     ensures program { OnOk result (IsProgram (program_of names.new program.now)) }
     ensures refused { IfRefused result (IsMergeRefusal (length files.now) (length names.new)) }
     ensures late { IfRefused result (λ r. IsLateFault r.fault) }

@@ -1,4 +1,4 @@
-use Rattle.std.proofs.Common.{rules, ◌≡◌, Some, None, ℕ, List, Vec, Global, sym, subst, ◌∙◌}
+use Rattle.std.proofs.Common.{rules, ◌≡◌, Some, None, ℕ, List, Vec, Global, refl, sym, subst, ◌∙◌}
 use Rattle.c_lexer.specs.Lexed.{IfRefused as IfStopped}
 use Rattle.c_meaning.specs.View.{expression_of}
 use Rattle.c_meaning.specs.Reading.{reading}
@@ -23,7 +23,7 @@ returns-in-Some-clause-merged c =
     (let is = found_unit file c.args.tokens.now c.args.names.now (expression_of c.in-Some.e) are (sym some) in
     let merges = small-Merges file (expression_of c.in-Some.e) is in (
       whole_program (small (expression_of c.in-Some.e)),
-      record { grammatical = found_tree file c.args.tokens.now c.args.names.now _ are c.in_ok-tree.ensures.reads; text = merges.text; form = λ e also. merges },
+      record { grammatical = found_tree file c.args.tokens.now c.args.names.now _ are c.in_ok-tree.ensures.reads; model = refl; text = merges.text; form = λ e also. merges },
       c.in_ok-form_text-in-Some.ensures ∙ sym (same_text (small (expression_of c.in-Some.e)) (small-well_formed file _ is)),
     ))
 
@@ -33,7 +33,7 @@ returns-in-Ok-clause-merged c =
     λ file are.
     (let made = c.in-Ok.ensures.text in (
       made.0,
-      record { grammatical = found_tree file c.args.tokens.now c.args.names.now _ are c.in_ok-tree.ensures.reads; text = subst (λ bytes. IsTextOf bytes made.0) made.1.text made.1; form = λ e also. absurd (found_none file c.args.tokens.now c.args.names.now are (sym none) e also) },
+      record { grammatical = found_tree file c.args.tokens.now c.args.names.now _ are c.in_ok-tree.ensures.reads; model = made.2; text = subst (λ bytes. IsTextOf bytes made.0) made.1.text made.1; form = λ e also. absurd (found_none file c.args.tokens.now c.args.names.now are (sym none) e also) },
       c.into_vec.ensures ∙ made.1.text,
     ))
 

@@ -5,6 +5,7 @@ use Rattle.cil_text.specs.ReadTypes.{read_params}
 use Rattle.cil_text.specs.TypesOf.{AddsParts}
 use Rattle.cil_scan.specs.Said.{all_said}
 use Rattle.cil_declarators.specs.Extends.{Extends}
+use Rattle.cil_declarators.specs.Bases.{bases_in}
 use Rattle.cil_declarators.specs.Layers.{listed, read_parameter}
 use Rattle.cil_declarators.proofs.LayersLaws.{params_left}
 use Rattle.cil_declarators.proofs.declarators.+declaration.Given as goal
@@ -39,7 +40,7 @@ decreases-one_param l = l.left * 68719476736 + 1
 abbrev pub invariant-read_params-loop-turns : goal.invariant-read_params-loop-turns
 invariant-read_params-loop-turns l =
     Extends l.fn.graph l.graph
-    × (params_left (read_parameter l.tags l.left) l.turns l.params.follows (shapes_of (shape l.graph.nodes) l.params.types.items) (all_said l.params.rest.now) ≡ read_params (read_parameter l.tags l.left) l.steps (all_said l.words))
+    × (params_left (read_parameter (bases_in l.abi l.tags) l.left) l.turns l.params.follows (shapes_of (shape l.graph.nodes) l.params.types.items) (all_said l.params.rest.now) ≡ read_params (read_parameter (bases_in l.abi l.tags) l.left) l.steps (all_said l.words))
     × EachType (length l.graph.nodes) l.params.types.items
     × AddsParts l.fn.graph l.graph (listed (shapes_of (shape l.graph.nodes) l.params.types.items))
 

@@ -1,5 +1,6 @@
 use Rattle.std.proofs.Common.{[], rules, IsErr, IfErr}
 use Rattle.cil_reader.proofs.OnwardLaws.{onward_twice}
+use Rattle.cil_text.specs.ReadExps.{bases}
 use Rattle.cil_text.specs.ReadAggregates.{read_member}
 use Rattle.cil_declarators.specs.Gives.{Fails}
 use Rattle.cil_scan.specs.Said.{all_lines}
@@ -17,7 +18,7 @@ loop-more-preserved c = (
   pool_twice c.args.pool.now c.loop-more.pool c.next_member-in-loop-more.new.pool c.loop-more.invariant.2 c.next_member-in-loop-more.ensures.pool,
   members_next c.args.r.now c.loop-more.r c.args.left c.loop-more.pool c.loop-more.fields.members.items c.loop-more.fields.names c.loop-more.more c.in_ok-again.again
       (members_in c.next_member-in-loop-more.new.r.graph.nodes c.next_member-in-loop-more.new.pool c.in_ok-again.all.members.items) (all_lines c.loop-more.rest.now) (all_lines c.in_ok-again.behind.now)
-      (members_from (read_member (env_in c.args.r.now).tags c.args.left) [] (all_lines c.args.lines.now)) c.loop-more.invariant.0 c.loop-more.invariant.1.env c.loop-more-test.true c.in_ok-again.ensures.gives c.loop-more.invariant.3,
+      (members_from (read_member (bases (env_in c.args.r.now)) c.args.left) [] (all_lines c.args.lines.now)) c.loop-more.invariant.0 c.loop-more.invariant.1.env c.loop-more-test.true c.in_ok-again.ensures.gives c.loop-more.invariant.3,
   fields_on c.args.r.now.graph c.loop-more.r.graph c.next_member-in-loop-more.new.r.graph c.loop-more.fields.names.types.items c.in_ok-again.all.names.types.items c.loop-more.invariant.4 c.in_ok-again.ensures.adds,
 )
 
@@ -27,8 +28,8 @@ next_member-requires c = record { known = no_fields c.args.r.now.graph c.args.po
 pub returns-in_err-again-clause-gives : goal.returns-in_err-again-clause-gives
 returns-in_err-again-clause-gives c =
     let ms = members_in c.loop-more.r.graph.nodes c.loop-more.pool c.loop-more.fields.members.items in
-    let read = next_line (member_more (read_member (env_in c.loop-more.r).tags c.args.left) ms) ms (all_lines c.loop-more.rest.now) in
-    let whole = members_from (read_member (env_in c.args.r.now).tags c.args.left) [] (all_lines c.args.lines.now) in
+    let read = next_line (member_more (read_member (bases (env_in c.loop-more.r)) c.args.left) ms) ms (all_lines c.loop-more.rest.now) in
+    let whole = members_from (read_member (bases (env_in c.args.r.now)) c.args.left) [] (all_lines c.args.lines.now) in
     let stopped : IsErr c.from_residual-in_err-again.result = search rules in
     let says : IfErr c.from_residual-in_err-again.result (λ e. Fails e read) = search rules in
     stops_so _ c.from_residual-in_err-again.result read whole stopped says

@@ -1,5 +1,6 @@
 use Rattle.std.proofs.Common.{◌≡◌, drop, length}
 use Rattle.std.specs.Option.{option_map}
+use Rattle.cil_text.specs.ReadExps.{bases}
 use Rattle.cil_text.specs.ReadGlobals.{read_declarations}
 use Rattle.cil_text.specs.TypesOf.{AddsParts}
 use Rattle.cil_scan.specs.Said.{all_lines}
@@ -11,4 +12,4 @@ abbrev pub invariant-loop-i : goal.invariant-loop-i
 invariant-loop-i l =
     Onward l.fn.r l.r × EachDeclared (length l.r.graph.nodes) l.all.items
     × AddsParts l.fn.r.graph l.r.graph (types_declared l.r.graph.nodes l.all.items)
-    × (option_map (declarations_behind (declarations_of l.r.graph.nodes l.all.items)) (read_declarations (env_in l.fn.r).tags l.left (all_lines (drop l.i l.lines))) ≡ read_declarations (env_in l.fn.r).tags l.left (all_lines l.lines))
+    × (option_map (declarations_behind (declarations_of l.r.graph.nodes l.all.items)) (read_declarations (bases (env_in l.fn.r)) l.left (all_lines (drop l.i l.lines))) ≡ read_declarations (bases (env_in l.fn.r)) l.left (all_lines l.lines))
