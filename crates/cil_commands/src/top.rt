@@ -51,7 +51,9 @@ use std::alloc::Global;
 /// before the one of the place is grammatical, and that one has too many bytes, or the units so far have, or it is refused as its tokens
 /// and its grammar say, or behind its grammar for an excluded form, a constraint or a limit, at one of its tokens or at its end; or all
 /// units are grammatical, and the fault is one of those that are found behind all: `Duplicate`, `Incompatible`, and the limit on the
-/// bytes of the text.
+/// bytes of the text. With `--common` tentative definitions of one name in several units are one object (J.5.11). Of several files it is
+/// said as well: each has a CIL program; where a text is written no external name is defined twice in these, and all declarations of one
+/// correspond; `Duplicate` and `Incompatible` come for the first name, or the first pair of declarations, of which that is not so.
 ///
 /// `run [--steps N] FILE [ARG...]` reads the file as a CIL text and runs its program with the words from FILE on, bounded by N
 /// steps: it is `Exited`, `StillRunning` or `WentUndefined` as the program's run on the bytes of input ends, and then out took just

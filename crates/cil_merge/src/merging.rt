@@ -122,7 +122,8 @@ fn classes_of(
 ///
 /// It refuses with `Duplicate` where two units define one name, and else with `Incompatible` where two declare one with types that do not
 /// correspond (6.2.7p2), for the first link that lets the links up to it correspond in no way: at the first declaration in the later unit,
-/// with that in the earlier one as the other place.
+/// with that in the earlier one as the other place. The mode says whether tentative definitions of several units are one (J.5.11). Its
+/// other error is want of memory.
 #[tactic(auto, using(crate::proofs::MergingLaws::duplicate_refused, crate::proofs::MergingLaws::links_correspond))]
 pub fn merge(
     alloc: Global,

@@ -1,3 +1,4 @@
+pub mod MadeNames
 pub mod Refusals
 pub mod Scopes
 pub mod Stops

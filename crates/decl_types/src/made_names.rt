@@ -1,4 +1,6 @@
-ghost use Rattle.cil_base.specs.NamePool.{Stays};
+ghost use Rattle.std.specs.Prelude.{◌≡◌, map, IfOk, OnOk};
+ghost use Rattle.cil_base.specs.NamePool.{Stays, interned_all};
+ghost use Rattle.decl_types.specs.MadeNames.{made_text, new_texts};
 
 use crate::stops::impossible;
 use cil_base::{Memory, NameId, NamePool};
@@ -20,7 +22,9 @@ pub struct MadeNames {
 }
 
 /// The text `__m___k`.
-fn made_text(alloc: Global, k: u32) -> Result<Vec<u8>, Memory> {
+fn made_text(alloc: Global, k: u32) -> Result<Vec<u8>, Memory>
+    ensures { IfOk result (λ v. v.items ≡ made_text k) }
+{
     let mut text = Vec::new(alloc);
     text.extend_from_slice(b"__m___")?;
     let mut buffer = Buffer::new();
@@ -29,9 +33,10 @@ fn made_text(alloc: Global, k: u32) -> Result<Vec<u8>, Memory> {
 }
 
 /// Adds the name `__m___k` of each of these k to a pool.
-#[tactic(auto, using(cil_base::proofs::PoolLemmas::stays_then))]
+#[tactic(auto, using(cil_base::proofs::PoolLemmas::stays_then, crate::proofs::MadeLaws::next_made, crate::proofs::MadeLaws::all_made))]
 fn intern_all(alloc: Global, fresh: &[u32], names: &mut NamePool) -> Result<(), Memory>
-    ensures { Stays names.old names.new }
+    ensures after { OnOk result (names.new ≡ interned_all names.old (map made_text fresh.now)) }
+    ensures stays { Stays names.old names.new }
 {
     for k in fresh {
         let text = made_text(alloc, *k)?;
@@ -82,6 +87,7 @@ impl MadeNames {
 
     /// Gives the new ones to the pool over which they were made, where they get the numbers that they have.
     pub fn give(self, names: &mut NamePool) -> Result<(), Memory>
+        ensures after { OnOk result (names.new ≡ interned_all names.old (new_texts self)) }
         ensures stays { Stays names.old names.new }
     {
         intern_all(self.alloc, &self.fresh, names)

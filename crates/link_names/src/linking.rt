@@ -14,7 +14,7 @@ use std::alloc::Global;
 ///
 /// It refuses with `Duplicate` where two units define one name (6.9p5), at the second definition, with the first as the other place,
 /// for the first such name in the order in which names appear. Under common, tentative definitions of several units are one, and a
-/// definition that is not tentative may stand beside them (J.5.11).
+/// definition that is not tentative may stand beside them (J.5.11). Its other error is want of memory.
 pub fn links(alloc: Global, units: &[Fronted], mode: Mode) -> Result<Links, Stop>
     ensures links { IfOk result (AreLinks (grouped (declared_from 0 units.now)) mode.common) }
     ensures duplicate { IfErr result (IsDuplicate (grouped (declared_from 0 units.now)) mode.common) }

@@ -76,7 +76,7 @@ fn name_units(
 /// of aggregates. The parameters, objects and temporaries of a function get names that are new to the file and to the function, its
 /// labels such as are new to the function; members keep theirs.
 ///
-/// The links and the classes are those of these units.
+/// The links and the classes are those of these units. Its error is want of memory, after which the units are only to be dropped.
 pub fn rename(
     alloc: Global,
     units: &mut Vec<Fronted>,

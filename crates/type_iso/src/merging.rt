@@ -361,7 +361,8 @@ fn classed(alloc: Global, web: Web, joining: Joining) -> Result<Classes, Memory>
 /// two declarations of one name.
 ///
 /// The links between declarations are all pairs of parties of one group, in the order of the groups, then of the later party, then of
-/// the earlier one. `Clash` comes for the first that lets the links up to it correspond in no way (C11 6.2.7, own).
+/// the earlier one. `Clash` comes for the first that lets the links up to it correspond in no way (C11 6.2.7, own); the other error is
+/// want of memory. The pool has the names by which tags and members are compared; the classes are in the order in which they are printed.
 pub fn classes<G: HasGraph>(
     alloc: Global,
     units: &[G],

@@ -19,11 +19,11 @@ use unit_lower::lower_unit;
 /// The greatest number of bytes in a translation unit.
 const UNIT_BYTES: usize = 4_194_304;
 
-/// The CIL program that a translation unit becomes, with what linking it with others asks for; or its first fault. The unit has that
+/// The CIL program that a translation unit becomes under a data model, with what linking it with others asks for. The unit has that
 /// number and file.
 ///
 /// It is refused for a limit on its bytes, then as `lex`, `parse` and `check_unit` say; a unit that becomes a program is grammatical (C11
-/// 6.9).
+/// 6.9). `Memory` comes where memory is wanting, and where an external name stands at no identifier, which ought never to be.
 #[tactic(auto, using(crate::proofs::Causes::large, crate::proofs::Places::of_tokens, crate::proofs::Files::grows_stays, cil_base::proofs::PoolLemmas::stays_then))]
 pub fn front(
     alloc: Global,
@@ -67,8 +67,8 @@ fn tokens_front(
     parsed_front(alloc, &tree, tokens, names, abi)
 }
 
-/// The CIL program that a translation unit of these tokens becomes, with what linking it with others asks for; or its first fault. Each
-/// external name is declared at an identifier of the unit.
+/// The CIL program that a translation unit of these tokens becomes, with what linking it with others asks for; it is refused as
+/// `check_unit` says. Each external name is declared at an identifier of the unit.
 #[tactic(auto, using(cil_base::proofs::PoolLemmas::stays_then))]
 pub fn parsed_front(
     alloc: Global,

@@ -24,7 +24,12 @@ use merge_refusals::{of_first, of_link, of_units};
 use std::alloc::Global;
 use unit_front::{front, parsed_front};
 
-/// The text of the CIL program that a translation unit, of these tokens, becomes. Own.
+/// The text of the CIL program that a translation unit becomes (C11 5.1.1.1), whose tree these tokens spell. The pool has the names and
+/// files of the tokens; it keeps them and gains others.
+///
+/// It is refused for an excluded form, a constraint or a limit, at one of its tokens or at its end, or for a text of more than
+/// 268,435,456 bytes, at its first token. `Memory` comes where memory is wanting, and where the program is not well-formed, which ought
+/// never to be. Own.
 #[tactic(auto, using(crate::proofs::Texts::text_in))]
 pub fn unit_text(
     alloc: Global,
@@ -42,8 +47,11 @@ pub fn unit_text(
     unit_printed(&program, tokens, names)
 }
 
-/// The text of the CIL program that translation units of these files become, whose tentative definitions of one name are one object
-/// where they are common. Own.
+/// The text of the CIL program that translation units become (C11 5.1.1.1), of which the i-th is of the i-th file; behind them one may
+/// pass a limit on bytes. Where they are common, tentative definitions of one name are one object (J.5.11).
+///
+/// They are refused for the first fault of the first unit that has one, then for that limit, then with `Duplicate` (6.9p5) or
+/// `Incompatible` (6.2.7p2) as the links of their programs ask, then for the length of the text. `Memory` comes as of `unit_text`. Own.
 #[tactic(auto, using(crate::proofs::Texts::text_in, crate::proofs::InOrder::late, crate::proofs::Links::of_printing, crate::proofs::Links::linked_later, cil_base::proofs::PoolLemmas::stays_then))]
 pub fn units_text(
     alloc: Global,
@@ -65,8 +73,8 @@ pub fn units_text(
     units_printed(alloc, &program, units, files, names)
 }
 
-/// The CIL program that translation units in memory become, of files of these names; it is refused as the text of `units_text` is.
-/// Own.
+/// The CIL program that translation units in memory become, of files of these names, without common definitions; they are refused as by
+/// `units_text`. Own.
 #[tactic(auto, using(crate::proofs::InOrder::late, crate::proofs::Links::of_long, crate::proofs::Links::linked_later, cil_base::proofs::PoolLemmas::stays_then))]
 pub fn units_program(
     alloc: Global,
