@@ -7,9 +7,7 @@ PROGRAM = crates/cil/out/cil
 
 # Proves the program and builds it, the libraries that it stands on first.
 program:
-	@scripts/build-libraries cil
-	@echo "proving cil"
-	cd crates/cil && rt run -- merge data/a.c >/dev/null
+	@scripts/build-program cil
 
 # Builds the program with checks in the place of proofs, and merges and runs the example with it.
 try:
@@ -70,9 +68,9 @@ bench-types:
 	bench/types.sh
 
 bench-text:
-	cd crates/text_bench && rt run >/dev/null
+	@scripts/build-program text_bench
 	bench/text.sh
 
 bench-memory:
-	cd crates/memory_bench && rt run -- small 0 >/dev/null
+	@scripts/build-program memory_bench
 	bench/memory.sh

@@ -3,8 +3,9 @@
 # 50,000 (at most 2.1 times), and the bytes of peak memory a type (at most 104).
 # It needs valgrind and GNU time, and prints its figures; its status is 1 where one is too large.
 set -eu
-cd "$(dirname "$0")/../crates/types_bench"
-rt run -- 4 > /dev/null 2>&1
+cd "$(dirname "$0")/.."
+scripts/build-program types_bench > /dev/null
+cd crates/types_bench
 
 instructions() {
     valgrind --tool=callgrind --callgrind-out-file=/dev/null ./out/types_bench "$1" 2>&1 | sed -n 's/.*Collected : //p'
