@@ -9,7 +9,7 @@ trap 'rm -rf "$folder"' EXIT
 cd "$folder" || exit 1
 status=0
 
-# The least seconds of three runs of a command, to the microsecond, and the greatest memory of another one in bytes.
+# The least seconds of seven runs of a command, to the microsecond, and the greatest memory of another one in bytes.
 measured() {
     /usr/bin/time -o memory -f %M "$@" >/dev/null 2>&1 || {
         echo "merge.sh: $1 fails" >&2
@@ -18,7 +18,7 @@ measured() {
     python3 - "$@" <<'PY'
 import os, subprocess, sys
 seconds = []
-for run in range(3):
+for run in range(7):
     child = subprocess.Popen(sys.argv[1:], stdout=subprocess.DEVNULL, stderr=subprocess.DEVNULL)
     _, status, used = os.wait4(child.pid, 0)
     if status:
