@@ -1,6 +1,8 @@
-use super::*;
+use crate::builder::Builder;
+use crate::stop::Stop;
 use cil_base::{Constant, IntKind, TypeId};
 use cil_tree::{GlobalDef, ImageItem};
+use std::alloc::Global;
 use std::test::Fail;
 
 /// `void ( * ) ( void )`, and so many types more, each a pointer to a function that takes two of the one before.

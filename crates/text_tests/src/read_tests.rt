@@ -1,7 +1,10 @@
-use super::*;
+use crate::program::text_of;
+use crate::sample_text::SAMPLE;
+use crate::stop::Stop;
 use cil_base::{Abi, NamePool};
 use cil_layout::bad_place;
 use cil_reader::{ReadStop, read};
+use std::alloc::Global;
 use std::test::Fail;
 
 /// The place that is named for bytes in a data model, or none where they are read.
@@ -19,9 +22,21 @@ fn place_of(alloc: Global, text: &[u8]) -> Result<Option<usize>, ReadStop> {
     place_in(alloc, text, Abi::Lp64)
 }
 
+/// The lines of the sample's text.
+fn sample_lines(alloc: Global) -> Result<Vec<u8>, Stop> {
+    let mut text = Vec::new(alloc);
+    for line in &SAMPLE {
+        text.extend_from_slice(line.as_bytes())?;
+        text.push(b'\n')?;
+    }
+    Ok(text)
+}
+
 #[test]
-fn the_sample_is_read(rt: HostRuntime) -> Result<(), Fail> {
+fn the_sample_is_printed_and_read(rt: HostRuntime) -> Result<(), Fail> {
     let text = text_of(rt.alloc())?;
+    let lines = sample_lines(rt.alloc())?;
+    assert!(rt; text.as_slice() == lines.as_slice());
     assert_eq!(rt; place_of(rt.alloc(), &text)?, None);
     Ok(())
 }

@@ -4,6 +4,7 @@ use crate::objects::objects;
 use crate::stop::Stop;
 use crate::types::add_types;
 use cil_base::EntityId;
+use std::alloc::Global;
 
 // The places of globals that others name, in the order in which they are added.
 pub(crate) const GRID: EntityId = EntityId(4);
@@ -23,8 +24,15 @@ pub(crate) const TWICE: EntityId = EntityId(16);
 pub(crate) const APPLY: EntityId = EntityId(17);
 
 /// Builds the sample.
-pub(crate) fn sample(b: &mut Builder) -> Result<(), Stop> {
+fn sample(b: &mut Builder) -> Result<(), Stop> {
     let t = add_types(b)?;
     objects(b, &t)?;
     functions(b, &t)
+}
+
+/// The text of the sample.
+pub(crate) fn text_of(alloc: Global) -> Result<Vec<u8>, Stop> {
+    let mut b = Builder::new(alloc);
+    sample(&mut b)?;
+    b.text()
 }

@@ -1,5 +1,5 @@
 use Rattle.std.proofs.Common.{length}
-use Rattle.cil_sample.proofs.builder.+are_there.Given as goal
+use Rattle.text_tests.proofs.builder.+are_there.Given as goal
 
 abbrev pub decreases-are_there : goal.decreases-are_there
 decreases-are_there l = length l.types.now

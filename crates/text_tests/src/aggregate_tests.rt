@@ -1,8 +1,9 @@
-use super::*;
-use crate::builder::Part;
+use crate::builder::{Builder, Part};
+use crate::stop::Stop;
 use crate::types::member;
 use cil_base::{Abi, AggId, IntKind, NamePool, TypeId};
 use cil_reader::{ReadStop, read};
+use std::alloc::Global;
 use std::test::Fail;
 use type_graph::AggKind;
 
