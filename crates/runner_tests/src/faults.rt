@@ -1,5 +1,7 @@
-use crate::row::machine_of;
-use cil_runner::RunEnd;
+ghost use Rattle.cil_runner.specs.Beginning.{IsFresh};
+
+use crate::machine::machine_of;
+use cil_runner::{Machine, RunEnd};
 use outside::{MemSink, MemSource};
 use std::alloc::Global;
 use std::test::Fail;
@@ -29,41 +31,60 @@ const INPUT: &str = "abcd";
 
 const OUTPUT: &str = "goabcd";
 
-/// A run over a source and a sink that move one byte a call, and fail in the calls of these numbers: how it ends, and
-/// how many bytes the sink has, if they are the first of the output.
-fn ended(alloc: Global, reads: &[u64], writes: &[u64]) -> Result<Option<(RunEnd, usize)>, Fail> {
-    let mut machine = machine_of(alloc, COPIES, &["p"])?;
+/// The numbers of the read and of the write that fails, how the run ends, and how many bytes the sink has, the first of the output. The reads 0 to 3 give a
+/// byte each, and 4 finds the end; all output is written before a read. A write takes a byte.
+fn calls() -> &'static [(u64, u64, RunEnd, usize)] {
+    &[
+        (0, 100, RunEnd::ReadFault, 2),
+        (1, 100, RunEnd::ReadFault, 3),
+        (2, 100, RunEnd::ReadFault, 4),
+        (3, 100, RunEnd::ReadFault, 5),
+        (4, 100, RunEnd::ReadFault, 6),
+        (5, 100, RunEnd::Exited(0), 6),
+        (100, 0, RunEnd::WriteFault, 0),
+        (100, 1, RunEnd::WriteFault, 1),
+        (100, 2, RunEnd::WriteFault, 2),
+        (100, 3, RunEnd::WriteFault, 3),
+        (100, 4, RunEnd::WriteFault, 4),
+        (100, 5, RunEnd::WriteFault, 5),
+        (100, 6, RunEnd::Exited(0), 6),
+    ]
+}
+
+/// Whether a machine ends so over a source and a sink that move one byte a call, and fail in these calls, and the sink has that many bytes of the output.
+fn ends_so(
+    alloc: Global,
+    machine: &mut Machine,
+    row: &(u64, u64, RunEnd, usize),
+) -> Result<bool, Fail>
+    requires { IsFresh machine.old }
+{
     let input = INPUT.as_bytes().to_vec(alloc)?;
-    let mut input = MemSource::new(input, 1, reads.to_vec(alloc)?);
-    let mut out = MemSink::new(alloc, 1, 100, writes.to_vec(alloc)?)?;
+    let mut input = MemSource::new(input, 1, vec![in alloc; row.0]?);
+    let mut out = MemSink::new(alloc, 1, 100, vec![in alloc; row.1]?)?;
     let end = machine.run(100, &mut input, &mut out);
-    if OUTPUT.as_bytes().starts_with(out.taken()) {
-        Ok(Some((end, out.taken().len())))
-    } else {
-        Ok(None)
-    }
+    Ok(end == row.2 && OUTPUT.as_bytes().starts_with(out.taken()) && out.taken().len() == row.3)
 }
 
-// The calls 0 to 3 give a byte each, and 4 finds the end. All output is written before a read.
-#[test]
-fn each_read_that_fails_ends_a_run(rt: HostRuntime) -> Result<(), Fail> {
-    for (call, bytes) in [(0, 2), (1, 3), (2, 4), (3, 5), (4, 6)] {
-        let found = ended(rt.alloc(), &[call], &[])?;
-        assert_eq!(rt; found, Some((RunEnd::ReadFault, bytes)), "{call}");
-    }
-    let found = ended(rt.alloc(), &[5], &[])?;
-    assert_eq!(rt; found, Some((RunEnd::Exited(0), 6)));
-    Ok(())
+/// Whether a run ends as its row has it.
+fn is_met(alloc: Global, row: &(u64, u64, RunEnd, usize)) -> Result<bool, Fail> {
+    let mut machine = machine_of(alloc, COPIES)?;
+    ends_so(alloc, &mut machine, row)
 }
 
-// A call takes a byte.
-#[test]
-fn each_write_that_fails_ends_a_run(rt: HostRuntime) -> Result<(), Fail> {
-    for (call, bytes) in [(0, 0), (1, 1), (2, 2), (3, 3), (4, 4), (5, 5)] {
-        let found = ended(rt.alloc(), &[], &[call])?;
-        assert_eq!(rt; found, Some((RunEnd::WriteFault, bytes)), "{call}");
+/// The first row that ends otherwise, by its place.
+fn first_other(alloc: Global, rows: &[(u64, u64, RunEnd, usize)]) -> Result<Option<usize>, Fail> {
+    for (i, row) in rows.iter().enumerate() {
+        if !is_met(alloc, row)? {
+            return Ok(Some(i));
+        }
     }
-    let found = ended(rt.alloc(), &[], &[6])?;
-    assert_eq!(rt; found, Some((RunEnd::Exited(0), 6)));
+    Ok(None)
+}
+
+#[test]
+fn each_call_that_fails_ends_a_run(rt: HostRuntime) -> Result<(), Fail> {
+    let other = first_other(rt.alloc(), calls())?;
+    assert_eq!(rt; other, None);
     Ok(())
 }
