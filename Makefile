@@ -38,10 +38,11 @@ install: program
 check-docs:
 	scripts/check-docs
 
-# Merges, runs and merges again an example with the C library of lib/, and compares each step with gcc; then the units and programs of tests/.
+# Merges, runs and merges again an example with the C library of lib/, and compares each step with gcc; then the units, programs and commands of tests/.
 check-program: program
 	scripts/check-program $(PROGRAM)
 	scripts/check-rows $(PROGRAM)
+	scripts/check-commands $(PROGRAM)
 
 bench: program
 	bench/thin.sh $(PROGRAM)
