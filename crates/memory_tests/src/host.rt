@@ -2,11 +2,11 @@ ghost use Rattle.std.specs.Prelude.{IfOk};
 ghost use Rattle.byte_mem.specs.Store.{memory};
 ghost use Rattle.host_calls.specs.Counted.{IsCounted, state};
 
+use crate::equal::are_equal;
 use byte_mem::{Byte, ObjName, Pointer, Scalar, Store, Value};
 use cil_base::{EntityId, IntKind, LocalId, Memory};
 use host_calls::{HostName, HostResult, Io, host};
 use std::alloc::Global;
-use std::test::Fail;
 
 const INT: Scalar = Scalar::Int(IntKind::Int);
 
@@ -122,164 +122,257 @@ fn call(
     Ok(host(alloc, name, wanted, args, &mut mem, &mut io))
 }
 
+/// What a call over these objects is that is undefined.
+const UNDEFINED: Result<HostResult, Memory> = Ok(HostResult::Undefined);
+
 /// The bound of 67,108,864 bytes, and what `free` undoes.
 #[test]
 fn malloc_stops_at_its_bound(rt: HostRuntime) {
     let alloc = rt.alloc();
     let (mut mem, mut io) = begin(alloc);
-    let whole = malloc(alloc, 67_108_864, &mut mem, &mut io);
-    assert_eq!(rt; whole, HostResult::Value(heap(0, 0)));
-    let more = malloc(alloc, 1, &mut mem, &mut io);
-    assert_eq!(rt; more, HostResult::Value(Value::Int(0)));
-    let inside = free(alloc, heap(0, 1), &mut mem, &mut io);
-    assert_eq!(rt; inside, HostResult::Undefined);
-    let freed = free(alloc, heap(0, 0), &mut mem, &mut io);
-    assert_eq!(rt; freed, HostResult::Value(Value::Unknown));
-    let again = free(alloc, heap(0, 0), &mut mem, &mut io);
-    assert_eq!(rt; again, HostResult::Undefined);
-    let null = free(alloc, Value::Int(0), &mut mem, &mut io);
-    assert_eq!(rt; null, HostResult::Value(Value::Unknown));
-    let beyond = malloc(alloc, 67_108_865, &mut mem, &mut io);
-    assert_eq!(rt; beyond, HostResult::Value(Value::Int(0)));
-    let empty = malloc(alloc, 0, &mut mem, &mut io);
-    assert_eq!(rt; empty, HostResult::Value(heap(1, 0)));
-    assert_eq!(rt; io.live, 0);
+    are_equal(
+        &rt,
+        &[
+            (
+                malloc(alloc, 67_108_864, &mut mem, &mut io),
+                HostResult::Value(heap(0, 0)),
+            ),
+            (
+                malloc(alloc, 1, &mut mem, &mut io),
+                HostResult::Value(Value::Int(0)),
+            ),
+            (
+                free(alloc, heap(0, 1), &mut mem, &mut io),
+                HostResult::Undefined,
+            ),
+            (
+                free(alloc, heap(0, 0), &mut mem, &mut io),
+                HostResult::Value(Value::Unknown),
+            ),
+            (
+                free(alloc, heap(0, 0), &mut mem, &mut io),
+                HostResult::Undefined,
+            ),
+            (
+                free(alloc, Value::Int(0), &mut mem, &mut io),
+                HostResult::Value(Value::Unknown),
+            ),
+            (
+                malloc(alloc, 67_108_865, &mut mem, &mut io),
+                HostResult::Value(Value::Int(0)),
+            ),
+            (
+                malloc(alloc, 0, &mut mem, &mut io),
+                HostResult::Value(heap(1, 0)),
+            ),
+        ],
+    );
+    let before = io.live;
     let anew = malloc(alloc, 1, &mut mem, &mut io);
-    assert_eq!(rt; anew, HostResult::Value(heap(2, 0)));
-    assert_eq!(rt; io.live, 1);
+    are_equal(&rt, &[(anew, HostResult::Value(heap(2, 0)))]);
+    are_equal(&rt, &[(before, 0), (io.live, 1)]);
+}
+
+fn freed(alloc: Global, v: Value) -> Result<HostResult, Memory> {
+    call(alloc, HostName::Free, None, &[(Scalar::Ptr, v)])
 }
 
 /// C11 7.22.3.3: what `free` takes is null, or the beginning of a live object of `malloc`.
 #[test]
-fn only_objects_of_malloc_are_freed(rt: HostRuntime) -> Result<(), Fail> {
-    let done = HostResult::Value(Value::Unknown);
-    for (v, want) in [
-        (Value::Int(0), done),
-        (heap(0, 0), done),
-        (heap(0, 1), HostResult::Undefined),
-        (heap(0, 8), HostResult::Undefined),
-        (heap(0, -1), HostResult::Undefined),
-        (heap(1, 0), HostResult::Undefined),
-        (heap(2, 0), HostResult::Undefined),
-        (to(entity(0), 0), HostResult::Undefined),
-        (to(ObjName::Local(1, LocalId(0)), 0), HostResult::Undefined),
-        (to(ObjName::Literal(0), 0), HostResult::Undefined),
-        (to(ObjName::Argument(0), 0), HostResult::Undefined),
-        (Value::Int(8), HostResult::Undefined),
-        (Value::Unknown, HostResult::Undefined),
-        (part(), HostResult::Undefined),
-    ] {
-        let args = [(Scalar::Ptr, v)];
-        let found = call(rt.alloc(), HostName::Free, None, &args)?;
-        assert_eq!(rt; found, want, "{v:?}");
-    }
-    Ok(())
+fn only_objects_of_malloc_are_freed(rt: HostRuntime) {
+    let alloc = rt.alloc();
+    let done = Ok(HostResult::Value(Value::Unknown));
+    are_equal(
+        &rt,
+        &[
+            (freed(alloc, Value::Int(0)), done),
+            (freed(alloc, heap(0, 0)), done),
+            (freed(alloc, heap(0, 1)), UNDEFINED),
+            (freed(alloc, heap(0, 8)), UNDEFINED),
+            (freed(alloc, heap(0, -1)), UNDEFINED),
+            (freed(alloc, heap(1, 0)), UNDEFINED),
+            (freed(alloc, heap(2, 0)), UNDEFINED),
+            (freed(alloc, to(entity(0), 0)), UNDEFINED),
+            (
+                freed(alloc, to(ObjName::Local(1, LocalId(0)), 0)),
+                UNDEFINED,
+            ),
+            (freed(alloc, to(ObjName::Literal(0), 0)), UNDEFINED),
+            (freed(alloc, to(ObjName::Argument(0), 0)), UNDEFINED),
+            (freed(alloc, Value::Int(8)), UNDEFINED),
+            (freed(alloc, Value::Unknown), UNDEFINED),
+            (freed(alloc, part()), UNDEFINED),
+        ],
+    );
 }
 
-/// Bytes are set where a pointer leads to so many that may be written, by numbers (own).
+/// `__builtin_memset` of so many bytes.
+fn set(alloc: Global, v: Value, c: Value, n: Value) -> Result<HostResult, Memory> {
+    let args = [(Scalar::Ptr, v), (INT, c), (SIZE, n)];
+    call(alloc, HostName::Memset, Some(Scalar::Ptr), &args)
+}
+
+/// The same of zeros, by a count.
+fn zeroed(alloc: Global, v: Value, n: i128) -> Result<HostResult, Memory> {
+    set(alloc, v, Value::Int(0), Value::Int(n))
+}
+
+/// Bytes are set where a pointer leads to so many that may be written (own).
 #[test]
-fn bytes_are_set_where_they_may_be(rt: HostRuntime) -> Result<(), Fail> {
-    let zero = Value::Int(0);
-    for (v, c, n, is_some) in [
-        (heap(0, 0), zero, Value::Int(8), true),
-        (heap(0, 3), zero, Value::Int(5), true),
-        (heap(0, 3), zero, Value::Int(6), false),
-        (heap(0, 8), zero, zero, true),
-        (heap(0, 9), zero, zero, false),
-        (heap(0, -1), zero, Value::Int(1), false),
-        (heap(0, 0), zero, Value::Int(0x1_0000_0000), false),
-        (heap(0, 0), zero, Value::Int(0xffff_ffff_ffff_ffff), false),
-        (to(entity(0), 0), zero, Value::Int(8), true),
-        (to(entity(1), 0), zero, Value::Int(8), false),
-        (to(entity(1), 0), zero, zero, false),
-        (heap(1, 0), zero, zero, false),
-        (heap(2, 0), zero, zero, false),
-        (zero, zero, zero, false),
-        (Value::Int(8), zero, zero, false),
-        (Value::Unknown, zero, zero, false),
-        (part(), zero, zero, false),
-        (heap(0, 0), Value::Unknown, Value::Int(8), false),
-        (heap(0, 0), heap(0, 0), Value::Int(8), false),
-        (heap(0, 0), part(), Value::Int(8), false),
-        (heap(0, 0), zero, Value::Unknown, false),
-        (heap(0, 0), zero, heap(0, 0), false),
-        (heap(0, 0), zero, part(), false),
-    ] {
-        let args = [(Scalar::Ptr, v), (INT, c), (SIZE, n)];
-        let want = if is_some {
-            HostResult::Value(v)
-        } else {
-            HostResult::Undefined
-        };
-        let found = call(rt.alloc(), HostName::Memset, Some(Scalar::Ptr), &args)?;
-        assert_eq!(rt; found, want, "{v:?} {c:?} {n:?}");
-    }
-    Ok(())
+fn bytes_are_set_where_they_may_be(rt: HostRuntime) {
+    let alloc = rt.alloc();
+    are_equal(
+        &rt,
+        &[
+            (
+                zeroed(alloc, heap(0, 0), 8),
+                Ok(HostResult::Value(heap(0, 0))),
+            ),
+            (
+                zeroed(alloc, heap(0, 3), 5),
+                Ok(HostResult::Value(heap(0, 3))),
+            ),
+            (zeroed(alloc, heap(0, 3), 6), UNDEFINED),
+            (
+                zeroed(alloc, heap(0, 8), 0),
+                Ok(HostResult::Value(heap(0, 8))),
+            ),
+            (zeroed(alloc, heap(0, 9), 0), UNDEFINED),
+            (zeroed(alloc, heap(0, -1), 1), UNDEFINED),
+            (zeroed(alloc, heap(0, 0), 0x1_0000_0000), UNDEFINED),
+            (zeroed(alloc, heap(0, 0), 0xffff_ffff_ffff_ffff), UNDEFINED),
+            (
+                zeroed(alloc, to(entity(0), 0), 8),
+                Ok(HostResult::Value(to(entity(0), 0))),
+            ),
+            (zeroed(alloc, to(entity(1), 0), 8), UNDEFINED),
+            (zeroed(alloc, to(entity(1), 0), 0), UNDEFINED),
+            (zeroed(alloc, heap(1, 0), 0), UNDEFINED),
+            (zeroed(alloc, heap(2, 0), 0), UNDEFINED),
+            (zeroed(alloc, Value::Int(0), 0), UNDEFINED),
+            (zeroed(alloc, Value::Int(8), 0), UNDEFINED),
+            (zeroed(alloc, Value::Unknown, 0), UNDEFINED),
+            (zeroed(alloc, part(), 0), UNDEFINED),
+        ],
+    );
+}
+
+/// Bytes are set by numbers (own).
+#[test]
+fn bytes_are_set_by_numbers(rt: HostRuntime) {
+    let alloc = rt.alloc();
+    let (zero, eight) = (Value::Int(0), Value::Int(8));
+    are_equal(
+        &rt,
+        &[
+            (set(alloc, heap(0, 0), Value::Unknown, eight), UNDEFINED),
+            (set(alloc, heap(0, 0), heap(0, 0), eight), UNDEFINED),
+            (set(alloc, heap(0, 0), part(), eight), UNDEFINED),
+            (set(alloc, heap(0, 0), zero, Value::Unknown), UNDEFINED),
+            (set(alloc, heap(0, 0), zero, heap(0, 0)), UNDEFINED),
+            (set(alloc, heap(0, 0), zero, part()), UNDEFINED),
+        ],
+    );
+}
+
+/// `malloc`, `exit` and `putchar` of an argument.
+fn called_with(alloc: Global, v: Value) -> [Result<HostResult, Memory>; 3] {
+    [
+        call(alloc, HostName::Malloc, Some(Scalar::Ptr), &[(SIZE, v)]),
+        call(alloc, HostName::Exit, None, &[(INT, v)]),
+        call(alloc, HostName::Putchar, Some(INT), &[(INT, v)]),
+    ]
 }
 
 /// An argument that is no number of its type makes a call undefined (own; C11 6.2.6.1p5).
 #[test]
-fn arguments_are_numbers(rt: HostRuntime) -> Result<(), Fail> {
-    for v in [Value::Unknown, part(), heap(0, 0)] {
-        let size = [(SIZE, v)];
-        let status = [(INT, v)];
-        let found = call(rt.alloc(), HostName::Malloc, Some(Scalar::Ptr), &size)?;
-        assert_eq!(rt; found, HostResult::Undefined, "{v:?}");
-        let found = call(rt.alloc(), HostName::Exit, None, &status)?;
-        assert_eq!(rt; found, HostResult::Undefined, "{v:?}");
-        let found = call(rt.alloc(), HostName::Putchar, Some(INT), &status)?;
-        assert_eq!(rt; found, HostResult::Undefined, "{v:?}");
-    }
-    Ok(())
+fn arguments_are_numbers(rt: HostRuntime) {
+    are_equal(
+        &rt,
+        &[
+            (called_with(rt.alloc(), Value::Unknown), [UNDEFINED; 3]),
+            (called_with(rt.alloc(), part()), [UNDEFINED; 3]),
+            (called_with(rt.alloc(), heap(0, 0)), [UNDEFINED; 3]),
+        ],
+    );
+}
+
+/// A function with no argument, with two and with four.
+fn miscalled(
+    alloc: Global,
+    name: HostName,
+    wanted: Option<Scalar>,
+) -> [Result<HostResult, Memory>; 4] {
+    let int = (INT, Value::Int(0));
+    let size = (SIZE, Value::Int(0));
+    let null = (Scalar::Ptr, Value::Int(0));
+    [
+        call(alloc, name, wanted, &[]),
+        call(alloc, name, wanted, &[int, int]),
+        call(alloc, name, wanted, &[null, int]),
+        call(alloc, name, wanted, &[null, int, size, size]),
+    ]
 }
 
 /// C11 6.5.2.2p6: a call has as many arguments as the function has parameters.
 #[test]
-fn arguments_are_as_many_as_parameters(rt: HostRuntime) -> Result<(), Fail> {
-    let int = (INT, Value::Int(0));
-    let size = (SIZE, Value::Int(0));
-    let null = (Scalar::Ptr, Value::Int(0));
-    for (name, wanted) in [
-        (HostName::Putchar, Some(INT)),
-        (HostName::Exit, None),
-        (HostName::Malloc, Some(Scalar::Ptr)),
-        (HostName::Free, None),
-        (HostName::Memset, Some(Scalar::Ptr)),
-    ] {
-        let found = call(rt.alloc(), name, wanted, &[])?;
-        assert_eq!(rt; found, HostResult::Undefined, "{name:?}");
-        let found = call(rt.alloc(), name, wanted, &[int, int])?;
-        assert_eq!(rt; found, HostResult::Undefined, "{name:?}");
-        let found = call(rt.alloc(), name, wanted, &[null, int])?;
-        assert_eq!(rt; found, HostResult::Undefined, "{name:?}");
-        let found = call(rt.alloc(), name, wanted, &[null, int, size, size])?;
-        assert_eq!(rt; found, HostResult::Undefined, "{name:?}");
-    }
-    let found = call(rt.alloc(), HostName::Getchar, Some(INT), &[int])?;
-    assert_eq!(rt; found, HostResult::Undefined);
-    let found = call(rt.alloc(), HostName::Abort, None, &[int])?;
-    assert_eq!(rt; found, HostResult::Undefined);
-    Ok(())
+fn arguments_are_as_many_as_parameters(rt: HostRuntime) {
+    let alloc = rt.alloc();
+    let int = [(INT, Value::Int(0))];
+    are_equal(
+        &rt,
+        &[
+            (
+                miscalled(alloc, HostName::Putchar, Some(INT)),
+                [UNDEFINED; 4],
+            ),
+            (miscalled(alloc, HostName::Exit, None), [UNDEFINED; 4]),
+            (
+                miscalled(alloc, HostName::Malloc, Some(Scalar::Ptr)),
+                [UNDEFINED; 4],
+            ),
+            (miscalled(alloc, HostName::Free, None), [UNDEFINED; 4]),
+            (
+                miscalled(alloc, HostName::Memset, Some(Scalar::Ptr)),
+                [UNDEFINED; 4],
+            ),
+        ],
+    );
+    are_equal(
+        &rt,
+        &[
+            (call(alloc, HostName::Getchar, Some(INT), &int), UNDEFINED),
+            (call(alloc, HostName::Abort, None, &int), UNDEFINED),
+        ],
+    );
 }
 
 /// C11 6.5.2.2p9: a call gives what the function's type does; `getchar` of another type asks for no input.
 #[test]
-fn results_are_of_their_kinds(rt: HostRuntime) -> Result<(), Fail> {
-    for (name, wanted, want) in [
-        (HostName::Getchar, Some(INT), HostResult::NeedsInput),
-        (HostName::Getchar, None, HostResult::Undefined),
-        (HostName::Getchar, Some(SIZE), HostResult::Undefined),
-        (HostName::Getchar, Some(Scalar::Ptr), HostResult::Undefined),
-        (HostName::Abort, None, HostResult::Exit(134)),
-        (HostName::Abort, Some(INT), HostResult::Undefined),
-    ] {
-        let found = call(rt.alloc(), name, wanted, &[])?;
-        assert_eq!(rt; found, want, "{name:?} {wanted:?}");
-    }
+fn results_are_of_their_kinds(rt: HostRuntime) {
+    let alloc = rt.alloc();
     let size = [(SIZE, Value::Int(4))];
-    let found = call(rt.alloc(), HostName::Malloc, Some(SIZE), &size)?;
-    assert_eq!(rt; found, HostResult::Undefined);
-    Ok(())
+    are_equal(
+        &rt,
+        &[
+            (
+                call(alloc, HostName::Getchar, Some(INT), &[]),
+                Ok(HostResult::NeedsInput),
+            ),
+            (call(alloc, HostName::Getchar, None, &[]), UNDEFINED),
+            (call(alloc, HostName::Getchar, Some(SIZE), &[]), UNDEFINED),
+            (
+                call(alloc, HostName::Getchar, Some(Scalar::Ptr), &[]),
+                UNDEFINED,
+            ),
+            (
+                call(alloc, HostName::Abort, None, &[]),
+                Ok(HostResult::Exit(134)),
+            ),
+            (call(alloc, HostName::Abort, Some(INT), &[]), UNDEFINED),
+            (call(alloc, HostName::Malloc, Some(SIZE), &size), UNDEFINED),
+        ],
+    );
 }
 
 /// C11 7.21.7.6, 7.21.7.8: bytes are unsigned chars, and the end is -1 and stays.
@@ -288,26 +381,53 @@ fn characters_come_and_go(rt: HostRuntime) {
     let alloc = rt.alloc();
     let (mut mem, mut io) = begin(alloc);
     let early = getchar(alloc, &mut mem, &mut io);
-    assert_eq!(rt; early, HostResult::NeedsInput);
     io.ready = Some(Some(200));
     let byte = getchar(alloc, &mut mem, &mut io);
-    assert_eq!(rt; byte, HostResult::Value(Value::Int(200)));
-    assert_eq!(rt; io.ready, None);
+    let between = io.ready;
     io.ready = Some(None);
     let end = getchar(alloc, &mut mem, &mut io);
-    assert_eq!(rt; end, HostResult::Value(Value::Int(-1)));
-    assert_eq!(rt; io.ready, Some(None));
-    let zero = putchar(alloc, INT, Value::Int(256), &mut mem, &mut io);
-    assert_eq!(rt; zero, HostResult::Value(Value::Int(0)));
-    let last = putchar(alloc, INT, Value::Int(-1), &mut mem, &mut io);
-    assert_eq!(rt; last, HostResult::Value(Value::Int(255)));
-    let unknown = putchar(alloc, INT, Value::Unknown, &mut mem, &mut io);
-    assert_eq!(rt; unknown, HostResult::Undefined);
-    let pointer = putchar(alloc, INT, heap(0, 0), &mut mem, &mut io);
-    assert_eq!(rt; pointer, HostResult::Undefined);
-    let kind = putchar(alloc, SIZE, Value::Int(65), &mut mem, &mut io);
-    assert_eq!(rt; kind, HostResult::Undefined);
-    assert_eq!(rt; io.out.as_slice(), [0, 255].as_slice());
+    are_equal(
+        &rt,
+        &[
+            (early, HostResult::NeedsInput),
+            (byte, HostResult::Value(Value::Int(200))),
+            (end, HostResult::Value(Value::Int(-1))),
+        ],
+    );
+    are_equal(&rt, &[(between, None), (io.ready, Some(None))]);
+}
+
+/// C11 7.21.7.8: a byte is written where an int is given.
+#[test]
+fn characters_are_written(rt: HostRuntime) {
+    let alloc = rt.alloc();
+    let (mut mem, mut io) = begin(alloc);
+    are_equal(
+        &rt,
+        &[
+            (
+                putchar(alloc, INT, Value::Int(256), &mut mem, &mut io),
+                HostResult::Value(Value::Int(0)),
+            ),
+            (
+                putchar(alloc, INT, Value::Int(-1), &mut mem, &mut io),
+                HostResult::Value(Value::Int(255)),
+            ),
+            (
+                putchar(alloc, INT, Value::Unknown, &mut mem, &mut io),
+                HostResult::Undefined,
+            ),
+            (
+                putchar(alloc, INT, heap(0, 0), &mut mem, &mut io),
+                HostResult::Undefined,
+            ),
+            (
+                putchar(alloc, SIZE, Value::Int(65), &mut mem, &mut io),
+                HostResult::Undefined,
+            ),
+        ],
+    );
+    are_equal(&rt, &[(io.out.as_slice(), [0, 255].as_slice())]);
 }
 
 /// C11 7.22.4: the status is a byte; a call with other kinds than the row's is undefined.
@@ -316,14 +436,27 @@ fn programs_end(rt: HostRuntime) {
     let alloc = rt.alloc();
     let (mut mem, mut io) = begin(alloc);
     let args = [(INT, Value::Int(258))];
-    let status = host(alloc, HostName::Exit, None, &args, &mut mem, &mut io);
-    assert_eq!(rt; status, HostResult::Exit(2));
-    let wanted = host(alloc, HostName::Exit, Some(INT), &args, &mut mem, &mut io);
-    assert_eq!(rt; wanted, HostResult::Undefined);
-    let aborted = host(alloc, HostName::Abort, None, &[], &mut mem, &mut io);
-    assert_eq!(rt; aborted, HostResult::Exit(134));
-    let extra = host(alloc, HostName::Abort, None, &args, &mut mem, &mut io);
-    assert_eq!(rt; extra, HostResult::Undefined);
+    are_equal(
+        &rt,
+        &[
+            (
+                host(alloc, HostName::Exit, None, &args, &mut mem, &mut io),
+                HostResult::Exit(2),
+            ),
+            (
+                host(alloc, HostName::Exit, Some(INT), &args, &mut mem, &mut io),
+                HostResult::Undefined,
+            ),
+            (
+                host(alloc, HostName::Abort, None, &[], &mut mem, &mut io),
+                HostResult::Exit(134),
+            ),
+            (
+                host(alloc, HostName::Abort, None, &args, &mut mem, &mut io),
+                HostResult::Undefined,
+            ),
+        ],
+    );
 }
 
 /// Bytes become a number modulo 256.
@@ -331,26 +464,40 @@ fn programs_end(rt: HostRuntime) {
 fn bytes_are_set(rt: HostRuntime) {
     let alloc = rt.alloc();
     let (mut mem, mut io) = begin(alloc);
-    let made = malloc(alloc, 4, &mut mem, &mut io);
-    assert_eq!(rt; made, HostResult::Value(heap(0, 0)));
-    let set = memset(alloc, heap(0, 0), 4, &mut mem, &mut io);
-    assert_eq!(rt; set, HostResult::Value(heap(0, 0)));
+    are_equal(
+        &rt,
+        &[
+            (
+                malloc(alloc, 4, &mut mem, &mut io),
+                HostResult::Value(heap(0, 0)),
+            ),
+            (
+                memset(alloc, heap(0, 0), 4, &mut mem, &mut io),
+                HostResult::Value(heap(0, 0)),
+            ),
+        ],
+    );
     let at = Pointer {
         name: ObjName::Heap(0),
         offset: 0,
     };
-    assert_eq!(rt; mem.load(at, INT), Some(Value::Int(0x0101_0101)));
+    are_equal(&rt, &[(mem.load(at, INT), Some(Value::Int(0x0101_0101)))]);
 }
 
 /// Each function by its name, and a text that is none.
 #[test]
 fn names_are_found(rt: HostRuntime) {
-    assert_eq!(rt; HostName::of(b"getchar"), Some(HostName::Getchar));
-    assert_eq!(rt; HostName::of(b"putchar"), Some(HostName::Putchar));
-    assert_eq!(rt; HostName::of(b"exit"), Some(HostName::Exit));
-    assert_eq!(rt; HostName::of(b"abort"), Some(HostName::Abort));
-    assert_eq!(rt; HostName::of(b"malloc"), Some(HostName::Malloc));
-    assert_eq!(rt; HostName::of(b"free"), Some(HostName::Free));
-    assert_eq!(rt; HostName::of(b"__builtin_memset"), Some(HostName::Memset));
-    assert_eq!(rt; HostName::of(b"memset"), None);
+    are_equal(
+        &rt,
+        &[
+            (HostName::of(b"getchar"), Some(HostName::Getchar)),
+            (HostName::of(b"putchar"), Some(HostName::Putchar)),
+            (HostName::of(b"exit"), Some(HostName::Exit)),
+            (HostName::of(b"abort"), Some(HostName::Abort)),
+            (HostName::of(b"malloc"), Some(HostName::Malloc)),
+            (HostName::of(b"free"), Some(HostName::Free)),
+            (HostName::of(b"__builtin_memset"), Some(HostName::Memset)),
+            (HostName::of(b"memset"), None),
+        ],
+    );
 }
