@@ -1,4 +1,5 @@
-use crate::console::{Console, INT, sink, source};
+use crate::console::{CALM, Console, INT, Outside, new_console};
+use crate::equal::equal;
 use byte_mem::{ObjName, Pointer, Scalar, Value};
 use cil_base::IntKind;
 use cil_streams::HostEnd;
@@ -9,16 +10,32 @@ use std::test::Fail;
 const SIZE: Scalar = Scalar::Int(IntKind::ULong);
 
 // Over `z`, whose first read fails.
-fn console(alloc: Global) -> Result<Console, Fail> {
-    let input = source(alloc, b"z", 1, &[0])?;
-    Ok(Console::new(alloc, input, sink(alloc, 1, &[])?)?)
-}
+const FIRST_FAILS: Outside<'static> = Outside {
+    bytes: b"z",
+    piece: 1,
+    reads: &[0],
+    ..CALM
+};
 
 fn first(offset: i64) -> Value {
     Value::Ptr(Pointer {
         name: ObjName::Heap(0),
         offset,
     })
+}
+
+// What is answered before a call, by the call, and behind it.
+fn around(
+    alloc: Global,
+    console: &mut Console,
+    before: &str,
+    call: (HostName, Option<Scalar>, &[(Scalar, Value)]),
+    behind: &str,
+) -> Result<(String, HostEnd, String), Fail> {
+    let before = console.answers(alloc, before)?;
+    let (name, wanted, args) = call;
+    let end = console.call(name, wanted, args);
+    Ok((before, end, console.answers(alloc, behind)?))
 }
 
 // C11 7.22.4: the status is a byte. What waits is left to a flush.
@@ -29,10 +46,12 @@ fn a_program_ends_with_output_that_waits(rt: HostRuntime) -> Result<(), Fail> {
         (HostName::Exit, int.as_slice(), HostEnd::Exit(2)),
         (HostName::Abort, [].as_slice(), HostEnd::Exit(134)),
     ] {
-        let mut console = console(rt.alloc())?;
-        assert_eq!(rt; console.answers(rt.alloc(), "ab#")?.as_str(), "ab0");
-        assert_eq!(rt; console.call(name, None, args), want);
-        assert_eq!(rt; console.answers(rt.alloc(), "#!#")?.as_str(), "0!2");
+        let mut console = new_console(rt.alloc(), &FIRST_FAILS)?;
+        let call = (name, None, args);
+        let (before, end, behind) = around(rt.alloc(), &mut console, "ab#", call, "#!#")?;
+        equal(&rt, &name, &before.as_str(), &"ab0");
+        equal(&rt, &name, &end, &want);
+        equal(&rt, &name, &behind.as_str(), &"0!2");
     }
     Ok(())
 }
@@ -40,7 +59,7 @@ fn a_program_ends_with_output_that_waits(rt: HostRuntime) -> Result<(), Fail> {
 // C11 7.22.3.3, 7.22.3.4.
 #[test]
 fn an_object_is_made_set_and_freed_once(rt: HostRuntime) -> Result<(), Fail> {
-    let mut console = console(rt.alloc())?;
+    let mut console = new_console(rt.alloc(), &FIRST_FAILS)?;
     let size = [(SIZE, Value::Int(8))];
     let set = [
         (Scalar::Ptr, first(3)),
@@ -48,29 +67,15 @@ fn an_object_is_made_set_and_freed_once(rt: HostRuntime) -> Result<(), Fail> {
         (SIZE, Value::Int(5)),
     ];
     let object = [(Scalar::Ptr, first(0))];
-    for (name, wanted, args, want) in [
-        (
-            HostName::Malloc,
-            Some(Scalar::Ptr),
-            size.as_slice(),
-            HostEnd::Value(first(0)),
-        ),
-        (
-            HostName::Memset,
-            Some(Scalar::Ptr),
-            set.as_slice(),
-            HostEnd::Value(first(3)),
-        ),
-        (
-            HostName::Free,
-            None,
-            object.as_slice(),
-            HostEnd::Value(Value::Unknown),
-        ),
-        (HostName::Free, None, object.as_slice(), HostEnd::Undefined),
-    ] {
-        assert_eq!(rt; console.call(name, wanted, args), want, "{name:?}");
-    }
+    let pointer = Some(Scalar::Ptr);
+    let made = console.call(HostName::Malloc, pointer, &size);
+    let set = console.call(HostName::Memset, pointer, &set);
+    let freed = console.call(HostName::Free, None, &object);
+    let again = console.call(HostName::Free, None, &object);
+    equal(&rt, &"made", &made, &HostEnd::Value(first(0)));
+    equal(&rt, &"set", &set, &HostEnd::Value(first(3)));
+    equal(&rt, &"freed", &freed, &HostEnd::Value(Value::Unknown));
+    equal(&rt, &"freed again", &again, &HostEnd::Undefined);
     Ok(())
 }
 
@@ -80,7 +85,7 @@ fn an_object_is_made_set_and_freed_once(rt: HostRuntime) -> Result<(), Fail> {
 fn undefined_calls_leave_source_and_sink_alone(rt: HostRuntime) -> Result<(), Fail> {
     let int = [(INT, Value::Int(65))];
     let unknown = [(INT, Value::Unknown)];
-    for (name, wanted, args) in [
+    for call in [
         (HostName::Getchar, None, [].as_slice()),
         (HostName::Getchar, Some(SIZE), [].as_slice()),
         (HostName::Getchar, Some(INT), int.as_slice()),
@@ -88,11 +93,10 @@ fn undefined_calls_leave_source_and_sink_alone(rt: HostRuntime) -> Result<(), Fa
         (HostName::Putchar, Some(INT), [].as_slice()),
         (HostName::Putchar, Some(INT), unknown.as_slice()),
     ] {
-        let mut console = console(rt.alloc())?;
-        let found = console.call(name, wanted, args);
-        assert_eq!(rt; found, HostEnd::Undefined, "{name:?} {wanted:?}");
-        let behind = console.answers(rt.alloc(), "#<#<<")?;
-        assert_eq!(rt; behind.as_str(), "0R0z.", "{name:?} {wanted:?}");
+        let mut console = new_console(rt.alloc(), &FIRST_FAILS)?;
+        let (_, end, behind) = around(rt.alloc(), &mut console, "", call, "#<#<<")?;
+        equal(&rt, &call, &end, &HostEnd::Undefined);
+        equal(&rt, &call, &behind.as_str(), &"0R0z.");
     }
     Ok(())
 }

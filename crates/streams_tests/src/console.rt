@@ -9,35 +9,53 @@ use cil_streams::{HostEnd, Streams};
 use host_calls::HostName;
 use outside::{Failed, MemSink, MemSource};
 use std::alloc::{AllocError, Global};
+use std::test::Fail;
 
 pub const INT: Scalar = Scalar::Int(IntKind::Int);
 
 /// The number, or 1 in place of 0.
-pub fn at_least_one(n: usize) -> usize
+fn at_least_one(n: usize) -> usize
     ensures { 0 < result }
 {
     if n == 0 { 1 } else { n }
 }
 
-/// A source of these bytes, of which a call gives at most `piece`, and which fails in the calls of these numbers.
-pub fn source(
-    alloc: Global,
-    bytes: &[u8],
-    piece: usize,
-    fails: &[u64],
-) -> Result<MemSource, AllocError>
-    requires { 0 < piece }
-{
-    Ok(MemSource::new(bytes.to_vec(alloc)?, piece, fails.to_vec(alloc)?))
+/// What a console is over: the bytes of its source, how many of them a call gives at most, and which calls fail; and how many bytes
+/// a call of its sink takes at most, and which calls fail. The sink has room for 10,000 bytes.
+#[derive(Clone, Copy)]
+pub struct Outside<'a> {
+    pub bytes: &'a [u8],
+    pub piece: usize,
+    pub reads: &'a [u64],
+    pub taken: usize,
+    pub writes: &'a [u64],
 }
 
-/// A sink with room for 10,000 bytes, of which a call takes at most `piece`, and which fails in the calls of these
-/// numbers.
-pub fn sink(alloc: Global, piece: usize, fails: &[u64]) -> Result<MemSink, Memory>
-    requires { 0 < piece }
-{
-    let fails = fails.to_vec(alloc).map_err(|_| Memory)?;
-    MemSink::new(alloc, piece, 10_000, fails)
+/// A source that gives all its bytes in one call, and a sink that takes a byte in a call; no call fails.
+pub const CALM: Outside<'static> = Outside {
+    bytes: b"",
+    piece: 5000,
+    reads: &[],
+    taken: 1,
+    writes: &[],
+};
+
+fn source(alloc: Global, outside: &Outside<'_>) -> Result<MemSource, AllocError> {
+    let fails = outside.reads.to_vec(alloc)?;
+    let bytes = outside.bytes.to_vec(alloc)?;
+    Ok(MemSource::new(bytes, at_least_one(outside.piece), fails))
+}
+
+fn sink(alloc: Global, outside: &Outside<'_>) -> Result<MemSink, Memory> {
+    let fails = outside.writes.to_vec(alloc).map_err(|_| Memory)?;
+    MemSink::new(alloc, at_least_one(outside.taken), 10_000, fails)
+}
+
+/// A console at the start of a run.
+pub fn new_console(alloc: Global, outside: &Outside<'_>) -> Result<Console, Fail> {
+    let input = source(alloc, outside)?;
+    let out = sink(alloc, outside)?;
+    Ok(Console::new(alloc, input, out)?)
 }
 
 /// The streams and the store of a run, over a source and a sink in memory.
@@ -52,7 +70,7 @@ pub struct Console {
 
 impl Console {
     /// At the start of a run.
-    pub fn new(alloc: Global, input: MemSource, out: MemSink) -> Result<Console, AllocError> {
+    fn new(alloc: Global, input: MemSource, out: MemSink) -> Result<Console, AllocError> {
         let store = Store::new(alloc);
         let streams = Streams::new(alloc)?;
         Ok(Console {
@@ -117,6 +135,12 @@ impl Console {
         }
         Ok(answers)
     }
+
+    /// The same, and the bytes that the sink has taken behind them.
+    fn written(&mut self, alloc: Global, script: &str) -> Result<(String, Vec<u8>), AllocError> {
+        let answers = self.answers(alloc, script)?;
+        Ok((answers, self.taken().to_vec(alloc)?))
+    }
 }
 
 fn flushed(answer: Result<(), Failed>) -> char {
@@ -140,4 +164,14 @@ fn letter(end: HostEnd) -> char {
         HostEnd::Undefined => 'U',
         HostEnd::Memory => 'M',
     }
+}
+
+/// What the steps of a script answer over a console, and the bytes that its sink has taken behind them.
+pub fn written(
+    alloc: Global,
+    outside: &Outside<'_>,
+    script: &str,
+) -> Result<(String, Vec<u8>), Fail> {
+    let mut console = new_console(alloc, outside)?;
+    Ok(console.written(alloc, script)?)
 }

@@ -1,68 +1,65 @@
-use crate::console::{Console, at_least_one, sink, source};
+use crate::console::{CALM, Console, Outside, new_console, written};
+use crate::equal::equal;
 use cil_streams::HostEnd;
-use std::alloc::Global;
 use std::test::Fail;
-
-// What seven calls of getchar answer, where a call of the source gives at most `piece` bytes, and 1 at least.
-fn characters(alloc: Global, bytes: &str, piece: usize, fails: &[u64]) -> Result<String, Fail> {
-    let input = source(alloc, bytes.as_bytes(), at_least_one(piece), fails)?;
-    let mut console = Console::new(alloc, input, sink(alloc, 1, &[])?)?;
-    Ok(console.answers(alloc, "<<<<<<<")?)
-}
 
 // Once the source has given its end it is not read again, so that no later read fails. After a read that failed the
 // next getchar reads again.
 #[test]
 fn bytes_are_read_once_and_the_end_too(rt: HostRuntime) -> Result<(), Fail> {
-    for (bytes, piece, first, second, want) in [
-        ("abcd", 1, 9, 9, "abcd..."),
-        ("abcd", 2, 9, 9, "abcd..."),
-        ("abcd", 5000, 9, 9, "abcd..."),
-        ("abcd", 1, 0, 1, "RRabcd."),
-        ("abcd", 1, 0, 9, "Rabcd.."),
-        ("abcd", 1, 1, 9, "aRbcd.."),
-        ("abcd", 1, 2, 9, "abRcd.."),
-        ("abcd", 1, 3, 9, "abcRd.."),
-        ("abcd", 1, 4, 9, "abcdR.."),
-        ("abcd", 1, 4, 5, "abcdRR."),
-        ("abcd", 1, 4, 6, "abcdR.."),
-        ("abcd", 1, 5, 6, "abcd..."),
-        ("abcd", 2, 0, 9, "Rabcd.."),
-        ("abcd", 2, 1, 9, "abRcd.."),
-        ("abcd", 2, 2, 9, "abcdR.."),
-        ("abcd", 2, 3, 9, "abcd..."),
-        ("abcd", 3, 1, 9, "abcRd.."),
-        ("abcd", 3, 2, 9, "abcdR.."),
-        ("abcd", 5000, 0, 9, "Rabcd.."),
-        ("abcd", 5000, 1, 3, "abcdR.."),
-        ("abcd", 5000, 2, 3, "abcd..."),
-        ("", 1, 9, 9, "......."),
-        ("", 1, 0, 9, "R......"),
-        ("", 1, 0, 1, "RR....."),
-        ("", 1, 1, 2, "......."),
+    for (bytes, piece, reads, want) in [
+        ("abcd", 1, [9, 9], "abcd..."),
+        ("abcd", 2, [9, 9], "abcd..."),
+        ("abcd", 5000, [9, 9], "abcd..."),
+        ("abcd", 1, [0, 1], "RRabcd."),
+        ("abcd", 1, [0, 9], "Rabcd.."),
+        ("abcd", 1, [1, 9], "aRbcd.."),
+        ("abcd", 1, [2, 9], "abRcd.."),
+        ("abcd", 1, [3, 9], "abcRd.."),
+        ("abcd", 1, [4, 9], "abcdR.."),
+        ("abcd", 1, [4, 5], "abcdRR."),
+        ("abcd", 1, [4, 6], "abcdR.."),
+        ("abcd", 1, [5, 6], "abcd..."),
+        ("abcd", 2, [0, 9], "Rabcd.."),
+        ("abcd", 2, [1, 9], "abRcd.."),
+        ("abcd", 2, [2, 9], "abcdR.."),
+        ("abcd", 2, [3, 9], "abcd..."),
+        ("abcd", 3, [1, 9], "abcRd.."),
+        ("abcd", 3, [2, 9], "abcdR.."),
+        ("abcd", 5000, [0, 9], "Rabcd.."),
+        ("abcd", 5000, [1, 3], "abcdR.."),
+        ("abcd", 5000, [2, 3], "abcd..."),
+        ("", 1, [9, 9], "......."),
+        ("", 1, [0, 9], "R......"),
+        ("", 1, [0, 1], "RR....."),
+        ("", 1, [1, 2], "......."),
     ] {
-        let found = characters(rt.alloc(), bytes, piece, &[first, second])?;
-        assert_eq!(rt; found.as_str(), want, "{bytes} {piece} {first} {second}");
+        let outside = Outside {
+            bytes: bytes.as_bytes(),
+            piece,
+            reads: &reads,
+            ..CALM
+        };
+        let (found, _) = written(rt.alloc(), &outside, "<<<<<<<")?;
+        equal(&rt, &(bytes, piece, reads), &found.as_str(), &want);
     }
     Ok(())
 }
 
-// How many of 9,000 calls of getchar answer before one whose read fails, over a source of n bytes that gives all that
-// is asked of it.
-fn before_a_fault(alloc: Global, n: usize, fail: u64) -> Result<Option<usize>, Fail> {
-    let bytes = vec![in alloc; b'x'; n]?;
-    let input = source(alloc, &bytes, 5000, &[fail])?;
-    let mut console = Console::new(alloc, input, sink(alloc, 1, &[])?)?;
+// How many of 9,000 calls of getchar answer before one whose read fails.
+fn before_a_fault(console: &mut Console) -> Option<usize> {
     for i in 0..9000 {
         if console.getchar() == HostEnd::ReadFault {
-            return Ok(Some(i));
+            return Some(i);
         }
     }
-    Ok(None)
+    None
 }
 
+// Over a source of n bytes that gives all that is asked of it.
 #[test]
 fn a_read_asks_for_4096_bytes(rt: HostRuntime) -> Result<(), Fail> {
+    let all = [b'x'; 8192];
     for (n, fail, want) in [
         (0, 0, Some(0)),
         (0, 1, None),
@@ -78,8 +75,13 @@ fn a_read_asks_for_4096_bytes(rt: HostRuntime) -> Result<(), Fail> {
         (8192, 2, Some(8192)),
         (8192, 3, None),
     ] {
-        let found = before_a_fault(rt.alloc(), n, fail)?;
-        assert_eq!(rt; found, want, "{n} bytes, read {fail} fails");
+        let outside = Outside {
+            bytes: all.get(..n).unwrap_or_default(),
+            reads: &[fail],
+            ..CALM
+        };
+        let mut console = new_console(rt.alloc(), &outside)?;
+        equal(&rt, &(n, fail), &before_a_fault(&mut console), &want);
     }
     Ok(())
 }

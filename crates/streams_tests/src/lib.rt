@@ -8,6 +8,8 @@ mod calls;
 #[cfg(test)]
 mod console;
 #[cfg(test)]
+mod equal;
+#[cfg(test)]
 mod input;
 #[cfg(test)]
 mod output;

@@ -1,20 +1,16 @@
-ghost use Rattle.std.specs.Prelude.{◌<◌};
-
-use crate::console::{Console, at_least_one, sink, source};
+use crate::console::{CALM, Console, Outside, new_console, written};
+use crate::equal::equal;
 use cil_streams::HostEnd;
-use std::alloc::{AllocError, Global};
 use std::test::Fail;
 
 // How many bytes of n were taken before the flush, and how many behind it.
-fn counts(alloc: Global, n: usize) -> Result<(usize, usize), Fail> {
-    let input = source(alloc, b"", 1, &[])?;
-    let mut console = Console::new(alloc, input, sink(alloc, 5000, &[])?)?;
+fn counts(console: &mut Console, n: usize) -> (usize, usize) {
     for _ in 0..n {
         let _ = console.putchar(b'x');
     }
     let before = console.taken().len();
     let _ = console.flush();
-    Ok((before, console.taken().len()))
+    (before, console.taken().len())
 }
 
 #[test]
@@ -29,16 +25,18 @@ fn output_is_written_where_4096_bytes_wait(rt: HostRuntime) -> Result<(), Fail> 
         (8192, 8192),
         (8193, 8192),
     ] {
-        assert_eq!(rt; counts(rt.alloc(), n)?, (before, n), "{n} bytes");
+        let outside = Outside {
+            taken: 5000,
+            ..CALM
+        };
+        let mut console = new_console(rt.alloc(), &outside)?;
+        equal(&rt, &n, &counts(&mut console, n), &(before, n));
     }
     Ok(())
 }
 
-// Which of 4,097 calls of putchar answers that a write failed, and how many bytes are taken behind a flush, where the
-// sink takes one byte at a time.
-fn fault_of_putchar(alloc: Global, fail: u64) -> Result<(Option<usize>, usize), Fail> {
-    let input = source(alloc, b"", 1, &[])?;
-    let mut console = Console::new(alloc, input, sink(alloc, 1, &[fail])?)?;
+// Which of 4,097 calls of putchar answers that a write failed, and how many bytes are taken behind a flush.
+fn fault_of_putchar(console: &mut Console) -> (Option<usize>, usize) {
     let mut at = None;
     for i in 0..4097 {
         if console.putchar(b'x') == HostEnd::WriteFault {
@@ -46,7 +44,7 @@ fn fault_of_putchar(alloc: Global, fail: u64) -> Result<(Option<usize>, usize), 
         }
     }
     let _ = console.flush();
-    Ok((at, console.taken().len()))
+    (at, console.taken().len())
 }
 
 // What waited where a write failed is not written again.
@@ -59,24 +57,14 @@ fn the_last_byte_that_may_wait_tells_the_fault(rt: HostRuntime) -> Result<(), Fa
         (4096, None, 4096),
         (4097, None, 4097),
     ] {
-        let found = fault_of_putchar(rt.alloc(), fail)?;
-        assert_eq!(rt; found, (at, taken), "write {fail} fails");
+        let outside = Outside {
+            writes: &[fail],
+            ..CALM
+        };
+        let mut console = new_console(rt.alloc(), &outside)?;
+        equal(&rt, &fail, &fault_of_putchar(&mut console), &(at, taken));
     }
     Ok(())
-}
-
-// What the steps of a script answer over `z`, and the bytes that the sink has taken behind them, of which a call takes at
-// most `piece`, and 1 at least.
-fn written(
-    alloc: Global,
-    script: &str,
-    piece: usize,
-    fail: u64,
-) -> Result<(String, Vec<u8>), Fail> {
-    let input = source(alloc, b"z", 1, &[])?;
-    let mut console = Console::new(alloc, input, sink(alloc, at_least_one(piece), &[fail])?)?;
-    let answers = console.answers(alloc, script)?;
-    Ok((answers, console.taken().to_vec(alloc)?))
 }
 
 // A flush or a getchar with nothing waiting makes no write that could fail.
@@ -102,24 +90,18 @@ fn output_is_written_before_a_read_and_at_the_end(rt: HostRuntime) -> Result<(),
         ("!<!a!#", 1, 1, "!z!a!1", "a"),
         ("#!#", 1, 0, "0!0", ""),
     ] {
-        let (answers, bytes) = written(rt.alloc(), script, piece, fail)?;
-        assert_eq!(rt; answers.as_str(), want, "{script} {piece} {fail}");
-        assert_eq!(rt;
-            bytes.as_slice(),
-            taken.as_bytes(),
-            "{script} {piece} {fail}"
-        );
+        let outside = Outside {
+            bytes: b"z",
+            piece: 1,
+            taken: piece,
+            writes: &[fail],
+            ..CALM
+        };
+        let (found, bytes) = written(rt.alloc(), &outside, script)?;
+        equal(&rt, &(script, piece, fail), &found.as_str(), &want);
+        equal(&rt, &script, &bytes.as_slice(), &taken.as_bytes());
     }
     Ok(())
-}
-
-// What a dialogue answers over `zy`.
-fn dialogue(alloc: Global, piece: usize, fail: u64) -> Result<String, Fail>
-    requires { 0 < piece }
-{
-    let input = source(alloc, b"zy", piece, &[fail])?;
-    let mut console = Console::new(alloc, input, sink(alloc, 1, &[])?)?;
-    Ok(console.answers(alloc, "a<#b<#c<#d<#!#")?)
 }
 
 // Output is written before each read, also one that fails, and waits where no read is wanted.
@@ -135,8 +117,14 @@ fn output_waits_while_bytes_are_at_hand(rt: HostRuntime) -> Result<(), Fail> {
         (1, 2, "az1by2cR3d.4!4"),
         (2, 2, "az1by1c.3d.3!4"),
     ] {
-        let found = dialogue(rt.alloc(), piece, fail)?;
-        assert_eq!(rt; found.as_str(), want, "{piece} {fail}");
+        let outside = Outside {
+            bytes: b"zy",
+            piece,
+            reads: &[fail],
+            ..CALM
+        };
+        let (found, _) = written(rt.alloc(), &outside, "a<#b<#c<#d<#!#")?;
+        equal(&rt, &(piece, fail), &found.as_str(), &want);
     }
     Ok(())
 }
