@@ -1,12 +1,14 @@
 ghost use Rattle.std.specs.Prelude.{◌<◌, IfOk, length};
 ghost use Rattle.cil_code.specs.Leading.{LeadOn};
 
+use crate::equal::are_equal;
 use byte_mem::{Byte, Cells, ObjName, Pointer, Scalar, Store, Value};
-use cil_base::{EntityId, IntKind, LocalId};
+use cil_base::{EntityId, IntKind, LocalId, Memory};
 use cil_code::{Call, Datum, Kind, Operand, Receiver, Step};
 use cil_frames::{Argument, Automatic, Stop, enter, evaluate, keep, leave, run_course};
 use cil_machine::{Spot, Term};
 use std::alloc::{AllocError, Global};
+use std::process::Abort;
 use std::test::Fail;
 
 const INT: Scalar = Scalar::Int(IntKind::Int);
@@ -34,69 +36,79 @@ fn straight(alloc: Global) -> Result<Vec<Step>, AllocError>
     Ok(code)
 }
 
-// What a course through the steps tells, and the units that it leaves.
-fn course(alloc: Global, code: &[Step], units: u64) -> Result<(Stop, u64), Fail>
+// What a course tells: why it stops, and the number that its body ends with or the place of its call.
+fn told(stop: &Stop) -> (&'static str, Option<i128>) {
+    match stop {
+        Stop::Ended(Some(Datum::Single(v))) => ("ended", v.number()),
+        Stop::Ended(_) => ("ended", None),
+        Stop::Call(p) => ("call", Some(*p as i128)),
+        Stop::Running => ("running", None),
+        Stop::Undefined => ("undefined", None),
+    }
+}
+
+// What a course through the steps tells in a store, where the local 0 is an int without a value, and the units that it leaves of 3.
+fn course_in(mem: &mut Store, code: &[Step]) -> Result<(&'static str, Option<i128>, u64), Memory>
     requires leads { LeadOn code.now }
     requires there { 0 < length code.now }
 {
-    let mut mem = Store::new(alloc);
     let object = Automatic {
         number: LocalId(0),
         size: 4,
     };
-    enter(&mut mem, 5, &[], &[object])?;
-    let mut left = units;
-    let stop = run_course(&mut mem, 5, code, 0, &mut left)?;
-    Ok((stop, left))
+    enter(mem, 5, &[], &[object])?;
+    let mut left = 3;
+    let stop = run_course(mem, 5, code, 0, &mut left)?;
+    let (why, number) = told(&stop);
+    Ok((why, number, left))
 }
 
-// The number that a body ends with.
-fn ended(stop: &Stop) -> Option<i128> {
-    match stop {
-        Stop::Ended(Some(Datum::Single(v))) => v.number(),
-        _ => None,
-    }
+fn course(alloc: Global, code: &[Step]) -> Result<(&'static str, Option<i128>, u64), Memory>
+    requires leads { LeadOn code.now }
+    requires there { 0 < length code.now }
+{
+    course_in(&mut Store::new(alloc), code)
 }
 
 #[test]
 fn a_course_goes_to_the_end(rt: HostRuntime) -> Result<(), Fail> {
-    let alloc = rt.alloc();
-    let (stop, left) = course(alloc, &straight(alloc)?, 3)?;
-    assert_eq!(rt; ended(&stop), Some(7));
-    assert_eq!(rt; left, 3);
+    let code = straight(rt.alloc())?;
+    let found = course(rt.alloc(), &code);
+    are_equal(&rt, &[(found, Ok(("ended", Some(7), 3)))]);
     Ok(())
 }
 
 #[test]
 fn a_loop_spends_its_units(rt: HostRuntime) -> Result<(), Fail> {
-    let alloc = rt.alloc();
-    let mut code = Vec::new(alloc);
+    let mut code = Vec::new(rt.alloc());
     code.push(Step::Back(0))?;
-    let (stop, left) = course(alloc, &code, 3)?;
-    assert!(rt; matches!(stop, Stop::Running));
-    assert_eq!(rt; left, 0);
+    let found = course(rt.alloc(), &code);
+    are_equal(&rt, &[(found, Ok(("running", None, 0)))]);
     Ok(())
 }
 
 #[test]
 fn what_is_unknown_has_no_test(rt: HostRuntime) -> Result<(), Fail> {
-    let alloc = rt.alloc();
-    let mut code = Vec::new(alloc);
+    let mut code = Vec::new(rt.alloc());
     let value = Term::Load(Spot::Local(LocalId(0)));
     code.push(Step::Test(INT, value, 1))?;
     code.push(Step::Leave(None))?;
-    let (stop, left) = course(alloc, &code, 3)?;
-    assert!(rt; matches!(stop, Stop::Undefined));
-    assert_eq!(rt; left, 3);
+    let found = course(rt.alloc(), &code);
+    are_equal(&rt, &[(found, Ok(("undefined", None, 3)))]);
     Ok(())
 }
 
-// A call of the entity 3 with 1 and 2, whose result goes to the local 0.
-fn call(alloc: Global) -> Result<Call, AllocError> {
+// 1 and 2.
+fn arguments(alloc: Global) -> Result<Vec<Operand>, AllocError> {
     let mut arguments = Vec::new(alloc);
     arguments.push(Operand::Single(INT, Term::Number(1)))?;
     arguments.push(Operand::Single(INT, Term::Number(2)))?;
-    Ok(Call {
+    Ok(arguments)
+}
+
+// A call of the entity 3 with arguments, whose result goes to the local 0.
+fn call(arguments: Vec<Operand>) -> Call {
+    Call {
         to: Some(Receiver {
             place: Spot::Local(LocalId(0)),
             kind: Some(Kind::Single(INT)),
@@ -104,19 +116,18 @@ fn call(alloc: Global) -> Result<Call, AllocError> {
         callee: Term::Address(Spot::Entity(EntityId(3))),
         result: Some(Kind::Single(INT)),
         arguments,
-    })
+    }
 }
 
 #[test]
 fn a_course_stops_at_a_call(rt: HostRuntime) -> Result<(), Fail> {
-    let alloc = rt.alloc();
-    let mut code = Vec::new(alloc);
+    let arguments = arguments(rt.alloc())?;
+    let mut code = Vec::new(rt.alloc());
     code.push(Step::Forward(1))?;
-    code.push(Step::Call(call(alloc)?))?;
+    code.push(Step::Call(call(arguments)))?;
     code.push(Step::Leave(None))?;
-    let (stop, left) = course(alloc, &code, 3)?;
-    assert!(rt; matches!(stop, Stop::Call(1)));
-    assert_eq!(rt; left, 3);
+    let found = course(rt.alloc(), &code);
+    are_equal(&rt, &[(found, Ok(("call", Some(1), 3)))]);
     Ok(())
 }
 
@@ -133,53 +144,87 @@ fn number(a: Option<&Argument>) -> Option<i128> {
     }
 }
 
-#[test]
-fn the_parts_of_a_call_are_in_order(rt: HostRuntime) -> Result<(), Fail> {
-    let alloc = rt.alloc();
-    let mut mem = Store::new(alloc);
+// The numbers of a call's arguments in a store, and what is kept where its result is 9.
+fn passed(
+    alloc: Global,
+    mem: &mut Store,
+    k: &Call,
+) -> Result<([Option<i128>; 2], Option<()>), Fail> {
     mem.make(ObjName::Local(5, LocalId(0)), 4, Byte::Unknown, false)?;
-    let k = call(alloc)?;
-    let Some(parts) = evaluate(alloc, &mem, 5, &k)? else {
-        return Ok(());
-    };
-    assert_eq!(rt; number(parts.arguments.get(0)), Some(1));
-    assert_eq!(rt; number(parts.arguments.get(1)), Some(2));
-    let kept = keep(&mut mem, parts.to, &Datum::Single(Value::Int(9)));
-    assert!(rt; kept.is_some());
-    assert_eq!(rt; mem.load(local(0), INT), Some(Value::Int(9)));
+    let parts = evaluate(alloc, mem, 5, k)?.ok_or("no parts")?;
+    let first = number(parts.arguments.get(0));
+    let second = number(parts.arguments.get(1));
+    let kept = keep(mem, parts.to, &Datum::Single(Value::Int(9)));
+    Ok(([first, second], kept))
+}
+
+fn parts_are(rt: &impl Abort, alloc: Global, mem: &mut Store, k: &Call) -> Result<(), Fail> {
+    let (numbers, kept) = passed(alloc, mem, k)?;
+    are_equal(rt, &[(numbers, [Some(1), Some(2)])]);
+    are_equal(rt, &[(kept, Some(()))]);
+    are_equal(rt, &[(mem.load(local(0), INT), Some(Value::Int(9)))]);
     Ok(())
 }
 
 #[test]
-fn an_activation_has_its_objects_and_leaves_none(rt: HostRuntime) -> Result<(), Fail> {
+fn the_parts_of_a_call_are_in_order(rt: HostRuntime) -> Result<(), Fail> {
     let alloc = rt.alloc();
-    let mut mem = Store::new(alloc);
+    let k = call(arguments(alloc)?);
+    parts_are(&rt, alloc, &mut Store::new(alloc), &k)
+}
+
+// A struct of two bytes, of which the second is unknown.
+fn bytes(alloc: Global) -> Result<Cells, AllocError> {
     let mut bytes = Vec::new(alloc);
     bytes.push(Byte::Known(8))?;
     bytes.push(Byte::Unknown)?;
+    Ok(Cells::new(bytes))
+}
+
+// An int that is -2, and the struct.
+fn int_and_struct(alloc: Global) -> Result<Vec<Argument>, AllocError> {
     let mut arguments = Vec::new(alloc);
     arguments.push(Argument {
         kind: Some(Kind::Single(INT)),
         datum: Datum::Single(Value::Int(-2)),
     })?;
+    let datum = Datum::Bytes(bytes(alloc)?);
     arguments.push(Argument {
         kind: Some(Kind::Bytes(2)),
-        datum: Datum::Bytes(Cells::new(bytes)),
+        datum,
     })?;
+    Ok(arguments)
+}
+
+fn objects_live(rt: &impl Abort, mem: &mut Store, arguments: &[Argument]) -> Result<(), Fail> {
     let object = Automatic {
         number: LocalId(2),
         size: 4,
     };
-    enter(&mut mem, 5, &arguments, &[object])?;
-    assert_eq!(rt; mem.load(local(0), INT), Some(Value::Int(-2)));
-    assert_eq!(rt;
-        mem.load(local(1), Scalar::Int(IntKind::Char)),
-        Some(Value::Int(8))
+    enter(mem, 5, arguments, &[object])?;
+    let char = Scalar::Int(IntKind::Char);
+    are_equal(
+        rt,
+        &[
+            (mem.load(local(0), INT), Some(Value::Int(-2))),
+            (mem.load(local(1), char), Some(Value::Int(8))),
+            (mem.load(local(2), INT), Some(Value::Unknown)),
+        ],
     );
-    assert_eq!(rt; mem.load(local(2), INT), Some(Value::Unknown));
-    leave(&mut mem, 5, 2, &[object]);
-    assert_eq!(rt; mem.live_size(local(0).name), None);
-    assert_eq!(rt; mem.live_size(local(1).name), None);
-    assert_eq!(rt; mem.live_size(local(2).name), None);
+    leave(mem, 5, 2, &[object]);
+    are_equal(
+        rt,
+        &[
+            (mem.live_size(local(0).name), None),
+            (mem.live_size(local(1).name), None),
+            (mem.live_size(local(2).name), None),
+        ],
+    );
     Ok(())
+}
+
+#[test]
+fn an_activation_has_its_objects_and_leaves_none(rt: HostRuntime) -> Result<(), Fail> {
+    let arguments = int_and_struct(rt.alloc())?;
+    objects_live(&rt, &mut Store::new(rt.alloc()), &arguments)
 }

@@ -6,6 +6,8 @@
 #[cfg(test)]
 mod control;
 #[cfg(test)]
+mod equal;
+#[cfg(test)]
 mod expressions;
 #[cfg(test)]
 mod frames;
@@ -13,3 +15,5 @@ mod frames;
 mod loading;
 #[cfg(test)]
 mod steps;
+#[cfg(test)]
+mod trees;

@@ -1,5 +1,7 @@
+use crate::equal::are_equal;
+use crate::trees::add;
 use byte_mem::Store;
-use cil_base::{IntKind, LabelId, NamePool, UnOp};
+use cil_base::{IntKind, LabelId, Memory, NamePool, UnOp};
 use cil_check::Scope;
 use cil_code::{Onward, Step, load, take};
 use cil_machine::Setting;
@@ -12,11 +14,14 @@ use type_graph::TypeGraph;
 // `if ( 1 ) { } else { goto 0; } 0: ; return;`
 fn body(alloc: Global) -> Result<Vec<Stmt>, AllocError> {
     let mut fails = Vec::new(alloc);
-    fails.push(Stmt::Goto(LabelId(0)))?;
+    add(&mut fails, Stmt::Goto(LabelId(0)))?;
     let mut stmts = Vec::new(alloc);
-    stmts.push(Stmt::If(Exp::Const(IntKind::Int, 1), Vec::new(alloc), fails))?;
-    stmts.push(Stmt::Label(LabelId(0)))?;
-    stmts.push(Stmt::Return(None))?;
+    add(
+        &mut stmts,
+        Stmt::If(Exp::Const(IntKind::Int, 1), Vec::new(alloc), fails),
+    )?;
+    add(&mut stmts, Stmt::Label(LabelId(0)))?;
+    add(&mut stmts, Stmt::Return(None))?;
     Ok(stmts)
 }
 
@@ -31,75 +36,71 @@ fn named(code: &[Step], p: usize) -> Option<usize> {
 }
 
 // The steps of a body in a unit without globals.
-fn loaded(alloc: Global, stmts: Vec<Stmt>) -> Result<Vec<Step>, Fail> {
-    let graph = TypeGraph::new(alloc);
-    let layouts = Layouts::of_graph(alloc, &graph)?;
-    let unit = CilUnit {
-        graph,
-        globals: Vec::new(alloc),
+fn loaded_in(alloc: Global, unit: &CilUnit, function: &Body) -> Result<Vec<Step>, Memory> {
+    let Ok(layouts) = Layouts::of_graph(alloc, &unit.graph) else {
+        return Err(Memory);
     };
     let names = NamePool::new(alloc);
+    let setting = Setting {
+        alloc,
+        scope: Scope {
+            unit,
+            names: &names,
+            body: function,
+        },
+        layouts: &layouts,
+        entities: &[],
+    };
+    load(&setting, &function.stmts)
+}
+
+fn loaded(alloc: Global, stmts: Vec<Stmt>) -> Result<Vec<Step>, Memory> {
+    let unit = CilUnit {
+        graph: TypeGraph::new(alloc),
+        globals: Vec::new(alloc),
+    };
     let function = Body {
         params: Vec::new(alloc),
         locals: Vec::new(alloc),
         labels: Vec::new(alloc),
         stmts,
     };
-    let setting = Setting {
-        alloc,
-        scope: Scope {
-            unit: &unit,
-            names: &names,
-            body: &function,
-        },
-        layouts: &layouts,
-        entities: &[],
-    };
-    Ok(load(&setting, &function.stmts)?)
+    loaded_in(alloc, &unit, &function)
 }
 
 #[test]
 fn a_body_is_loaded_with_its_targets(rt: HostRuntime) -> Result<(), Fail> {
     let code = loaded(rt.alloc(), body(rt.alloc())?)?;
-    assert_eq!(rt; code.len(), 5);
-    assert_eq!(rt; named(&code, 0), Some(2));
-    assert_eq!(rt; named(&code, 1), Some(3));
-    assert_eq!(rt; named(&code, 2), Some(3));
-    assert_eq!(rt; named(&code, 3), None);
+    are_equal(&rt, &[(code.len(), 5)]);
+    are_equal(
+        &rt,
+        &[
+            (named(&code, 0), Some(2)),
+            (named(&code, 1), Some(3)),
+            (named(&code, 2), Some(3)),
+            (named(&code, 3), None),
+        ],
+    );
     Ok(())
 }
 
 // Adds `case value: return;`.
 fn add_case(stmts: &mut Vec<Stmt>, value: i128) -> Result<(), AllocError> {
-    stmts.push(Stmt::Case(IntKind::Int, value))?;
-    stmts.push(Stmt::Return(None))?;
-    Ok(())
+    add(stmts, Stmt::Case(IntKind::Int, value))?;
+    add(stmts, Stmt::Return(None))
 }
 
-// `switch (e) { case 4: return; case -2147483648: return; case 4: return; case 2147483647: return; case -1: return;
-// default: return; }`
-fn switch(alloc: Global, e: Exp) -> Result<Vec<Stmt>, AllocError> {
+// `case 4: return; case -2147483648: return; case 4: return; case 2147483647: return; case -1: return; default: return;`
+fn cases(alloc: Global) -> Result<Vec<Stmt>, AllocError> {
     let mut cases = Vec::new(alloc);
     add_case(&mut cases, 4)?;
     add_case(&mut cases, -2147483648)?;
     add_case(&mut cases, 4)?;
     add_case(&mut cases, 2147483647)?;
     add_case(&mut cases, -1)?;
-    cases.push(Stmt::Default)?;
-    cases.push(Stmt::Return(None))?;
-    let mut stmts = Vec::new(alloc);
-    stmts.push(Stmt::Switch(e, cases))?;
-    Ok(stmts)
-}
-
-// The place that this switch leads to.
-fn chosen(alloc: Global, e: Exp) -> Result<Option<usize>, Fail> {
-    let code = loaded(alloc, switch(alloc, e)?)?;
-    let mut mem = Store::new(alloc);
-    match code.get(0) {
-        Some(step) => Ok(place(take(&mut mem, 0, 0, step)?)),
-        None => Ok(None),
-    }
+    add(&mut cases, Stmt::Default)?;
+    add(&mut cases, Stmt::Return(None))?;
+    Ok(cases)
 }
 
 // The place that a step leads to without a spent unit.
@@ -110,32 +111,59 @@ fn place(onward: Option<Onward>) -> Option<usize> {
     }
 }
 
-// An int that is not negative.
-fn number(n: u64) -> Exp {
-    Exp::Const(IntKind::Int, n)
+// The place that the first step leads to.
+fn first_place(mem: &mut Store, code: &[Step]) -> Result<Option<usize>, Memory> {
+    match code.get(0) {
+        Some(step) => Ok(place(take(mem, 0, 0, step)?)),
+        None => Ok(None),
+    }
 }
 
-// `~n`, which is `-n - 1` (C11 6.5.3.3p4).
-fn complement(alloc: Global, n: u64) -> Result<Exp, AllocError> {
-    Ok(Exp::Un(UnOp::Compl, Box::new(alloc, number(n))?))
+// The place that a switch over these cases leads to.
+fn chosen(alloc: Global, e: Exp, cases: Vec<Stmt>) -> Result<Option<usize>, Memory> {
+    let mut stmts = Vec::new(alloc);
+    add(&mut stmts, Stmt::Switch(e, cases))?;
+    let code = loaded(alloc, stmts)?;
+    first_place(&mut Store::new(alloc), &code)
+}
+
+// The place that the switch of an int that is not negative leads to.
+fn of_number(alloc: Global, n: u64) -> Result<Option<usize>, Memory> {
+    let cases = cases(alloc)?;
+    chosen(alloc, Exp::Const(IntKind::Int, n), cases)
+}
+
+// That of `~n`, which is `-n - 1` (C11 6.5.3.3p4).
+fn of_complement(alloc: Global, n: u64) -> Result<Option<usize>, Memory> {
+    let cases = cases(alloc)?;
+    let n = Box::new(alloc, Exp::Const(IntKind::Int, n))?;
+    chosen(alloc, Exp::Un(UnOp::Compl, n), cases)
 }
 
 #[test]
-fn a_switch_finds_the_first_case_with_the_value(rt: HostRuntime) -> Result<(), Fail> {
+fn a_switch_finds_the_first_case_with_the_value(rt: HostRuntime) {
     let alloc = rt.alloc();
-    assert_eq!(rt; chosen(alloc, number(4))?, Some(1));
-    assert_eq!(rt; chosen(alloc, complement(alloc, 2147483647)?)?, Some(2));
-    assert_eq!(rt; chosen(alloc, number(2147483647))?, Some(4));
-    assert_eq!(rt; chosen(alloc, complement(alloc, 0)?)?, Some(5));
-    Ok(())
+    are_equal(
+        &rt,
+        &[
+            (of_number(alloc, 4), Ok(Some(1))),
+            (of_complement(alloc, 2147483647), Ok(Some(2))),
+            (of_number(alloc, 2147483647), Ok(Some(4))),
+            (of_complement(alloc, 0), Ok(Some(5))),
+        ],
+    );
 }
 
 #[test]
-fn a_switch_without_the_case_leads_to_its_default(rt: HostRuntime) -> Result<(), Fail> {
+fn a_switch_without_the_case_leads_to_its_default(rt: HostRuntime) {
     let alloc = rt.alloc();
-    assert_eq!(rt; chosen(alloc, number(0))?, Some(6));
-    assert_eq!(rt; chosen(alloc, number(5))?, Some(6));
-    assert_eq!(rt; chosen(alloc, number(2147483646))?, Some(6));
-    assert_eq!(rt; chosen(alloc, complement(alloc, 2147483646)?)?, Some(6));
-    Ok(())
+    are_equal(
+        &rt,
+        &[
+            (of_number(alloc, 0), Ok(Some(6))),
+            (of_number(alloc, 5), Ok(Some(6))),
+            (of_number(alloc, 2147483646), Ok(Some(6))),
+            (of_complement(alloc, 2147483646), Ok(Some(6))),
+        ],
+    );
 }
