@@ -1,9 +1,8 @@
 ghost use Rattle.std.specs.Prelude.{◌≡◌};
 
+use crate::equal::equal;
 use cil_base::{IntKind, Memory, TypeId};
-use std::alloc::Global;
 use std::process::Abort;
-use std::test::Fail;
 use type_compat::{compatible, composite};
 use type_graph::{AggKind, Node, QualType, Quals, TypeGraph, TypeList};
 
@@ -20,22 +19,76 @@ fn qualified(of: TypeId, constant: bool) -> QualType
     }
 }
 
-/// The rows are C11 6.2.7, 6.7.2.2p4, 6.7.6.1p2 and 6.7.6.2p6.
-#[test]
-fn tells_compatible_types(rt: HostRuntime) -> Result<(), Fail> {
-    let mut g = TypeGraph::new(rt.alloc());
-    let int = g.add_node(Node::Int(IntKind::Int))?;
-    let unsigned = g.add_node(Node::Int(IntKind::UInt))?;
-    let plain = g.add_node(Node::Ptr(qualified(int, false)))?;
-    let constant = g.add_node(Node::Ptr(qualified(int, true)))?;
-    let three = g.add_node(Node::Array(qualified(int, false), Some(3)))?;
-    let four = g.add_node(Node::Array(qualified(int, false), Some(4)))?;
-    let open = g.add_node(Node::Array(qualified(int, false), None))?;
+/// Each row holds two types, and whether they are compatible.
+fn are_compared(rt: &impl Abort, g: &TypeGraph, rows: &[(TypeId, TypeId, bool)]) {
+    for (a, b, answer) in rows {
+        assert!(rt; a.0 < g.len() && b.0 < g.len());
+        equal(rt, &(*a, *b), &compatible(g, *a, *b), answer);
+    }
+}
+
+/// Each row holds two types and their composite.
+fn are_composed(
+    rt: &impl Abort,
+    g: &mut TypeGraph,
+    rows: &[(TypeId, TypeId, TypeId)],
+) -> Result<(), Memory> {
+    for (a, b, answer) in rows {
+        assert!(rt; a.0 < g.len() && b.0 < g.len());
+        let made = composite(g.alloc(), g, *a, *b)?;
+        equal(rt, &(*a, *b), &made, answer);
+    }
+    Ok(())
+}
+
+/// A pointer to a type, with or without `const`.
+fn pointer(
+    rt: &impl Abort,
+    g: &mut TypeGraph,
+    to: TypeId,
+    constant: bool,
+) -> Result<TypeId, Memory> {
+    assert!(rt; to.0 < g.len());
+    g.add_node(Node::Ptr(qualified(to, constant)))
+}
+
+/// An array of elements without `const`.
+fn array(
+    rt: &impl Abort,
+    g: &mut TypeGraph,
+    of: TypeId,
+    bound: Option<u64>,
+) -> Result<TypeId, Memory> {
+    assert!(rt; of.0 < g.len());
+    g.add_node(Node::Array(qualified(of, false), bound))
+}
+
+/// `enum e` and `struct s`.
+fn tagged(g: &mut TypeGraph) -> Result<[TypeId; 2], Memory> {
     let e = g.add_agg(AggKind::Enum, None)?;
     let colour = g.add_node(Node::Agg(e))?;
     let s = g.add_agg(AggKind::Struct, None)?;
     let record = g.add_node(Node::Agg(s))?;
-    for (a, b, answer) in [
+    Ok([colour, record])
+}
+
+/// `int [3]`, `int [4]` and `int []`.
+fn arrays(rt: &impl Abort, g: &mut TypeGraph, int: TypeId) -> Result<[TypeId; 3], Memory> {
+    let three = array(rt, g, int, Some(3))?;
+    let four = array(rt, g, int, Some(4))?;
+    let open = array(rt, g, int, None)?;
+    Ok([three, four, open])
+}
+
+/// The rows are C11 6.2.7, 6.7.2.2p4, 6.7.6.1p2 and 6.7.6.2p6.
+fn compatible_types_are_told(rt: &impl Abort, g: &mut TypeGraph) -> Result<(), Memory> {
+    let int = g.add_node(Node::Int(IntKind::Int))?;
+    let unsigned = g.add_node(Node::Int(IntKind::UInt))?;
+    let plain = pointer(rt, g, int, false)?;
+    let constant = pointer(rt, g, int, true)?;
+    let [three, four, open] = arrays(rt, g, int)?;
+    let [colour, record] = tagged(g)?;
+    let rows = [
         (int, int, true),
         (int, unsigned, false),
         (int, colour, true),
@@ -48,40 +101,80 @@ fn tells_compatible_types(rt: HostRuntime) -> Result<(), Fail> {
         (three, open, true),
         (open, four, true),
         (plain, three, false),
-    ] {
-        assert!(rt; a.0 < g.len() && b.0 < g.len());
-        assert_eq!(rt; compatible(&g, a, b), answer, "of {a:?} and {b:?}");
-    }
+    ];
+    are_compared(rt, g, &rows);
     Ok(())
 }
 
-/// A prototype meets a function without one where its parameters survive the promotions (C11 6.7.6.3p15).
 #[test]
-fn tells_compatible_functions(rt: HostRuntime) -> Result<(), Fail> {
-    let alloc = rt.alloc();
-    let mut g = TypeGraph::new(alloc);
+fn tells_compatible_types(rt: HostRuntime) -> Result<(), Memory> {
+    let mut g = TypeGraph::new(rt.alloc());
+    compatible_types_are_told(&rt, &mut g)
+}
+
+/// Parameters of a function that gives int: of a prototype one of a type, else none.
+struct Parameters {
+    of: TypeId,
+    proto: bool,
+    variadic: bool,
+}
+
+/// A function that gives int.
+fn function(
+    rt: &impl Abort,
+    g: &mut TypeGraph,
+    int: TypeId,
+    parameters: Parameters,
+) -> Result<TypeId, Memory> {
+    let Parameters {
+        of,
+        proto,
+        variadic,
+    } = parameters;
+    assert!(rt; int.0 < g.len() && of.0 < g.len());
+    let mut params = Vec::new(g.alloc());
+    if proto {
+        params.push(of)?;
+    }
+    g.add_node(Node::Func {
+        ret: int,
+        params: TypeList::new(params),
+        proto,
+        variadic,
+    })
+}
+
+/// `int ()`, `int (int)`, `int (char)` and `int (int, ...)`.
+fn functions(rt: &impl Abort, g: &mut TypeGraph) -> Result<[TypeId; 4], Memory> {
     let int = g.add_node(Node::Int(IntKind::Int))?;
     let char = g.add_node(Node::Int(IntKind::Char))?;
-    let mut functions = Vec::new(alloc);
-    for (param, proto, variadic) in [
+    let mut made = [int; 4];
+    for (place, (of, proto, variadic)) in made.iter_mut().zip([
         (int, false, false),
         (int, true, false),
         (char, true, false),
         (int, true, true),
-    ] {
-        assert!(rt; int.0 < g.len() && param.0 < g.len());
-        let mut params = Vec::new(alloc);
-        if proto {
-            params.push(param)?;
-        }
-        assert!(rt; int.0 < g.len());
-        functions.push(g.add_node(Node::Func {
-            ret: int,
-            params: TypeList::new(params),
+    ]) {
+        let parameters = Parameters {
+            of,
             proto,
             variadic,
-        })?)?;
+        };
+        *place = function(rt, g, int, parameters)?;
     }
+    Ok(made)
+}
+
+/// Whether a function is compatible with each of some.
+fn is_compared(rt: &impl Abort, g: &TypeGraph, a: TypeId, others: &[TypeId], answers: &[bool]) {
+    for (b, answer) in others.iter().zip(answers.iter()) {
+        are_compared(rt, g, &[(a, *b, *answer)]);
+    }
+}
+
+/// A prototype meets a function without one where its parameters survive the promotions (C11 6.7.6.3p15).
+fn compatible_functions_are_told(rt: &impl Abort, g: &mut TypeGraph) -> Result<(), Memory> {
+    let functions = functions(rt, g)?;
     let answers = [
         [true, true, false, false],
         [true, true, false, false],
@@ -89,107 +182,60 @@ fn tells_compatible_functions(rt: HostRuntime) -> Result<(), Fail> {
         [false, false, false, true],
     ];
     for (a, row) in functions.iter().zip(answers.iter()) {
-        for (b, answer) in functions.iter().zip(row.iter()) {
-            assert!(rt; a.0 < g.len() && b.0 < g.len());
-            assert_eq!(rt; compatible(&g, *a, *b), *answer, "of {a:?} and {b:?}");
-        }
+        is_compared(rt, g, *a, &functions, row);
     }
     Ok(())
 }
 
-/// A bound is taken at a place within the type (C11 6.2.7p3), and only where the first has none.
 #[test]
-fn composes_types(rt: HostRuntime) -> Result<(), Fail> {
-    let alloc = rt.alloc();
-    let mut g = TypeGraph::new(alloc);
+fn tells_compatible_functions(rt: HostRuntime) -> Result<(), Memory> {
+    let mut g = TypeGraph::new(rt.alloc());
+    compatible_functions_are_told(&rt, &mut g)
+}
+
+/// A bound is taken at a place within the type (C11 6.2.7p3), and only where the first has none.
+fn bounds_are_taken(rt: &impl Abort, g: &mut TypeGraph) -> Result<(), Memory> {
     let int = g.add_node(Node::Int(IntKind::Int))?;
-    let three = g.add_node(Node::Array(qualified(int, false), Some(3)))?;
-    let open = g.add_node(Node::Array(qualified(int, false), None))?;
-    let to_three = g.add_node(Node::Ptr(qualified(three, false)))?;
-    let to_open = g.add_node(Node::Ptr(qualified(open, true)))?;
-    let constant_three = g.add_node(Node::Ptr(qualified(three, true)))?;
-    for (a, b, answer) in [
+    let three = array(rt, g, int, Some(3))?;
+    let open = array(rt, g, int, None)?;
+    let to_three = pointer(rt, g, three, false)?;
+    let to_open = pointer(rt, g, open, true)?;
+    let constant_three = pointer(rt, g, three, true)?;
+    let rows = [
         (open, three, three),
         (three, open, three),
         (to_open, to_three, constant_three),
         (to_three, to_open, to_three),
         (int, int, int),
-    ] {
-        assert!(rt; a.0 < g.len() && b.0 < g.len());
-        assert_eq!(rt;
-            composite(alloc, &mut g, a, b)?,
-            answer,
-            "of {a:?} and {b:?}"
-        );
-    }
-    Ok(())
+    ];
+    are_composed(rt, g, &rows)
 }
 
-/// Whether two types are compatible.
-fn compatible_in(rt: &impl Abort, g: &TypeGraph, a: TypeId, b: TypeId) -> bool {
-    assert!(rt; a.0 < g.len() && b.0 < g.len());
-    compatible(g, a, b)
+#[test]
+fn composes_types(rt: HostRuntime) -> Result<(), Memory> {
+    let mut g = TypeGraph::new(rt.alloc());
+    bounds_are_taken(&rt, &mut g)
 }
 
-/// The composite of two types.
-fn composite_in(
+/// `ret (*)(void)` or `ret (*)()`.
+fn pointer_taking_none(
     rt: &impl Abort,
-    g: &mut TypeGraph,
-    a: TypeId,
-    b: TypeId,
-) -> Result<TypeId, Memory> {
-    assert!(rt; a.0 < g.len() && b.0 < g.len());
-    composite(g.alloc(), g, a, b)
-}
-
-/// `ret (*)(void)` or `ret (*)()`, and behind it 61 types each of which takes the one before twice.
-fn chain(
-    rt: &impl Abort,
-    alloc: Global,
     g: &mut TypeGraph,
     ret: TypeId,
     proto: bool,
-) -> Result<TypeId, Fail> {
-    let mut last = ret;
-    for k in 0..62 {
-        assert!(rt; ret.0 < g.len() && last.0 < g.len());
-        let mut params = Vec::new(alloc);
-        if k > 0 {
-            params.push(last)?;
-            params.push(last)?;
-        }
-        let function = g.add_node(Node::Func {
-            ret,
-            params: TypeList::new(params),
-            proto: proto || k > 0,
-            variadic: false,
-        })?;
-        assert!(rt; function.0 < g.len());
-        last = g.add_node(Node::Ptr(qualified(function, false)))?;
-    }
-    Ok(last)
+) -> Result<TypeId, Memory> {
+    assert!(rt; ret.0 < g.len());
+    let function = g.add_node(Node::Func {
+        ret,
+        params: TypeList::new(Vec::new(g.alloc())),
+        proto,
+        variadic: false,
+    })?;
+    pointer(rt, g, function, false)
 }
 
-/// Unfolded, each of the types has more than 2^60 parts; together they have fewer than 400 nodes.
-#[test]
-fn chains_cost_their_nodes_and_not_their_parts(rt: HostRuntime) -> Result<(), Fail> {
-    let mut g = TypeGraph::new(rt.alloc());
-    let void = g.add_node(Node::Void)?;
-    let int = g.add_node(Node::Int(IntKind::Int))?;
-    let prototyped = chain(&rt, rt.alloc(), &mut g, void, true)?;
-    let plain = chain(&rt, rt.alloc(), &mut g, void, false)?;
-    let other = chain(&rt, rt.alloc(), &mut g, int, true)?;
-    assert!(rt; compatible_in(&rt, &g, prototyped, plain));
-    assert!(rt; compatible_in(&rt, &g, plain, prototyped));
-    assert!(rt; !compatible_in(&rt, &g, prototyped, other));
-    assert!(rt; !compatible_in(&rt, &g, other, plain));
-    assert_eq!(rt; composite_in(&rt, &mut g, prototyped, plain)?, prototyped);
-    assert_eq!(rt; composite_in(&rt, &mut g, plain, prototyped)?, prototyped);
-    Ok(())
-}
-
-/// `int (*[2])(first, second)`.
-fn taking(
+/// `ret (*)(first, second)`.
+fn pointer_taking(
     rt: &impl Abort,
     g: &mut TypeGraph,
     ret: TypeId,
@@ -206,44 +252,115 @@ fn taking(
         proto: true,
         variadic: false,
     })?;
-    let pointer = g.add_node(Node::Ptr(qualified(function, false)))?;
-    g.add_node(Node::Array(qualified(pointer, false), Some(2)))
+    pointer(rt, g, function, false)
+}
+
+/// `ret (*)(void)` or `ret (*)()`, and behind it 61 types each of which takes the one before twice.
+fn chain(rt: &impl Abort, g: &mut TypeGraph, ret: TypeId, proto: bool) -> Result<TypeId, Memory> {
+    let mut last = pointer_taking_none(rt, g, ret, proto)?;
+    for _k in 1..62 {
+        last = pointer_taking(rt, g, ret, last, last)?;
+    }
+    Ok(last)
+}
+
+/// Unfolded, each of the types has more than 2^60 parts; together they have fewer than 400 nodes.
+fn chains_are_compared(rt: &impl Abort, g: &mut TypeGraph) -> Result<(), Memory> {
+    let void = g.add_node(Node::Void)?;
+    let int = g.add_node(Node::Int(IntKind::Int))?;
+    let prototyped = chain(rt, g, void, true)?;
+    let plain = chain(rt, g, void, false)?;
+    let other = chain(rt, g, int, true)?;
+    let pairs = [
+        (prototyped, plain, true),
+        (plain, prototyped, true),
+        (prototyped, other, false),
+        (other, plain, false),
+    ];
+    are_compared(rt, g, &pairs);
+    let composites = [
+        (prototyped, plain, prototyped),
+        (plain, prototyped, prototyped),
+    ];
+    are_composed(rt, g, &composites)
+}
+
+#[test]
+fn chains_cost_their_nodes_and_not_their_parts(rt: HostRuntime) -> Result<(), Memory> {
+    let mut g = TypeGraph::new(rt.alloc());
+    chains_are_compared(&rt, &mut g)
+}
+
+/// `int (*[2])(first, second)`.
+fn taking(
+    rt: &impl Abort,
+    g: &mut TypeGraph,
+    int: TypeId,
+    first: TypeId,
+    second: TypeId,
+) -> Result<TypeId, Memory> {
+    let pointer = pointer_taking(rt, g, int, first, second)?;
+    array(rt, g, pointer, Some(2))
+}
+
+/// `int (*)[3]` and `int (*)[]`.
+fn pointers_to_arrays(
+    rt: &impl Abort,
+    g: &mut TypeGraph,
+    int: TypeId,
+) -> Result<[TypeId; 2], Memory> {
+    let three = array(rt, g, int, Some(3))?;
+    let open = array(rt, g, int, None)?;
+    let to_three = pointer(rt, g, three, false)?;
+    let to_open = pointer(rt, g, open, false)?;
+    Ok([to_three, to_open])
 }
 
 /// A bound is taken from a parameter of the functions that an array's elements point to (C11 6.2.7p3, p4 and
 /// 6.7.6.2p6).
-#[test]
-fn composes_types_at_nested_places(rt: HostRuntime) -> Result<(), Fail> {
-    let mut g = TypeGraph::new(rt.alloc());
+fn nested_bounds_are_taken(rt: &impl Abort, g: &mut TypeGraph) -> Result<(), Memory> {
     let int = g.add_node(Node::Int(IntKind::Int))?;
-    let three = g.add_node(Node::Array(qualified(int, false), Some(3)))?;
-    let open = g.add_node(Node::Array(qualified(int, false), None))?;
-    let to_three = g.add_node(Node::Ptr(qualified(three, false)))?;
-    assert!(rt; open.0 < g.len());
-    let to_open = g.add_node(Node::Ptr(qualified(open, false)))?;
-    let three_open = taking(&rt, &mut g, int, to_three, to_open)?;
-    let open_three = taking(&rt, &mut g, int, to_open, to_three)?;
-    let both = taking(&rt, &mut g, int, to_three, to_three)?;
-    let neither = taking(&rt, &mut g, int, to_open, to_open)?;
-    assert_eq!(rt; composite_in(&rt, &mut g, three_open, open_three)?, both);
-    assert_eq!(rt; composite_in(&rt, &mut g, open_three, three_open)?, both);
-    assert_eq!(rt; composite_in(&rt, &mut g, neither, open_three)?, open_three);
-    Ok(())
+    let [to_three, to_open] = pointers_to_arrays(rt, g, int)?;
+    let three_open = taking(rt, g, int, to_three, to_open)?;
+    let open_three = taking(rt, g, int, to_open, to_three)?;
+    let both = taking(rt, g, int, to_three, to_three)?;
+    let neither = taking(rt, g, int, to_open, to_open)?;
+    let rows = [
+        (three_open, open_three, both),
+        (open_three, three_open, both),
+        (neither, open_three, open_three),
+    ];
+    are_composed(rt, g, &rows)
+}
+
+#[test]
+fn composes_types_at_nested_places(rt: HostRuntime) -> Result<(), Memory> {
+    let mut g = TypeGraph::new(rt.alloc());
+    nested_bounds_are_taken(&rt, &mut g)
+}
+
+/// A pointer to a struct that is not yet complete.
+fn pointer_to_struct(rt: &impl Abort, g: &mut TypeGraph) -> Result<TypeId, Memory> {
+    let a = g.add_agg(AggKind::Struct, None)?;
+    let record = g.add_node(Node::Agg(a))?;
+    pointer(rt, g, record, false)
 }
 
 /// Two structs with one tag in two scopes are two types, also behind pointers, and a pointer to a struct that is
 /// not yet complete is its own composite (C11 6.2.7p1 within one unit, 6.7.2.3p5).
+fn aggregates_are_compared(rt: &impl Abort, g: &mut TypeGraph) -> Result<(), Memory> {
+    let to_first = pointer_to_struct(rt, g)?;
+    let to_second = pointer_to_struct(rt, g)?;
+    are_compared(
+        rt,
+        g,
+        &[(to_first, to_first, true), (to_first, to_second, false)],
+    );
+    are_composed(rt, g, &[(to_first, to_first, to_first)])
+}
+
 #[test]
-fn aggregates_end_the_comparison(rt: HostRuntime) -> Result<(), Fail> {
+fn aggregates_end_the_comparison(rt: HostRuntime) -> Result<(), Memory> {
     let mut g = TypeGraph::new(rt.alloc());
-    let a = g.add_agg(AggKind::Struct, None)?;
-    let first = g.add_node(Node::Agg(a))?;
-    let to_first = g.add_node(Node::Ptr(qualified(first, false)))?;
-    let b = g.add_agg(AggKind::Struct, None)?;
-    let second = g.add_node(Node::Agg(b))?;
-    let to_second = g.add_node(Node::Ptr(qualified(second, false)))?;
-    assert!(rt; compatible_in(&rt, &g, to_first, to_first));
-    assert!(rt; !compatible_in(&rt, &g, to_first, to_second));
-    assert_eq!(rt; composite_in(&rt, &mut g, to_first, to_first)?, to_first);
-    Ok(())
+    aggregates_are_compared(&rt, &mut g)
 }

@@ -10,6 +10,8 @@ mod compatibility;
 #[cfg(test)]
 mod constants;
 #[cfg(test)]
+mod equal;
+#[cfg(test)]
 mod graphs;
 #[cfg(test)]
 mod mapped;

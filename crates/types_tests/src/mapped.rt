@@ -1,9 +1,9 @@
-use cil_base::{Abi, AggId, IntKind, Memory, NameId, TypeId};
+use crate::equal::equal;
+use cil_base::{Abi, AggId, IntKind, NameId, TypeId};
 use layout_lp64::LayoutStop;
 use map_graph::map_graph;
 use std::alloc::Global;
 use std::process::Abort;
-use std::test::Fail;
 use type_graph::{AggKind, Member, Members, QualType, Quals, TypeGraph};
 use unit_types::Types;
 
@@ -52,7 +52,7 @@ fn are_mapped(
     alloc: Global,
     from: &TypeGraph,
     to: &mut TypeGraph,
-) -> Result<(), Memory> {
+) -> Result<(), LayoutStop> {
     for (keep, expected) in [
         (
             false,
@@ -64,17 +64,10 @@ fn are_mapped(
         ),
     ] {
         let types = map_graph(alloc, from, &[AggId(1)], keep, to)?;
-        assert_eq!(rt; types.as_slice(), expected.as_slice());
+        equal(rt, &keep, &types.as_slice(), &expected.as_slice());
     }
     assert!(rt; map_graph(alloc, from, &[AggId(2)], true, to).is_err());
     Ok(())
-}
-
-/// The first arena.
-fn first(alloc: Global) -> Result<TypeGraph, LayoutStop> {
-    let mut types = Types::new(alloc, Abi::Lp64);
-    add_types(alloc, &mut types)?;
-    Ok(types.into_graph())
 }
 
 /// The second arena.
@@ -84,10 +77,19 @@ fn second(alloc: Global) -> Result<TypeGraph, LayoutStop> {
     Ok(types.into_graph())
 }
 
+/// The types of the first arena, which are added to it, are mapped to the second.
+fn are_mapped_behind_others(
+    rt: &impl Abort,
+    alloc: Global,
+    from: &mut Types,
+) -> Result<(), LayoutStop> {
+    add_types(alloc, from)?;
+    let mut to = second(alloc)?;
+    are_mapped(rt, alloc, from.graph(), &mut to)
+}
+
 #[test]
-fn types_of_a_struct_that_reaches_itself_are_mapped(rt: HostRuntime) -> Result<(), Fail> {
-    let from = first(rt.alloc())?;
-    let mut to = second(rt.alloc())?;
-    are_mapped(&rt, rt.alloc(), &from, &mut to)?;
-    Ok(())
+fn types_of_a_struct_that_reaches_itself_are_mapped(rt: HostRuntime) -> Result<(), LayoutStop> {
+    let mut from = Types::new(rt.alloc(), Abi::Lp64);
+    are_mapped_behind_others(&rt, rt.alloc(), &mut from)
 }

@@ -1,3 +1,4 @@
+use crate::equal::equal;
 use cil_base::{AggId, BinOp, EntityId, LocalId, Memory, TypeId};
 use std::alloc::Global;
 use std::mem::size_of;
@@ -99,16 +100,24 @@ fn next(alloc: Global) -> Result<TypedExp, Memory> {
     step(alloc, StepForm::PostIncrement, INT, variable(alloc)?)
 }
 
-fn choice(alloc: Global) -> Result<TypedExp, Memory> {
-    let test = value(alloc)?;
+/// The expressions of a conditional: `2` and `x + 2`.
+fn branches(alloc: Global) -> Result<Box<Branches>, Memory> {
     let holds = two(alloc)?;
     let fails = sum(alloc)?;
-    conditional(
-        alloc,
-        INT,
-        test,
-        Box::new(alloc, Branches { holds, fails })?,
-    )
+    Ok(Box::new(alloc, Branches { holds, fails })?)
+}
+
+fn choice(alloc: Global) -> Result<TypedExp, Memory> {
+    let test = value(alloc)?;
+    let branches = branches(alloc)?;
+    conditional(alloc, INT, test, branches)
+}
+
+/// The arguments of a call: `2`.
+fn one_argument(alloc: Global) -> Result<Vec<TypedExp>, Memory> {
+    let mut arguments = Vec::new(alloc);
+    arguments.push(two(alloc)?)?;
+    Ok(arguments)
 }
 
 fn called(alloc: Global) -> Result<TypedExp, Memory> {
@@ -117,8 +126,7 @@ fn called(alloc: Global) -> Result<TypedExp, Memory> {
         POINTER,
         entity(alloc, unqualified(TypeId(4)), EntityId(1))?,
     )?;
-    let mut arguments = Vec::new(alloc);
-    arguments.push(two(alloc)?)?;
+    let arguments = one_argument(alloc)?;
     call(alloc, INT, callee, arguments)
 }
 
@@ -225,16 +233,17 @@ const ROWS: [Row; 13] = [
     },
 ];
 
+/// Whether an effect stands in an expression, and whether it is a place.
+fn effect_and_place(alloc: Global, sample: Sample) -> Result<(bool, bool), Memory> {
+    let e = built(alloc, sample)?;
+    Ok((e.has_effect(), e.is_place()))
+}
+
 #[test]
 fn builders_tell_effects_and_places(rt: HostRuntime) -> Result<(), Memory> {
     for row in &ROWS {
-        let e = built(rt.alloc(), row.sample)?;
-        assert_eq!(rt;
-            (e.has_effect(), e.is_place()),
-            (row.effect, row.place),
-            "{}",
-            row.name
-        );
+        let got = effect_and_place(rt.alloc(), row.sample)?;
+        equal(&rt, &row.name, &got, &(row.effect, row.place));
     }
     Ok(())
 }
@@ -249,33 +258,71 @@ fn one_scalar(alloc: Global) -> Result<TypedInit, Memory> {
 #[test]
 fn a_compound_literal_is_a_place_with_an_effect(rt: HostRuntime) -> Result<(), Memory> {
     let e = compound_literal(rt.alloc())?;
-    assert!(rt; e.has_effect() && e.is_place());
+    let got = (e.has_effect(), e.is_place());
+    equal(&rt, &"( int ) { 2 }", &got, &(true, true));
     Ok(())
 }
 
 /// A node stands in one block of at most 64 bytes; of the expression itself nothing else is allocated.
 #[test]
-fn nodes_are_small(rt: HostRuntime) -> Result<(), Memory> {
-    assert!(rt; size_of::<TypedNode>() <= 64, "{}", size_of::<TypedNode>());
-    assert!(rt; size_of::<TypedExp>() <= 24, "{}", size_of::<TypedExp>());
-    assert_eq!(rt; size_of::<QualType>(), 8);
+fn nodes_are_small(rt: HostRuntime) {
+    let (node, expression) = (size_of::<TypedNode>(), size_of::<TypedExp>());
+    equal(&rt, &(node, expression), &(node <= 64), &true);
+    equal(&rt, &(node, expression), &(expression <= 24), &true);
+    equal(&rt, &"a type", &size_of::<QualType>(), &8);
+}
+
+/// `x = 2;`
+fn put_assignment(alloc: Global, items: &mut Vec<TypedStmt>) -> Result<(), Memory> {
+    let e = set(alloc)?;
+    items.push(evaluation(e))?;
     Ok(())
+}
+
+/// `int x = 2;`
+fn put_declaration(alloc: Global, items: &mut Vec<TypedStmt>) -> Result<(), Memory> {
+    let init = one_scalar(alloc)?;
+    items.push(declaration(LocalId(3), Some(init)))?;
+    Ok(())
+}
+
+/// Statements of one assignment.
+fn one_assignment(alloc: Global) -> Result<Vec<TypedStmt>, Memory> {
+    let mut holds = Vec::new(alloc);
+    put_assignment(alloc, &mut holds)?;
+    Ok(holds)
+}
+
+/// `if (x) x = 2;`
+fn put_selection(alloc: Global, items: &mut Vec<TypedStmt>) -> Result<(), Memory> {
+    let test = value(alloc)?;
+    let holds = one_assignment(alloc)?;
+    items.push(selection(test, holds, Vec::new(alloc)))?;
+    Ok(())
+}
+
+/// `int x = 2; if (x) x = 2;`
+fn put_both(alloc: Global, items: &mut Vec<TypedStmt>) -> Result<(), Memory> {
+    put_declaration(alloc, items)?;
+    put_selection(alloc, items)
 }
 
 /// `{ int x = 2; if (x) x = 2; }`, whose statements are seen in order.
 #[test]
 fn statements_stand_in_order(rt: HostRuntime) -> Result<(), Memory> {
-    let alloc = rt.alloc();
-    let mut holds = Vec::new(alloc);
-    holds.push(evaluation(set(alloc)?))?;
-    let mut items = Vec::new(alloc);
-    items.push(declaration(LocalId(3), Some(one_scalar(alloc)?)))?;
-    items.push(selection(value(alloc)?, holds, Vec::new(alloc)))?;
-    match compound(items) {
-        TypedStmt::Block(items) => assert!(rt; is_in_order(&items)),
-        _ => assert!(rt; false),
-    }
+    let mut items = Vec::new(rt.alloc());
+    put_both(rt.alloc(), &mut items)?;
+    let block = compound(items);
+    equal(&rt, &"in order", &is_block_in_order(&block), &true);
     Ok(())
+}
+
+/// Whether a statement is a block of these.
+fn is_block_in_order(block: &TypedStmt) -> bool {
+    match block {
+        TypedStmt::Block(items) => is_in_order(items),
+        _ => false,
+    }
 }
 
 fn is_in_order(items: &[TypedStmt]) -> bool {
