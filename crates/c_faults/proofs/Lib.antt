@@ -1,4 +1,7 @@
 pub mod FirstLaws
 pub mod Acceptance
 pub mod OneRefusal
+mod Expected
 mod Rows
+mod ModelRows
+mod Bytes

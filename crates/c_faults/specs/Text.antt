@@ -1,7 +1,7 @@
 -- Device: the first refusal of units that are given as texts, for rows: of files a.c, b.c and c.c.
 use Rattle.std.specs.Prelude.{ℕ, suc, Bool, List, [], ◌∷◌, Option, Some, None, codes}
 use Rattle.cil_base.specs.declared.kinds.Abi.{Abi}
-use Rattle.cil_base.specs.declared.kinds.Abi.TheVariants.{Lp64}
+use Rattle.cil_base.specs.declared.kinds.Abi.TheVariants.{Lp64, Ilp32}
 use Rattle.cil_base.specs.declared.faults.Refusal.{Refusal}
 use Rattle.c_lexer.specs.Automaton.{one_byte_sign, begins_sign, begins, behind_dot, behind_minus, behind_plus, behind_ampersand, behind_bar, behind_slash, behind_percent, behind_less, behind_greater, only, behind_punctuator, behind_sign, in_literal, behind_prefix, in_comment, behind, accepts, piece}
 use Rattle.c_lexer.specs.Tokens.{number_meaning, meaning_of_text, character_meaning, literal_meaning}
@@ -31,3 +31,8 @@ refusal_by abi common texts = told common (findings abi 0 (codes "a.c" ∷ codes
 unfoldable pub refusal_in : Bool → List (List ℕ) → Option (Option Refusal)
 unfolding refusal_by
 refusal_in common texts = refusal_by Lp64 common texts
+
+-- in each data model
+unfoldable pub refusals_in : Bool → List (List ℕ) → Option (Option Refusal) × Option (Option Refusal)
+unfolding refusal_by
+refusals_in common texts = (refusal_by Lp64 common texts, refusal_by Ilp32 common texts)

@@ -6,12 +6,13 @@ use Rattle.cil_base.specs.declared.faults.Fault.{Fault}
 use Rattle.cil_base.specs.declared.faults.Fault.TheVariants.{Limit}
 use Rattle.cil_base.specs.declared.faults.What.TheVariants as limit
 use Rattle.type_graph.specs.Shapes.{IntType}
-use Rattle.c_typing.specs.Types.{CType, plain, unqualified}
+use Rattle.c_tree.specs.Syntax.{ParameterTrees, NoParameters, MoreParameters, Parameter, NoSpecifiers, Declared}
+use Rattle.c_typing.specs.Types.{CType, Types, plain, unqualified}
 use Rattle.c_typing.specs.Scopes.{Env}
 use Rattle.c_typing.specs.Initialisers.{beginning}
 use Rattle.c_typing.specs.Steps.{declares_local}
 use Rattle.c_typing.specs.Walk.{numbered, filled}
-use Rattle.c_typing.specs.Faults.{start_env, fault_in}
+use Rattle.c_typing.specs.Faults.{start_env, refuses_parameters, fault_in}
 
 abbrev an_int : CType
 an_int = unqualified (IntType int)
@@ -30,6 +31,16 @@ declaring objects literals = fault_in (declares_local (record { 0 = 0 }) 7 an_in
 abbrev making : ℕ → ℕ → Option (Fault × ℕ)
 making objects literals = fault_in (numbered 7 an_int (with_objects objects literals))
 
+-- one more parameter of a function definition behind so many
+abbrev one_parameter : ParameterTrees
+one_parameter = MoreParameters (Parameter NoSpecifiers (Declared 7 (record { 0 = 0 }))) NoParameters
+
+abbrev no_types : Types
+no_types = record { abi = Lp64; aggs = [] }
+
+abbrev taking : ℕ → Option (Fault × ℕ)
+taking parameters = fault_in (refuses_parameters no_types parameters one_parameter (so_many 1 (record { name = record { 0 = 0 }; quals = plain; shape = IntType int })) (start_env [] Lp64))
+
 abbrev filling : ℕ → Option (Fault × ℕ)
 filling scalars = fault_in (filled 1 3 an_int (record (beginning an_int) { scalars = scalars }) (start_env [] Lp64))
 
@@ -47,6 +58,12 @@ locals_3 = refl
 
 locals_4 : making 65534 1 ≡ Some (Limit limit.Locals, 7)
 locals_4 = refl
+
+parameters_0 : taking 65534 ≡ None
+parameters_0 = refl
+
+parameters_1 : taking 65535 ≡ Some (Limit limit.Locals, 7)
+parameters_1 = refl
 
 scalars_0 : filling 65536 ≡ None
 scalars_0 = refl
