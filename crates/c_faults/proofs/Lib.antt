@@ -1,3 +1,4 @@
+pub mod SyntaxLaws
 pub mod FirstLaws
 pub mod Acceptance
 pub mod OneRefusal
@@ -5,3 +6,4 @@ mod Expected
 mod Rows
 mod ModelRows
 mod Bytes
+mod SyntaxRows
