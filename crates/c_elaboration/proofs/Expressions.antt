@@ -19,7 +19,7 @@ use Rattle.typed_tree.specs.Tree.{Typed, NoArguments, MoreArguments, Literal as 
 use Rattle.c_tree.specs.declared.words.UnaryOp.{UnaryOp}
 use Rattle.c_tree.specs.declared.words.UnaryOp.TheVariants.{Address, Indirection, Plus, Minus, Complement, Not as Negation}
 use Rattle.c_tree.specs.Syntax.{ExprTree, Name, Integer, Character, Literals, Parentheses, Index, Call, Member, Arrow, Postfix, CompoundLiteral, Prefix, Unary, SizeofExpr, SizeofType, AlignofType, Cast, Binary, Logical, Conditional, Assign, Comma, ExprTrees, NoExprs, MoreExprs, InitTree, Single as Lone, Braces, Item, ItemTrees, NoItems, MoreItems, DesignatorTrees, NoDesignators}
-use Rattle.c_typing.specs.Types.{CType, Types, Hop, is_void, pointee, any_of, kind_in, member_path, size_in, alignment_in}
+use Rattle.c_typing.specs.Types.{CType, Types, Hop, is_void, pointee, kind_in, member_path, size_in, alignment_in}
 use Rattle.c_typing.specs.Conversions.{Operand, operand, shape_of, kind_of, value_shape, promoted_shape, value_of as value_node, value_as}
 use Rattle.c_typing.specs.Constants.{integer_constant, character_constant, string_literal}
 use Rattle.c_typing.specs.Constraints.{takes_so_many, first_violated}
@@ -31,7 +31,7 @@ use Rattle.c_typing.specs.Declarators.{at_of, at_of_specifiers}
 use Rattle.c_typing.specs.Initialisers.{Part, Frame, Filling, AValue, ALiteral, is_character_array, inits, beginning, whole_part}
 use Rattle.c_typing.specs.Statements.{Place}
 use Rattle.c_typing.specs.Steps.{at_node, by_node, by_operand, by_sized, at_call, uses_name, designates, made_entity, nameless, literal_type, literal_of, logic_of, postfix_form, prefix_form, unary_node, assign_node, member_node, arrow_node, ats_of, with_value, with_literal, in_flexible}
-use Rattle.c_typing.specs.Walk.{is_static_here, may_be_initialised, literal_in, alone, item_at, brace_at, part_for, fitted, literal_for, object_by, item_by, with_brace, braced, braces_for, step_acts, number_of_literal, literal_object, filled, compound_literal, expr, exprs, initialise, items_in, item, designation}
+use Rattle.c_typing.specs.Walk.{is_static_here, may_be_initialised, literal_in, alone, item_at, brace_at, part_for, fitted, literal_for, object_by, item_by, with_brace, braced, braces_for, number_of_literal, literal_object, filled, compound_literal, expr, exprs, initialise, items_in, item, designation}
 use Rattle.c_semantics.specs.Places.{Activation, Here, here_behind, found, none, undefined, with_parts, with_operand, with_operands, literal_number, array_number, arrays_in, arrays_in_operands, arrays_in_init, arrays_in_inits}
 use Rattle.c_semantics.specs.Walks.{named_type, designators as walked_designators}
 use Rattle.c_semantics.specs.Operations.{Action, ◌>>=◌ as ◌>>>◌, gives, Seen, single, taken, pointed, indirect, called, unit_object, local_object, logical, tested, along, fill_part, Object, literal_object as object_literal, initialised, Rest, zeroes, steps_of, next_step}
@@ -465,12 +465,12 @@ module _ (a : Activation) (enter : Enter) where
       let i = stepped {A = ℕ} (made_entity env.evaluated (nameless at d (inits f.steps)) env) (λ n. pure (operand (place d false (StaticObject n)))) y g in
       subst (λ (z : Operand × Env). syntax.of_literal a z.0.typed h (λ o. c_init_items a enter o items) ≡ t_exp a enter z.0.typed h.arrays) (sym (good (operand (place d false (StaticObject i.0.0)), i.0.1) y i.2)) refl
   object_means at items fills c d f h env y false s g behind w =
-      let i = stepped {A = ℕ} (number_of_literal env.evaluated at d env) (λ n. pure (operand (place d (any_of step_acts f.steps) (LiteralObject n (inits f.steps))))) y g in
+      let i = stepped {A = ℕ} (number_of_literal env.evaluated at d env) (λ n. pure (operand (place d true (LiteralObject n (inits f.steps))))) y g in
       let o : Object = object_literal a i.0.0 d in
       let r = braces_are items fills at o (whole_part c) (beginning c) h.env (f, behind) (alone items) refl w in
       let e : Does a enter o (c_init a enter o (Braces at items false) (record { steps = inits (r.new ++ []); here = h })) r.new [] h behind = r.does h.arrays h.place [] [] tt in
       subst (λ (z : Operand × Env). syntax.of_literal a z.0.typed h (λ o. c_init_items a enter o items) ≡ t_exp a enter z.0.typed h.arrays)
-      (sym (good (operand (place d (any_of step_acts f.steps) (LiteralObject i.0.0 (inits f.steps))), i.0.1) y i.2))
+      (sym (good (operand (place d true (LiteralObject i.0.0 (inits f.steps))), i.0.1) y i.2))
       (ap (λ (go : Action (Unit {0})). initialised o go >>> (λ u. gives (local_object a (literal_number a i.0.0)))) (steps_are o (c_init_items a enter o items) r.new f.steps h behind (r.adds) e))
 
   -- a compound literal, behind its type (6.5.2.5)

@@ -124,9 +124,9 @@ reaching_steps n (x ∷ xs) f = refl
 pub literal_adds : (first at : ℕ) (p : Part) (o : Option (List ℕ)) (f : Filling) (env : Env) (y : Filling × Env) → with_literal first at p o f env ≡ Good y → (y.1 ≡ env) × AddsBytes p f.steps y.0.steps
 literal_adds first at p None f env y e = cc
 literal_adds first at p (Some bytes) f env y e =
-    let i = stepped {A = Unit {0}} (refuses_if (not (has_room (bound_of_array p.type.shape) bytes)) code.Initialiser first env) (λ u. pure (reaching (length bytes) p.path (with_bytes env.types p (fitting (bound_of_array p.type.shape) bytes) f))) y e in
-    let g = good (reaching (length bytes) p.path (with_bytes env.types p (fitting (bound_of_array p.type.shape) bytes) f), i.0.1) y i.2 in
-    let w = whole_steps env.types p (Zero p.path) 0 (counting (length (fitting (bound_of_array p.type.shape) bytes)) f) in (
+    let i = stepped {A = Unit {0}} (refuses_if (not (has_room (bound_of_array p.type.shape) bytes)) code.Initialiser first env) (λ u. pure (reaching (length bytes) p.path (with_bytes env.types p (length bytes) (fitting (bound_of_array p.type.shape) bytes) f))) y e in
+    let g = good (reaching (length bytes) p.path (with_bytes env.types p (length bytes) (fitting (bound_of_array p.type.shape) bytes) f), i.0.1) y i.2 in
+    let w = whole_steps env.types p (Zero p.path) 0 (counting (length bytes) f) in (
       ap (λ (z : Filling × Env). z.1) g ∙ faults_here _ _ first env i.0 i.1,
       record {
         zeros = w.0 ++ Zero p.path ∷ [];
@@ -134,7 +134,7 @@ literal_adds first at p (Some bytes) f env y e =
         bytes = fitting (bound_of_array p.type.shape) bytes;
         adds =
             ap (λ (z : Filling × Env). z.0.steps) g
-            ∙ (reaching_steps (length bytes) p.path (with_bytes env.types p (fitting (bound_of_array p.type.shape) bytes) f)
+            ∙ (reaching_steps (length bytes) p.path (with_bytes env.types p (length bytes) (fitting (bound_of_array p.type.shape) bytes) f)
             ∙ (ap (λ xs. xs ++ Bytes p.path (fitting (bound_of_array p.type.shape) bytes) ∷ []) w.2
             ∙ append_assoc f.steps (w.0 ++ Zero p.path ∷ []) (Bytes p.path (fitting (bound_of_array p.type.shape) bytes) ∷ [])));
       },

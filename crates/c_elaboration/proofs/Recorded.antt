@@ -12,7 +12,7 @@ use Rattle.typed_tree.specs.Tree.{Typed, Convert, Literal as LiteralObject, Enti
 use Rattle.c_tree.specs.declared.words.UnaryOp.{UnaryOp}
 use Rattle.c_tree.specs.declared.words.UnaryOp.TheVariants.{Address, Indirection, Plus, Minus, Complement, Not as Negation}
 use Rattle.c_tree.specs.Syntax.{ExprTree, Name, Integer, Character, Literals, Parentheses, Index, Call, Member, Arrow, Postfix, CompoundLiteral, Prefix, Unary, SizeofExpr, SizeofType, AlignofType, Cast, Binary, Logical, Conditional, Assign, Comma}
-use Rattle.c_typing.specs.Types.{CType, Types, Hop, is_void, pointee, any_of, member_path, size_in, alignment_in}
+use Rattle.c_typing.specs.Types.{CType, Types, Hop, is_void, pointee, member_path, size_in, alignment_in}
 use Rattle.c_typing.specs.Conversions.{Operand, operand, same_shape, same_effect, shape_of, promoted_shape, value_of as value_node}
 use Rattle.c_typing.specs.Constants.{integer_constant, character_constant, string_literal}
 use Rattle.c_typing.specs.Specifiers.{NoStorage}
@@ -24,7 +24,7 @@ use Rattle.c_typing.specs.Nodes.{Node, NameNode, ConstantNode, IndexNode, CallNo
 use Rattle.c_typing.specs.Declarators.{at_of, at_of_specifiers}
 use Rattle.c_typing.specs.Initialisers.{Filling, inits, beginning, whole_part}
 use Rattle.c_typing.specs.Steps.{at_node, by_node, by_operand, by_sized, by_argument, number_at, at_call, uses_name, designates, made_entity, nameless, literal_type, literal_of, logic_of, postfix_form, prefix_form, unary_node, assign_node, member_node, arrow_node, ats_of, base_with, type_with}
-use Rattle.c_typing.specs.Walk.{brace_at, is_static_here, may_be_initialised, alone, braces_for, step_acts, number_of_literal, literal_object, filled, compound_literal, expr, exprs, named, derived, items_in}
+use Rattle.c_typing.specs.Walk.{brace_at, is_static_here, may_be_initialised, alone, braces_for, number_of_literal, literal_object, filled, compound_literal, expr, exprs, named, derived, items_in}
 use Rattle.c_elaboration.proofs.Unviolated.{stepped, node_given}
 use Rattle.c_elaboration.proofs.Forms.{OfRecords, value_records, as_records}
 use Rattle.c_elaboration.proofs.Members.{along_records, found_path}
@@ -91,8 +91,8 @@ object_records true at c f env y e =
     let i = stepped {A = ℕ} (made_entity env.evaluated (nameless at c (inits f.steps)) env) (λ n. pure (operand (place c false (StaticObject n)))) y e in
     pure_records (operand (place c false (StaticObject i.0.0))) i.0.1 y i.2 tt
 object_records false at c f env y e =
-    let i = stepped {A = ℕ} (number_of_literal env.evaluated at c env) (λ n. pure (operand (place c (any_of step_acts f.steps) (LiteralObject n (inits f.steps))))) y e in
-    pure_records (operand (place c (any_of step_acts f.steps) (LiteralObject i.0.0 (inits f.steps)))) i.0.1 y i.2 tt
+    let i = stepped {A = ℕ} (number_of_literal env.evaluated at c env) (λ n. pure (operand (place c true (LiteralObject n (inits f.steps))))) y e in
+    pure_records (operand (place c true (LiteralObject i.0.0 (inits f.steps)))) i.0.1 y i.2 tt
 
 pub recorded : (e : ExprTree) (env : Env) (y : Operand × Env) → expr e env ≡ Good y → OfRecords y.0.typed
 recorded (Name at x) env y e =

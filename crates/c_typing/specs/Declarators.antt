@@ -11,7 +11,7 @@ use Rattle.type_graph.specs.Shapes.{Shape, Shapes, PtrType, ArrayType, FuncType,
 use Rattle.typed_tree.specs.Tree.{Typed, shape_in}
 use Rattle.typed_tree.specs.Units.{Local}
 use Rattle.c_tree.specs.Syntax.{ExprTree, Name, Integer, Character, Literals, Parentheses, Index, Call, Member, Arrow, Postfix, CompoundLiteral, Prefix, Unary, SizeofExpr, SizeofType, AlignofType, Cast, Binary, Logical, Conditional, Assign, Comma, SpecifierTree, Storage, Basic, Qualified, Functional, TypedefName, Tag, StructBody, EnumBody, SpecifierTrees, NoSpecifiers, MoreSpecifiers, DeclaratorTree, Declared, Absent, Grouped, Pointer, Array, Function, Unprototyped}
-use Rattle.c_typing.specs.Types.{CType, Types, plain, unqualified, pointer_to, is_void, is_array, is_function, is_object, is_too_big, complete, kind_in}
+use Rattle.c_typing.specs.Types.{CType, Types, plain, unqualified, pointer_to, is_void, is_array, is_function, is_object, is_too_big, lacks_type, kind_in}
 use Rattle.c_typing.specs.Evaluation.{integer_value, has_constant_form}
 use Rattle.c_typing.specs.Scopes.{Scope, Walk, ◌>>=◌, pure, faults, refuses_if, exceeds_if, types_of}
 
@@ -80,7 +80,7 @@ is_bare (Array at d bound) = false
 is_bare (Function at d ps variadic) = false
 is_bare (Unprototyped at d names) = false
 
--- derivations (6.7.6p3 to p5)
+-- derivations (6.7.6p4 to p6)
 
 -- the parameters of a prototype: their types, and the scope and the objects that they declare
 pub record Prototype : Type 0 where
@@ -129,7 +129,7 @@ count_of b = option_map (λ (x : ℤ × ℕ). unsigned_abs x.0) b
 abbrev pub array_step : ℕ → Option (ℤ × ℕ) → CType → Walk CType
 array_step at bound c = do
   t ← types_of
-  _ ← refuses_if (is_object c.shape && not (complete t c.shape)) Incomplete at
+  _ ← refuses_if (is_object c.shape && lacks_type t false c.shape) Incomplete at
   _ ← refuses_if (is_function c.shape) FunctionType at
   _ ← refuses_bound bound
   _ ← exceeds_if (is_too_big t (ArrayType c.quals c.shape (count_of bound))) ObjectSize at

@@ -15,14 +15,14 @@ use Rattle.typed_tree.specs.Units.{Local, Definition, Declared as DeclaredAlone,
 use Rattle.c_tree.specs.declared.words.StorageClass.{StorageClass}
 use Rattle.c_tree.specs.declared.words.StorageClass.TheVariants as class
 use Rattle.c_tree.specs.Syntax.{SpecifierTrees, InitTree}
-use Rattle.c_typing.specs.Types.{CType, Types, is_void, is_function, is_flexible, complete}
+use Rattle.c_typing.specs.Types.{CType, Types, is_void, is_function, lacks_type, complete}
 use Rattle.c_typing.specs.Conversions.{compatible, same_shape}
 use Rattle.c_typing.specs.Specifiers.{class_of, is_inline}
 use Rattle.c_typing.specs.Scopes.{Linkage, External, Internal, NoLinkage, Denotes, TypedefName, EnumerationConstant, Automatic, Static, Entity, Env, Walk, ◌>>=◌, pure, asks, changes, refuses_if, excludes_if, types_of, visible_name, own_name, is_file_scope, with_name, new_entity, changes_entity, changed_at, entity_named}
 use Rattle.c_typing.specs.Declarators.{Derivation, PointerTo, ArrayOf, FunctionOf, BareFunctionOf, at_of_specifiers}
-use Rattle.c_typing.specs.Initialisers.{beginning, whole_part, inits}
+use Rattle.c_typing.specs.Initialisers.{beginning, whole_part, completed, inits}
 use Rattle.c_typing.specs.Steps.{is_reserved, refuses_reserved, declares_local, text_of}
-use Rattle.c_typing.specs.Walk.{init_at, filled, initialise}
+use Rattle.c_typing.specs.Walk.{init_at, refuses_scalars, filled, initialise}
 
 -- what a declaration does for the definition of its entity (6.9.1, 6.9.2)
 
@@ -146,7 +146,7 @@ is_internal link = same_linkage link Internal
 abbrev pub is_incomplete : Types → Linkage → Option CType → CType → Defines → Bool
 is_incomplete t link prior c Nothing = is_void c.shape
 is_incomplete t link prior c Tentatively = is_void c.shape || (is_internal link && stays_incomplete t prior c)
-is_incomplete t link prior c Object = not (complete t c.shape || is_flexible t c.shape)
+is_incomplete t link prior c Object = lacks_type t true c.shape
 is_incomplete t link prior c (AFunction h) = lacks_result t c.shape
 
 -- a body stands behind a declarator of function form (6.9.1p2) whose parameters have names (p5)
@@ -242,7 +242,7 @@ refuses_object x at c initialised = do
   t ← types_of
   seen ← asks (λ (env : Env). own_name env x)
   _ ← refuses_if (is_some seen) code.Redeclared at
-  _ ← refuses_if (not (complete t c.shape || (initialised && is_flexible t c.shape))) code.Incomplete at
+  _ ← refuses_if (lacks_type t initialised c.shape) code.Incomplete at
   refuses_reserved x at
 
 -- initialisers
@@ -262,13 +262,31 @@ initialised_by static at c i = do
 abbrev pub defines_entity : ℕ → CType → Definition → Walk (Unit {0})
 defines_entity n c d = changes_entity n (λ (e : Entity). record e { type = record e.type { shape = composite_shape e.type.shape c.shape }; definition = d })
 
--- the initialiser of an object with static storage duration
+-- the initialiser of a static object of a block
 abbrev pub static_initialiser : NameId → ℕ → ℕ → CType → Option InitTree → Walk (Unit {0})
 static_initialiser x at n c None = pure tt
 static_initialiser x at n c (Some i) = do
   r ← initialised_by true at c i
   _ ← changes (with_name x (Static n r.0))
   defines_entity n r.0 (Initialised r.1)
+
+-- another declaration, which is not visible, gives the array another bound (6.2.7p2)
+abbrev pub has_other_bound : Types → CType → Option Entity → Bool
+has_other_bound t c None = false
+has_other_bound t c (Some e) = not (compatible t e.type.shape c.shape)
+
+-- the initialiser of an object with linkage, which has the type that is visible behind its declarator (6.2.7p4)
+abbrev pub linked_initialiser : NameId → ℕ → ℕ → CType → Option InitTree → Walk (Unit {0})
+linked_initialiser x at n c None = pure tt
+linked_initialiser x at n c (Some i) = do
+  f ← initialise true (whole_part c) (beginning c) i
+  _ ← refuses_scalars (init_at i) f
+  t ← types_of
+  e ← asks (λ (env : Env). slice_get env.entities n)
+  _ ← refuses_if (has_other_bound t (completed f.reach c) e) code.Conflict at
+  c' ← filled at (init_at i) c f
+  _ ← changes (with_name x (Static n c'))
+  defines_entity n c' (Initialised (inits f.steps))
 
 -- the initialiser of an automatic object: its value is stored where its declaration is reached (6.2.4p6)
 abbrev pub automatic_initialiser : NameId → ℕ → ℕ → CType → Bool → Option InitTree → Walk (List Stmt)
@@ -290,8 +308,9 @@ object_defines file c None = if file then Tentatively else Nothing
 abbrev pub linked_object : NameId → ℕ → Linkage → CType → Option StorageClass → Option InitTree → Walk (List Stmt)
 linked_object x at link c s i = do
   file ← asks is_file_scope
+  visible ← asks (λ (env : Env). seen_type (linked_type env x) c)
   n ← links x at link c (object_defines file s i) false
-  _ ← if file then static_initialiser x at n c i else no_initialiser i
+  _ ← if file then linked_initialiser x at n visible i else no_initialiser i
   pure []
 
 abbrev pub static_local : NameId → ℕ → CType → Option InitTree → Walk (List Stmt)

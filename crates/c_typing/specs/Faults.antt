@@ -14,7 +14,7 @@ use Rattle.typed_tree.specs.Statements.{Stmt}
 use Rattle.typed_tree.specs.Units.{Function as TypedFunction, Local, Declared as DeclaredAlone, Zero as ZeroBytes, Body}
 use Rattle.c_tree.specs.Syntax.{SpecifierTrees, DeclaratorTree, Declared, Absent, Grouped, Pointer, Array, Function, Unprototyped, Parameter, ParameterTrees, NoParameters, MoreParameters}
 use Rattle.c_tree.specs.Units.{BlockItems, ExternalTree, Definition as FunctionDefinition, External as ExternalDeclaration, UnitTree}
-use Rattle.c_typing.specs.Types.{CType, Types, plain, unqualified, is_function, complete}
+use Rattle.c_typing.specs.Types.{CType, Types, plain, unqualified, is_function, lacks_type}
 use Rattle.c_typing.specs.Specifiers.{AtFile, Defining, class_of, is_inline}
 use Rattle.c_typing.specs.Scopes.{External, Internal, Static, Entity, Scope, Env, Found, Good, Bad, Walk, ◌>>=◌, pure, asks, changes, refuses_if, exceeds_if, types_of, left, changes_entity, empty_scope}
 use Rattle.c_typing.specs.Declarators.{Derivation, FunctionOf, declared_in, place_in, is_bare, built, last_of}
@@ -40,7 +40,7 @@ abbrev pub refuses_parameters : Types → ℕ → ParameterTrees → List Local 
 refuses_parameters t n NoParameters ls = pure tt
 refuses_parameters t n (MoreParameters p ps) [] = pure tt
 refuses_parameters t n (MoreParameters (Parameter ss d) ps) (l ∷ ls) = do
-  _ ← refuses_if (not (complete t l.shape)) code.Incomplete (place_in ss d)
+  _ ← refuses_if (lacks_type t false l.shape) code.Incomplete (place_in ss d)
   _ ← exceeds_if (nat_le greatest_locals n) limit.Locals (place_in ss d)
   refuses_parameters t (suc n) ps ls
 
@@ -128,7 +128,7 @@ abbrev pub is_missing : Entity → Bool
 is_missing e = same_linkage e.linkage Internal && (is_function e.type.shape && (e.used && not (is_some e.defined)))
 
 abbrev pub late_of : Types → Entity → Option Late
-late_of t e = if is_only_tentative e && not (complete t e.type.shape) then Some (record { code = code.Incomplete; at = at_or e.first e.tentative }) else (if is_missing e then Some (record { code = code.Defined; at = e.first }) else None)
+late_of t e = if is_only_tentative e && lacks_type t false e.type.shape then Some (record { code = code.Incomplete; at = at_or e.first e.tentative }) else (if is_missing e then Some (record { code = code.Defined; at = e.first }) else None)
 
 -- the one whose token comes first
 abbrev pub earlier : Option Late → Option Late → Option Late

@@ -207,8 +207,9 @@ abbrev pub bound_of_array : Shape → Option ℕ
 bound_of_array (ArrayType q s bound) = bound
 bound_of_array s = None
 
-abbrev pub with_bytes : Types → Part → List ℕ → Filling → Filling
-with_bytes t p bytes f = with_step (Bytes p.path bytes) (with_zero t p (record f { scalars = f.scalars + length bytes }))
+-- a literal counts all bytes of its own array (6.4.5p6), those without room too
+abbrev pub with_bytes : Types → Part → ℕ → List ℕ → Filling → Filling
+with_bytes t p count bytes f = with_step (Bytes p.path bytes) (with_zero t p (record f { scalars = f.scalars + count }))
 
 -- the steps, in order
 abbrev pub inits : List Init → Inits

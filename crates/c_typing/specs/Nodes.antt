@@ -141,10 +141,10 @@ abbrev pub of_unary : Types → UnOp → Operand → Operand
 of_unary t op x = computed_operand t (node (unary_result op (shape_in (unary_value t op x))) (acts x.typed) (Unary op (unary_value t op x)))
 
 abbrev pub of_logical : Types → Logic → Operand → Operand → Operand
-of_logical t op a b = computed_operand t (node int_shape (acts_both a.typed b.typed) (Logical op (value_of a.typed) (value_of b.typed)))
+of_logical t op a b = computed_operand t (node int_shape true (Logical op (value_of a.typed) (value_of b.typed)))
 
 abbrev pub of_conditional : Types → Operand → Operand → Operand → Shape → Operand
-of_conditional t c a b s = computed_operand t (node s (acts c.typed || acts_both a.typed b.typed) (Conditional (value_of c.typed) (value_as s a) (value_as s b)))
+of_conditional t c a b s = computed_operand t (node s true (Conditional (value_of c.typed) (value_as s a) (value_as s b)))
 
 -- the type of an assignment is that of its left operand behind lvalue conversion (6.5.16p3)
 abbrev pub of_assign : Operand → Operand → Operand
@@ -158,7 +158,7 @@ of_step form x at = operand (node (shape_in x.typed) true (Step form at x.typed)
 
 -- the operators `( void )` and `,` take values, the comma's type is that of its right operand (6.5.17p2)
 abbrev pub of_comma : Operand → Operand → Operand
-of_comma a b = operand (node (shape_of b) (acts_both a.typed b.typed) (Comma (value_of a.typed) (value_of b.typed)))
+of_comma a b = operand (node (shape_of b) true (Comma (value_of a.typed) (value_of b.typed)))
 
 -- casts (6.5.4): one to the type that the value has is no node, but for one to void
 

@@ -36,7 +36,7 @@ use Rattle.c_tree.specs.declared.words.UnaryOp.TheVariants.{Address, Indirection
 use Rattle.c_tree.specs.declared.words.LogicalOp.{LogicalOp}
 use Rattle.c_tree.specs.declared.words.LogicalOp.TheVariants.{And, Or}
 use Rattle.c_tree.specs.Syntax.{ExprTrees, NoExprs, MoreExprs, Qualified, SpecifierTrees, NoSpecifiers, MoreSpecifiers, MemberLine, MemberAssert, MemberTrees, NoMembers, MoreMembers, MemberDeclaratorTrees, NoMemberDeclarators, MoreMemberDeclarators, DeclaratorTree, ParameterTrees, NoParameters, MoreParameters}
-use Rattle.c_typing.specs.Types.{CType, Types, Member as MemberType, Aggregate, plain, unqualified, same_name, pointee, is_void, is_function, is_object, is_array, is_too_big, is_flexible, any_of, complete, aggregate_at, member_path}
+use Rattle.c_typing.specs.Types.{CType, Types, Member as MemberType, Aggregate, plain, unqualified, same_name, pointee, is_void, is_function, is_object, is_array, is_too_big, lacks_type, any_of, aggregate_at, member_path}
 use Rattle.c_typing.specs.Conversions.{Operand, operand, value_of, shape_of}
 use Rattle.c_typing.specs.Constants.{string_literal}
 use Rattle.c_typing.specs.Evaluation.{integer_value, constant_in}
@@ -263,11 +263,16 @@ new_tag k x at = do
   _ ← changes (with_tag x a)
   pure a
 
+-- an enumerated type is named behind its list alone (6.7.2.3p3)
+abbrev pub is_unlisted : AggKind → Option Aggregate → Bool
+is_unlisted k None = false
+is_unlisted k (Some x) = is_enum_kind k && not (is_some x.members)
+
 -- a tag that is visible has that kind (6.7.2.3p2); one that is not declares an incomplete structure or union (p8), and no enumerated type (p3)
 abbrev pub tag_or_new : AggKind → NameId → ℕ → Option ℕ → Walk ℕ
 tag_or_new k x at (Some a) = do
   t ← types_of
-  _ ← refuses_if (not (has_kind k (aggregate_at t a))) code.Tag at
+  _ ← refuses_if (not (has_kind k (aggregate_at t a)) || is_unlisted k (aggregate_at t a)) code.Tag at
   pure a
 tag_or_new k x at None = do
   _ ← refuses_if (is_enum_kind k) code.Tag at
@@ -326,7 +331,7 @@ abbrev pub declares_member : AggKind → Bool → NameId → ℕ → CType → B
 declares_member k last x at c b = do
   t ← types_of
   _ ← refuses_if (gives x b.offered) code.Redeclared at
-  _ ← refuses_if (is_object c.shape && not (complete t c.shape || (may_be_flexible k last b && is_flexible t c.shape))) code.Incomplete at
+  _ ← refuses_if (is_object c.shape && lacks_type t (may_be_flexible k last b) c.shape) code.Incomplete at
   _ ← refuses_if (is_function c.shape) code.FunctionType at
   _ ← refuses_reserved x at
   pure (with_member (record { name = Some x; type = c; value = pos 0 }) ((x, at) ∷ []) b)
@@ -550,7 +555,7 @@ with_literal first at p None f = faults (Constraint code.IntegerRange) at
 with_literal first at p (Some bytes) f = do
   t ← types_of
   _ ← refuses_if (not (has_room (bound_of_array p.type.shape) bytes)) code.Initialiser first
-  pure (reaching (length bytes) p (with_bytes t p (fitting (bound_of_array p.type.shape) bytes) f))
+  pure (reaching (length bytes) p (with_bytes t p (length bytes) (fitting (bound_of_array p.type.shape) bytes) f))
   where
     reaching : ℕ → Part → Filling → Filling
     reaching n p f = elim p.path [ [] ↦ record f { reach = n } | x ∷ xs ↦ f ]

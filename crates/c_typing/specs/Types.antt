@@ -1,5 +1,5 @@
 -- Definition: the types of a translation unit (C11 6.2.5): a data model, and the list of struct, union and enumerated types, which a shape names by its number; completeness, members and sizes under them.
-use Rattle.std.specs.Prelude.{ℕ, zero, suc, ℤ, Bool, true, false, not, ◌&&◌, ◌||◌, nat_eq, nat_lt, List, [], ◌∷◌, ◌++◌, Option, Some, None, length, slice_get, is_some, if◌then◌else◌}
+use Rattle.std.specs.Prelude.{ℕ, zero, suc, ℤ, Bool, true, false, not, ◌&&◌, ◌||◌, nat_eq, nat_lt, List, [], ◌∷◌, Option, Some, None, length, slice_get, is_some, if◌then◌else◌}
 use Rattle.std.specs.Option.{option_map, option_and_then}
 use Rattle.cil_base.specs.declared.kinds.Abi.{Abi}
 use Rattle.cil_base.specs.declared.kinds.IntKind.{IntKind}
@@ -130,6 +130,10 @@ abbrev pub is_flexible : Types → Shape → Bool
 is_flexible t (ArrayType q s None) = complete t s
 is_flexible t _ = false
 
+-- no complete object type, where one is needed: an array of unknown bound will do where its bound is still to come
+abbrev pub lacks_type : Types → Bool → Shape → Bool
+lacks_type t bound_comes s = not (complete t s || (bound_comes && is_flexible t s))
+
 -- sizes and offsets (6.5.3.4, 6.7.2.1p15 to p18)
 
 -- members placed in order
@@ -226,19 +230,3 @@ path_within (suc depth) t x a = elim (members_of t a) [ None ↦ None | Some ms 
 abbrev pub member_path : Types → NameId → Shape → Option (List Hop)
 member_path t x (AggType a) = if is_integer t (AggType a) then None else path_within (length t.aggs) t x a
 member_path t x _ = None
-
--- the names that a list of members gives, those of anonymous ones among them
-abbrev pub names_within : (ℕ → List NameId) → List Member → List NameId
-names_within of [] = []
-names_within of (m ∷ ms) = elim m.name [ Some x ↦ x ∷ names_within of ms | None ↦ of_shape m.type.shape ++ names_within of ms ]
-  where
-    of_shape : Shape → List NameId
-    of_shape (AggType a) = of a
-    of_shape _ = []
-
-abbrev pub names_of : ℕ → Types → ℕ → List NameId
-names_of zero t a = []
-names_of (suc depth) t a = elim (members_of t a) [ None ↦ [] | Some ms ↦ names_within (names_of depth t) ms ]
-
-abbrev pub member_names : Types → List Member → List NameId
-member_names t ms = names_within (names_of (length t.aggs) t) ms

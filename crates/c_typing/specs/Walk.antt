@@ -9,9 +9,9 @@ use Rattle.cil_base.specs.declared.faults.Feature.TheVariants as feature
 use Rattle.cil_base.specs.declared.faults.What.TheVariants as limit
 use Rattle.type_graph.specs.declared.aggregates.AggKind.{AggKind}
 use Rattle.type_graph.specs.declared.aggregates.AggKind.TheVariants as aggregate
-use Rattle.typed_tree.specs.Tree.{Literal as LiteralObject, Entity as StaticObject, Init, Zero, Scalar, Constant', Aggregate as Whole, Bytes, shape_in, acts}
+use Rattle.typed_tree.specs.Tree.{Literal as LiteralObject, Entity as StaticObject, shape_in}
 use Rattle.c_tree.specs.Syntax.{ExprTree, Name, Integer, Character, Literals, Parentheses, Index, Call, Member, Arrow, Postfix, CompoundLiteral, Prefix, Unary, SizeofExpr, SizeofType, AlignofType, Cast, Binary, Logical, Conditional, Assign, Comma, ExprTrees, NoExprs, MoreExprs, SpecifierTree, Storage, Basic, Qualified, Functional, TypedefName, Tag, StructBody, EnumBody, SpecifierTrees, NoSpecifiers, MoreSpecifiers, MemberTree, MemberLine, MemberAssert, MemberTrees, NoMembers, MoreMembers, MemberDeclaratorTree, Plain, BitField, MemberDeclaratorTrees, NoMemberDeclarators, MoreMemberDeclarators, Enumerates, EnumeratorTrees, NoEnumerators, MoreEnumerators, MaybeExpr, NoExpr, SomeExpr, DeclaratorTree, Declared, Absent, Grouped, Pointer, Array, Function, Unprototyped, BoundTree, Unspecified, Star, Size, StaticSize, SizeStatic, Parameter, ParameterTrees, NoParameters, MoreParameters, InitTree, Single, Braces, Item, ItemTrees, NoItems, MoreItems, DesignatorTree, AtIndex, AtMember, DesignatorTrees, NoDesignators, MoreDesignators}
-use Rattle.c_typing.specs.Types.{CType, Types, Member as MemberType, is_array, is_too_big, is_scalar, is_flexible, any_of, complete, member_path}
+use Rattle.c_typing.specs.Types.{CType, Types, Member as MemberType, is_array, is_too_big, is_scalar, is_flexible, complete, member_path}
 use Rattle.c_typing.specs.Conversions.{Operand, operand}
 use Rattle.c_typing.specs.Constants.{integer_constant, character_constant, string_literal}
 use Rattle.c_typing.specs.Specifiers.{InParameter, NoStorage, qualifiers}
@@ -125,13 +125,6 @@ braces_for static p f (Some x) walk = do
 
 -- compound literals (6.5.2.5p5): an object without a name, of the function, or with static storage duration outside functions
 
-abbrev pub step_acts : Init → Bool
-step_acts (Zero p) = false
-step_acts (Scalar p e) = acts e
-step_acts (Constant' p c) = false
-step_acts (Whole p e) = acts e
-step_acts (Bytes p bs) = false
-
 abbrev pub numbered : ℕ → CType → Walk ℕ
 numbered at c = do
   full ← asks (λ (env : Env). nat_le greatest_locals (count_locals env))
@@ -152,13 +145,17 @@ literal_object true at c f = do
 literal_object false at c f = do
   evaluated ← asks (λ (env : Env). env.evaluated)
   n ← number_of_literal evaluated at c
-  pure (operand (place c (any_of step_acts f.steps) (LiteralObject n (inits f.steps))))
+  pure (operand (place c true (LiteralObject n (inits f.steps))))
 
--- an initialiser that is done: not too many scalars, at its first token, and a type that is not too big, at that of what is declared (own)
+-- not too many scalars, at the initialiser's first token (own)
+abbrev pub refuses_scalars : ℕ → Filling → Walk (Unit {0})
+refuses_scalars init f = exceeds_if (nat_lt greatest_scalars f.scalars) limit.Scalars init
+
+-- an initialiser that is done: not too many scalars, and a type that is not too big, at the token of what is declared (own)
 abbrev pub filled : ℕ → ℕ → CType → Filling → Walk CType
 filled at init c f = do
   t ← types_of
-  _ ← exceeds_if (nat_lt greatest_scalars f.scalars) limit.Scalars init
+  _ ← refuses_scalars init f
   _ ← exceeds_if (is_too_big t (completed f.reach c).shape) limit.ObjectSize at
   pure (completed f.reach c)
 
@@ -338,7 +335,7 @@ abbrev mutual
     pure (x ∷ ds)
   derived parameter (Function at d ps variadic) = do
     ds ← derived parameter d
-    x ← prototyped variadic (parameters true ps)
+    x ← prototyped variadic (parameters (not variadic) ps)
     pure (x ∷ ds)
   derived parameter (Unprototyped at d names) = do
     ds ← derived parameter d
@@ -365,7 +362,7 @@ abbrev mutual
     x ← expr e
     sized (at_of e) qs x
 
-  -- parameters (6.7.6.3); `first` before the first of them
+  -- parameters (6.7.6.3); `first` where the next one may be the only item of the list
   parameters : Bool → ParameterTrees → Walk Parameters
   parameters first NoParameters = pure no_parameters
   parameters first (MoreParameters (Parameter ss d) ps) = do
