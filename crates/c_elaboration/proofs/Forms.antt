@@ -22,7 +22,7 @@ use Rattle.c_typing.specs.Conversions.{Operand, same_effect, value_shape, is_lva
 use Rattle.c_typing.specs.Evaluation.{decided_by}
 use Rattle.c_typing.specs.Nodes.{int_shape}
 use Rattle.c_typing.specs.Operators.{sides}
-use Rattle.c_semantics.specs.Values.{kind_of, cast_value, as_type, unary_value, value_at, stored, member_at, member_value, member_bytes, object_pointer}
+use Rattle.c_semantics.specs.Values.{kind_of, cast_value, as_type, unary_value, value_at, stored, member_at, member_value, around_member, object_pointer}
 use Rattle.c_semantics.specs.Places.{Activation, local_of, literal_number, array_number, arrays_in}
 use Rattle.c_semantics.specs.Operations.{Action, ◌>>=◌, gives, known, seen, changes, Seen, At, Is, is_value, is_told, valued, placed, single, indirect, operated, computed, subscripted, decided, chosen, member, member_of_value, array_object, assigned, compound, operator_of, stepped, result_of, called, local_object, Object, literal_object, initialised}
 use Rattle.typed_semantics.specs.Expressions.{value_of, single_of, holds, hop, t_exp, t_arguments, t_inits}
@@ -178,7 +178,7 @@ decays_array (AggType a) e = refl
 
 member_valued : (a : Activation) (n g i : ℕ) (q : Quals) (s : Shape) (d : Datum) → is_array s ≡ false → Valued (member a n (hop (record { quals = q; shape = s }) g i) (Is d))
 member_valued a n g i q s d e =
-    of_same _ (member_of_value a n (hop (record { quals = q; shape = s }) g i) d) (ap (λ b. chosen b (array_object a n (member_bytes a.types g i s d)) (member_of_value a n (hop (record { quals = q; shape = s }) g i) d)) e) (of_datum (known (member_value a.types g i s d)))
+    of_same _ (member_of_value a n (hop (record { quals = q; shape = s }) g i) d) (ap (λ b. chosen b (array_object a n (around_member a.types g i d)) (member_of_value a n (hop (record { quals = q; shape = s }) g i) d)) e) (of_datum (known (member_value a.types g i s d)))
 
 -- what is no lvalue and does not decay gives a value
 pub values : (a : Activation) (enter : Enter) (e : Typed) (k : ℕ) → OfRecords e → is_place e ≡ false → decays (shape_in e) ≡ false → Valued (t_exp a enter e k)

@@ -74,9 +74,9 @@ pub chosen_m : {A : Type 0} {n more : ℕ} {base : List ℕ} (b : Bool) {go to n
 chosen_m true m k = m
 chosen_m false m k = k
 
-pub array_object_m : {n more : ℕ} {base : List ℕ} (a : Activation) (i : ℕ) (o : Option (List Byte)) → Matched n more base (array_object a i o) (array_object a i o)
+pub array_object_m : {n more : ℕ} {base : List ℕ} (a : Activation) (i : ℕ) (o : Option (List Byte × ℕ)) → Matched n more base (array_object a i o) (array_object a i o)
 array_object_m a i None = undefined_matched
-array_object_m a i (Some bs) = memory_matched _ (λ m. Some (with_held m (local_of a i) (Some (writable bs))))
+array_object_m a i (Some x) = memory_matched _ (λ m. Some (with_held m (local_of a i) (Some (writable x.0))))
 
 pub member_m : {n more : ℕ} {base : List ℕ} (a : Activation) (i : ℕ) (h : Hop) (x : Seen) → Matched n more base (member a i h x) (member a i h x)
 member_m a i h (At p) = bind_matched (seen_matched _) (λ v. gives_matched _)

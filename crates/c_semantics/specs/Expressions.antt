@@ -10,7 +10,7 @@ use Rattle.cil_base.specs.declared.numbers.NameId.{NameId}
 use Rattle.cil_base.specs.declared.operators.BinOp.{BinOp}
 use Rattle.cil_base.specs.declared.operators.UnOp.TheVariants.{Neg, Compl, Not}
 use Rattle.typed_tree.specs.declared.expressions.StepForm.{StepForm}
-use Rattle.typed_tree.specs.Tree.{Typed, Has, Literal, Entity, shape_in}
+use Rattle.typed_tree.specs.Tree.{Typed, Has, Literal, Entity, Integer as IntegerForm, Local as LocalForm, Load as LoadForm, Decay as DecayForm, Address as AddressForm, Indirect as IndirectForm, Subscript as SubscriptForm, Member as MemberForm, Convert as ConvertForm, Unary as UnaryForm, Binary as BinaryForm, Logical as LogicalForm, Conditional as ConditionalForm, Comma as CommaForm, Assign as AssignForm, Compute as ComputeForm, Step as StepIn, Call as CallForm, shape_in}
 use Rattle.c_tree.specs.declared.words.UnaryOp.{UnaryOp}
 use Rattle.c_tree.specs.declared.words.UnaryOp.TheVariants.{Address, Indirection, Plus, Minus, Complement, Not as Negation}
 use Rattle.c_tree.specs.Syntax.{ExprTree, Name, Integer, Character, Literals, Parentheses, Index, Call, Member, Arrow, Postfix, CompoundLiteral, Prefix, Unary, SizeofExpr, SizeofType, AlignofType, Cast, Binary, Logical, Conditional, Assign, Comma, ExprTrees, NoExprs, MoreExprs, InitTree, Single as Lone, Braces, Item, ItemTrees, NoItems, MoreItems}
@@ -178,13 +178,30 @@ of_step a t form x go = do
   at ← placed y
   stepped a form by (shape_in x.typed) at
 
--- a compound literal is an object of the block, which is initialised each time it is reached (6.5.2.5p5, p16); outside functions it is an object of the unit
+-- a compound literal is an object of the block, which is initialised each time it is reached (6.5.2.5p5, 6.2.4p6); outside functions it is an object of the unit
 abbrev pub of_literal : Activation → Typed → Here → (Object → Rest → Action Rest) → Action Seen
 of_literal a (Has q s effect (Literal n is)) h go = do
   _ ← initialised (literal_object a n (record { quals = q; shape = s })) (steps_of a (literal_object a n (record { quals = q; shape = s })) is h go)
   gives (local_object a (literal_number a n))
 of_literal a (Has q s effect (Entity n)) h go = unit_object a n
-of_literal a (Has q s effect form) h go = λ t. Undefined t
+of_literal a (Has q s effect (IntegerForm n)) h go = λ t. Undefined t
+of_literal a (Has q s effect (LocalForm n)) h go = λ t. Undefined t
+of_literal a (Has q s effect (LoadForm e)) h go = λ t. Undefined t
+of_literal a (Has q s effect (DecayForm e)) h go = λ t. Undefined t
+of_literal a (Has q s effect (AddressForm e)) h go = λ t. Undefined t
+of_literal a (Has q s effect (IndirectForm e)) h go = λ t. Undefined t
+of_literal a (Has q s effect (SubscriptForm l r)) h go = λ t. Undefined t
+of_literal a (Has q s effect (MemberForm e g i)) h go = λ t. Undefined t
+of_literal a (Has q s effect (ConvertForm e)) h go = λ t. Undefined t
+of_literal a (Has q s effect (UnaryForm op e)) h go = λ t. Undefined t
+of_literal a (Has q s effect (BinaryForm op l r)) h go = λ t. Undefined t
+of_literal a (Has q s effect (LogicalForm op l r)) h go = λ t. Undefined t
+of_literal a (Has q s effect (ConditionalForm x y z)) h go = λ t. Undefined t
+of_literal a (Has q s effect (CommaForm l r)) h go = λ t. Undefined t
+of_literal a (Has q s effect (AssignForm l r)) h go = λ t. Undefined t
+of_literal a (Has q s effect (ComputeForm op by l r)) h go = λ t. Undefined t
+of_literal a (Has q s effect (StepIn form by e)) h go = λ t. Undefined t
+of_literal a (Has q s effect (CallForm f xs)) h go = λ t. Undefined t
 
 -- an expression of an initialiser, with the place behind it
 abbrev pub of_value : Activation → Shape → Operand → Here → Action Seen → Action (Datum × Here)

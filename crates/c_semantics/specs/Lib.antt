@@ -9,3 +9,4 @@ pub mod Units
 pub mod Laws
 pub mod Text
 pub mod Programs
+pub mod MorePrograms

@@ -27,7 +27,7 @@ use Rattle.c_typing.specs.Initialisers.{Path}
 use Rattle.c_typing.specs.Nodes.{int_shape}
 use Rattle.c_typing.specs.Operators.{Sides}
 use Rattle.cil_semantics.specs.Values.{single_in}
-use Rattle.c_semantics.specs.Values.{kind_of, as_type, unary_value, binary_value, holds_of, value_at, member_at, member_value, member_bytes, part_from, is_const, stored, zeroed, filled, object_pointer}
+use Rattle.c_semantics.specs.Values.{kind_of, as_type, unary_value, binary_value, holds_of, value_at, member_at, member_value, around_member, part_from, is_const, stored, zeroed, filled, object_pointer}
 use Rattle.c_semantics.specs.Places.{Activation, Here, local_of, literal_number}
 
 infixl 10 ◌>>=◌
@@ -145,9 +145,9 @@ abbrev pub chosen : {A : Type 0} → Bool → Action A → Action A → Action A
 chosen true first second = first
 chosen false first second = second
 
--- members (6.5.2.3p3): of a place, or of a value; a member of array type of a value stands in an object of its own, which has that number in the activation
-abbrev pub array_object : Activation → ℕ → Option (List Byte) → Action Seen
-array_object a n bytes = λ s. given s bytes (λ bs. Goes (At (object_pointer (local_of a n) 0)) (with_memory s (with_held s.memory (local_of a n) (Some (writable bs)))))
+-- members (6.5.2.3p3): of a place, or of a value; where its member of array type is asked for, a value stands in an object of its own (6.2.4p8), which has that number in the activation
+abbrev pub array_object : Activation → ℕ → Option (List Byte × ℕ) → Action Seen
+array_object a n value = λ s. given s value (λ x. Goes (At (object_pointer (local_of a n) x.1)) (with_memory s (with_held s.memory (local_of a n) (Some (writable x.0)))))
 
 abbrev pub member_of_value : Activation → ℕ → Hop → Datum → Action Seen
 member_of_value a n h d = do
@@ -158,7 +158,7 @@ abbrev pub member : Activation → ℕ → Hop → Seen → Action Seen
 member a n h (At place) = do
   v ← seen (λ m. member_at a.types m h.aggregate h.index place)
   gives (At v)
-member a n h (Is d) = chosen (is_array h.member.type.shape) (array_object a n (member_bytes a.types h.aggregate h.index h.member.type.shape d)) (member_of_value a n h d)
+member a n h (Is d) = chosen (is_array h.member.type.shape) (array_object a n (around_member a.types h.aggregate h.index d)) (member_of_value a n h d)
 
 abbrev pub along : Activation → ℕ → List Hop → Seen → Action Seen
 along a n [] x = gives x

@@ -10,7 +10,7 @@ use Rattle.execution.specs.Data.{Automatic}
 use Rattle.execution.specs.Jumps.{Target, ToLabel, ToCase, ToDefault, ToContinue, Entry, Signal, Normal, Broken, Jumped, Returned, Has, Goer, behind, caught, seq_from, if_from, switch_from, loop_from}
 use Rattle.execution.specs.Calls.{Enter}
 use Rattle.typed_tree.specs.Tree.{Typed, Inits}
-use Rattle.typed_tree.specs.Statements.{Stmt, Declare, Case as When}
+use Rattle.typed_tree.specs.Statements.{Stmt, Declare, Case as When, Expr as AnExpression, Block as ABlock, If as AnIf, Switch as ASwitch, While as AWhile, Do as ADo, For as AFor, Label as ALabel, Goto as AGoto, Break as ABreak, Continue as AContinue, Return as AReturn, Default as ADefault}
 use Rattle.typed_tree.specs.Units.{Local as LocalObject}
 use Rattle.c_tree.specs.Syntax.{ExprTree, SpecifierTrees, DeclaratorTree, InitTree}
 use Rattle.c_tree.specs.Units.{DeclarationTree, Declares, Asserts, ForStart, StartExpr, StartDeclaration, StmtTree, Labelled, Case, Default, Compound, Expression, If, IfElse, Switch, While, Do, For, Goto, Continue, Break, Return, BlockItem, Declaring, Doing, BlockItems, NoItems, MoreItems}
@@ -49,7 +49,21 @@ arrives a enter ss b x (Declare n None ∷ more) h k = do
 arrives a enter ss b x (Declare n (Some is) ∷ more) h k = with_parts (declared ss b x.0) h (λ m j. do
   l ← known (slice_get k.env.locals n)
   initialises a enter (object_of a n l) x.1 is j)
-arrives a enter ss b x _ h k = gives tt
+arrives a enter ss b x [] h k = gives tt
+arrives a enter ss b x (AnExpression e ∷ more) h k = gives tt
+arrives a enter ss b x (ABlock is ∷ more) h k = gives tt
+arrives a enter ss b x (AnIf e ys ns ∷ more) h k = gives tt
+arrives a enter ss b x (ASwitch e is ∷ more) h k = gives tt
+arrives a enter ss b x (AWhile e is ∷ more) h k = gives tt
+arrives a enter ss b x (ADo is e ∷ more) h k = gives tt
+arrives a enter ss b x (AFor is t u js ∷ more) h k = gives tt
+arrives a enter ss b x (ALabel n ∷ more) h k = gives tt
+arrives a enter ss b x (When kind v ∷ more) h k = gives tt
+arrives a enter ss b x (ADefault ∷ more) h k = gives tt
+arrives a enter ss b x (AGoto n ∷ more) h k = gives tt
+arrives a enter ss b x (ABreak ∷ more) h k = gives tt
+arrives a enter ss b x (AContinue ∷ more) h k = gives tt
+arrives a enter ss b x (AReturn e ∷ more) h k = gives tt
 
 abbrev pub c_declarators : Activation → Enter → SpecifierTrees → Base → List (DeclaratorTree × Option InitTree) → Here → State → Result (Unit {0})
 c_declarators a enter ss b [] h s = Goes tt s
@@ -128,7 +142,20 @@ is_continue ToContinue = true
 
 abbrev pub is_case_of : ℤ → Stmt → Bool
 is_case_of v (When kind w) = int_eq v w
-is_case_of v _ = false
+is_case_of v (Declare n init) = false
+is_case_of v (AnExpression e) = false
+is_case_of v (ABlock is) = false
+is_case_of v (AnIf e ys ns) = false
+is_case_of v (ASwitch e is) = false
+is_case_of v (AWhile e is) = false
+is_case_of v (ADo is e) = false
+is_case_of v (AFor is t u js) = false
+is_case_of v (ALabel n) = false
+is_case_of v (AGoto n) = false
+is_case_of v ABreak = false
+is_case_of v AContinue = false
+is_case_of v (AReturn e) = false
+is_case_of v ADefault = false
 
 abbrev pub labelled : ℕ → Target → Bool
 labelled n (ToLabel m) = nat_eq n m

@@ -119,9 +119,9 @@ bytes_in (Bytes bytes) = Some bytes
 abbrev pub member_value : Types → ℕ → ℕ → Shape → Datum → Option Datum
 member_value t a i s d = bytes_in d >>= λ bytes. offset_in t a i >>= λ at. kind_of t s >>= λ k. part_value t.abi k at bytes
 
--- the bytes of a member that is an array
-abbrev pub member_bytes : Types → ℕ → ℕ → Shape → Datum → Option (List Byte)
-member_bytes t a i s d = bytes_in d >>= λ bytes. offset_in t a i >>= λ at. size_in t s >>= λ size. Some (part_at at size bytes)
+-- the bytes of a value, and the offset of a member in it
+abbrev pub around_member : Types → ℕ → ℕ → Datum → Option (List Byte × ℕ)
+around_member t a i d = bytes_in d >>= λ bytes. offset_in t a i >>= λ at. Some (bytes, at)
 
 -- parts of an object by their paths (6.7.9p17), with their offsets
 
