@@ -1,7 +1,7 @@
 ghost use Rattle.std.specs.Prelude.{IfOk};
 ghost use Rattle.cil_runner.specs.Beginning.{IsFresh};
 
-use cil_base::NamePool;
+use cil_base::{Abi, NamePool};
 use cil_reader::read;
 use cil_runner::Machine;
 use std::alloc::{AllocError, Global};
@@ -20,6 +20,6 @@ pub(crate) fn machine_of(alloc: Global, text: &str) -> Result<Machine, Fail>
 {
     let words = one_word(alloc)?;
     let mut names = NamePool::new(alloc);
-    let unit = read(alloc, text.as_bytes(), &mut names)?;
+    let unit = read(alloc, text.as_bytes(), &mut names, Abi::Lp64)?;
     Ok(Machine::load(alloc, &unit, &names, &words)?)
 }
