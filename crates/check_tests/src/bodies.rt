@@ -379,9 +379,11 @@ fn add_open(g: &mut TypeGraph, pool: &mut NamePool) -> Result<TypeId, Memory> {
 }
 
 /// Adds the types.
+#[tactic(auto, using(cil_base::proofs::KindLaws::long_there))]
 fn add_types(g: &mut TypeGraph, pool: &mut NamePool) -> Result<Types, Memory> {
     let int = g.add_node(Node::Int(IntKind::Int))?;
-    let long = g.add_node(Node::Int(IntKind::Long))?;
+    let kind = g.abi().long();
+    let long = g.add_node(Node::Int(kind))?;
     let char = g.add_node(Node::Int(IntKind::Char))?;
     let void = g.add_node(Node::Void)?;
     let one = function(g, int, Some(int), Form::Prototype)?;

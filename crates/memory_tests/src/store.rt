@@ -697,7 +697,7 @@ fn ends_move(rt: &impl Abort, store: &Store, end: Value) {
             (store.pointer_less(end, Value::Int(4), 4), Some(to(B, 0))),
             (store.pointer_sum(end, Value::Int(0), 4), Some(end)),
             (store.pointer_sum(end, Value::Unknown, 4), None),
-            (store.pointer_sum(end, end, 4), None),
+            (store.pointer_sum(end, Value::Ptr(at(B, 16)), 4), None),
         ],
     );
 }
@@ -838,7 +838,10 @@ fn one_number_is_computed(rt: HostRuntime) {
                 compute_unary(UnOp::Not, int, Value::Int(7)),
                 Some(Value::Int(0)),
             ),
-            (compute_unary(UnOp::Not, IntKind::Long, to(A, 0)), None),
+            (
+                compute_unary(UnOp::Not, IntKind::Long, Value::Ptr(at(A, 0))),
+                None,
+            ),
             (compute_unary(UnOp::Neg, int, Value::Unknown), None),
             (
                 compute_unary(UnOp::Compl, IntKind::Char, Value::Part(at(A, 0), 1)),
@@ -859,7 +862,10 @@ fn two_numbers_are_computed(rt: HostRuntime) {
                 compute(BinOp::Add, int, Value::Int(2), three),
                 Some(Value::Int(5)),
             ),
-            (compute(BinOp::Add, IntKind::Long, to(A, 0), three), None),
+            (
+                compute(BinOp::Add, IntKind::Long, Value::Ptr(at(A, 0)), three),
+                None,
+            ),
             (
                 compute(BinOp::Mul, int, Value::Int(0), Value::Unknown),
                 None,
