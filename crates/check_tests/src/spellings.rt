@@ -214,6 +214,9 @@ struct Memset {
 
 /// The type of `void * __builtin_memset ( void * , int , .. )`, with a third parameter of a kind.
 fn memset_type(g: &mut TypeGraph, length: IntKind) -> Result<TypeId, Memory> {
+    if !length.is_of(g.abi()) {
+        return Err(Memory);
+    }
     let int = g.add_node(Node::Int(IntKind::Int))?;
     let length = g.add_node(Node::Int(length))?;
     let void = g.add_node(Node::Void)?;
