@@ -7,3 +7,5 @@ mod Rows
 mod ModelRows
 mod Bytes
 mod SyntaxRows
+mod Joints
+mod ApartRows

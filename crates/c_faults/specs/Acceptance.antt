@@ -1,4 +1,4 @@
--- Definition: what a list of translation units of bytes is refused for, and which lists are accepted (own, over C11 4p3 and 5.1.1.2p1): units in order, and behind all of them what only several units show.
+-- Definition: what a list of translation units of bytes is refused for, and which lists are accepted (own, over C11 5.1.1.2p1 and 5.1.1.3p1): units in order, and behind all of them what only several units show.
 use Rattle.std.specs.Prelude.{◌≡◌, ℕ, ◌+◌, List, [], ◌∷◌, ◌++◌, length, Some, None}
 use Rattle.cil_base.specs.declared.faults.Place.{Place}
 use Rattle.cil_base.specs.declared.faults.Refusal.{Refusal}
