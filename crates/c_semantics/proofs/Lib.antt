@@ -1,5 +1,6 @@
 mod Rows
 mod Words
+mod Highest
 mod MoreRows
 pub mod Matched
 pub mod Nodes

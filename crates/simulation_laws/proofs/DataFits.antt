@@ -1,5 +1,5 @@
 -- Device: data that are loaded fit their kinds, and what fits comes back as it was stored.
-use Rattle.std.proofs.Common.{◌≡◌, ℕ, ◌+◌, ◌≤◌, List, [], ◌∷◌, length, drop, Option, Some, None, IfSome, option_map, ℤ, refl, sym, ap, ◌∙◌, subst, arith, length-take, length-drop}
+use Rattle.std.proofs.Common.{◌≡◌, ℕ, suc, ◌+◌, ◌≤◌, List, [], ◌∷◌, length, drop, Option, Some, None, IfSome, option_map, ℤ, refl, sym, ap, ◌∙◌, subst, arith, length-take, length-drop}
 use Rattle.cil_base.specs.declared.kinds.Abi.{Abi}
 use Rattle.byte_mem.specs.declared.pointers.Pointer.{Pointer}
 use Rattle.byte_mem.specs.declared.values.Byte.{Byte}
@@ -109,12 +109,12 @@ host_gives name c s r = by (scalar_result c.result) refl
 
 pub ready_bytes : (input : List ℕ) → AreBytes input → IsReady (ready input)
 ready_bytes [] h = tt
-ready_bytes (b ∷ input) h = h.0
+ready_bytes (b ∷ input) h = h 0 b (omega arith)
 
 pub left_bytes : (next : Option (Option ℕ)) (input : List ℕ) → AreBytes input → AreBytes (input_after next input)
 left_bytes (Some next) input h = h
 left_bytes None [] h = h
-left_bytes None (b ∷ input) h = h.1
+left_bytes None (b ∷ input) h = λ k d l. h (suc k) d (omega (arith, l))
 
 pub data_fit : DataFit
 data_fit = record { ready = ready_bytes; left = left_bytes; loaded = datum_fits; unknown = unknown_fits; again = datum_again; host = host_gives }

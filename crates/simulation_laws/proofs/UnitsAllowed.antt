@@ -2,6 +2,8 @@
 use Rattle.std.proofs.Common.{◌≡◌, ℕ, zero, suc, List, [], ◌∷◌, Option, Some, None, option_map, slice_get, inl, refl, sym, subst}
 use Rattle.cil_base.specs.declared.kinds.Abi.{Abi}
 use Rattle.cil_base.specs.declared.kinds.Mode.{Mode}
+use Rattle.cil_base.specs.declared.runs.Env.{Env}
+use Rattle.cil_base.specs.Env.{IsEnv}
 use Rattle.cil_base.specs.Outcome.{Allows}
 use Rattle.byte_mem.specs.Steps.{◌>>=◌}
 use Rattle.execution.specs.States.{State}
@@ -95,7 +97,8 @@ module _ (P : Function → Function → Type 0) (begins : (f g : Function) → P
   looked_up entity zero (m ∷ ms) (q ∷ ns) h = at_main entity m q h.0
   looked_up entity (suc e) (m ∷ ms) (q ∷ ns) h = looked_up entity e ms ns h.1
 
-  allowed : Allows (run us mode words input n) (run vs mode words input n)
+  -- the outcome of the second list is one that the first allows, where main and what it calls keep some relation
+  pub allowed : Allows (run us mode words input n) (run vs mode words input n)
   allowed = subst (λ (e : ℕ). Allows (run us mode words input n) (run_linked mode.abi (linked mode.common vs) e words input n)) (sym s.main) (looked_up (main_entity us) (main_entity us) (linked mode.common us) (linked mode.common vs) s.linked)
 
 -- functions that keep the order, and begin a program alike
@@ -131,3 +134,7 @@ units_fitted us vs mode h tame words input bytes n =
     called : FittedCalls mode.abi (calls (linked mode.common us)) (calls (linked mode.common vs))
     called = calls_fitted mode.abi (linked mode.common us) (linked mode.common vs) (linked_tame mode.common vs tame)
         (λ v w b. computes_more (FitsRuns mode.abi) (FittedFunctions mode.abi) (λ f g k. k.fits) (meant (linked mode.common us) v) (meant (linked mode.common vs) w) (start.named v w b))
+
+-- so it is of each environment, whose input is bytes
+pub units_fitted_in : (us vs : List (List Linkable)) (mode : Mode) → AlikeUnits (FitsRuns mode.abi) us vs → TameUnits vs → (words : List (List ℕ)) (env : Env) → IsEnv env → (n : ℕ) → Allows (run us mode words env.input n) (run vs mode words env.input n)
+units_fitted_in us vs mode h tame words env is n = units_fitted us vs mode h tame words env.input is.input n

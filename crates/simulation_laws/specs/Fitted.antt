@@ -1,5 +1,5 @@
 -- Device: data that fit their kinds come back as they were stored, and calls of the host leave activations' objects alone and give data that fit (C11 6.2.4p2, 6.5.2.2, 6.5.16.1p2).
-use Rattle.std.specs.Prelude.{◌≡◌, ℕ, ◌<◌, ◌^◌, List, [], ◌∷◌, length, Option, Some, None, IfSome}
+use Rattle.std.specs.Prelude.{◌≡◌, ℕ, ◌<◌, List, length, Option, Some, None, IfSome, All}
 use Rattle.cil_base.specs.declared.kinds.Abi.{Abi}
 use Rattle.byte_mem.specs.declared.values.Scalar.{Scalar}
 use Rattle.byte_mem.specs.declared.values.Value.{Value}
@@ -35,10 +35,9 @@ GivesKind abi kind (Exits status s) = Unit {0}
 GivesKind abi kind (Running s) = Unit {0}
 GivesKind abi kind (WentUndefined s) = Unit {0}
 
--- input is bytes (7.21.7.1p2, own)
+-- input is bytes, as that of an environment (`IsEnv`; 7.21.7.1p2, own)
 abbrev pub AreBytes : List ℕ → Type 0
-AreBytes [] = Unit {0}
-AreBytes (b ∷ input) = (b < 2 ^ 8) × AreBytes input
+AreBytes input = All (λ b. b < 256) input
 
 pub record DataFit : Type 0 where
   -- what is at hand of input that is bytes is a byte, and what is left behind it is bytes
