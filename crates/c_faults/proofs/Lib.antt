@@ -9,3 +9,4 @@ mod Bytes
 mod SyntaxRows
 mod Joints
 mod ApartRows
+pub mod ApartLaws

@@ -16,7 +16,7 @@ use Rattle.c_faults.specs.Acceptance.{AreRead, total_of, names_behind, Clashes, 
 use Rattle.c_faults.proofs.Acceptance.{same_answer, one_lexed, one_read, no_fault, same_reads, none_in_order}
 
 -- the same, or two syntax faults
-abbrev One : Refusal → Refusal → Type 0
+abbrev pub One : Refusal → Refusal → Type 0
 One r q = (r ≡ q) ⊎ ((r.fault ≡ Syntax) × (q.fault ≡ Syntax))
 
 turned : (r q : Refusal) → One r q → One q r
