@@ -122,15 +122,18 @@ module _ (ts : List (Thing Head Label)) where
   failing : (gs : List (List Side)) (g e l : ℕ) (p : ℕ × ℕ) (f : FailsFirst ts gs g e l p) → Failing gs g e l p f.sides
   failing gs g e l p f = record { a = f.a; b = f.b; name = f.name; first = f.first; second = f.second; order = f.order; joint = f.joint; clash = subst (λ ds. IsClash ts ds p) (up_to_is gs g f.sides l f.b e f.a) f.clash }
 
+  whole_name : (ss : List Side) (e l : ℕ) (a b : Side) → e < l → slice_get ss e ≡ Some a → slice_get ss l ≡ Some b
+      → StartsWith (links_behind ts [] (take l ss) ++ (links_with ts (take e ss) b ++ link ts a b ∷ [])) (links_behind ts [] ss)
+  whole_name ss e l a b o i j =
+      subst (λ vs. StartsWith (links_behind ts [] (take l ss) ++ (links_with ts (take e ss) b ++ link ts a b ∷ [])) (links_behind ts [] vs)) (take_all ss (length ss) (omega arith))
+      (behind_starts ss b a e l (length ss) o (at_there ss l b j) i j)
+
   less_name : (gs : List (List Side)) (g e l h d k : ℕ) (p q : ℕ × ℕ) (ss us : List Side) → g < h → Failing gs g e l p ss → Failing gs h d k q us → ⊥
   less_name gs g e l h d k p q ss us less f c =
       let r = parted gs g h ss less f.name in
-      let whole : StartsWith (links_behind ts [] (take l ss) ++ (links_with ts (take e ss) f.b ++ link ts f.a f.b ∷ [])) (links_behind ts [] ss) =
-      subst (λ vs. StartsWith (links_behind ts [] (take l ss) ++ (links_with ts (take e ss) f.b ++ link ts f.a f.b ∷ [])) (links_behind ts [] vs)) (take_all ss (length ss) (omega arith))
-      (behind_starts ss f.b f.a e l (length ss) f.order (at_there ss l f.b f.second) f.first f.second) in
       let names : StartsWith (up_to gs g ss l f.b e f.a) (links_of ts (take h gs)) =
       subst (StartsWith (up_to gs g ss l f.b e f.a)) (sym (ap (links_of ts) r.1 ∙ of_append (take g gs) ss r.0))
-      (starts_behind (links_of ts (take g gs)) _ _ (starts_more _ (links_behind ts [] ss) (links_of ts r.0) whole)) in
+      (starts_behind (links_of ts (take g gs)) _ _ (starts_more _ (links_behind ts [] ss) (links_of ts r.0) (whole_name ss e l f.a f.b f.order f.first f.second))) in
       no_clash (up_to gs g ss l f.b e f.a) (links_before ts gs h us k c.b d) p (starts_more (up_to gs g ss l f.b e f.a) (links_of ts (take h gs)) (links_behind ts [] (take k us) ++ links_with ts (take d us) c.b) names) c.joint f.clash
 
   less_later : (gs : List (List Side)) (g e l d k : ℕ) (p q : ℕ × ℕ) (ss : List Side) → l < k → Failing gs g e l p ss → Failing gs g d k q ss → ⊥
@@ -143,6 +146,16 @@ module _ (ts : List (Thing Head Label)) where
       let same : c.b ≡ f.b = some_one c.b f.b (slice_get ss l) c.second f.second in
       no_clash (up_to gs g ss l f.b e f.a) (links_before ts gs g ss l f.b d) p
       (starts_behind (links_of ts (take g gs)) _ _ (starts_behind (links_behind ts [] (take l ss)) _ _ (with_starts ss f.b f.a e d less f.first))) (subst (λ b. Joint ts (links_before ts gs g ss l b d)) same c.joint) f.clash
+
+  -- links that have a joint equivalence fail nowhere
+  pub none_fails : (gs : List (List Side)) (g e l : ℕ) (p : ℕ × ℕ) → Joint ts (links_of ts gs) → FailsFirst ts gs g e l p → ⊥
+  none_fails gs g e l p j c =
+      let f = failing gs g e l p c in
+      let r = parted gs g (length gs) c.sides (at_there gs g c.sides f.name) f.name in
+      no_clash (up_to gs g c.sides l f.b e f.a) (links_of ts gs) p
+      (subst (λ us. StartsWith (up_to gs g c.sides l f.b e f.a) (links_of ts us)) (take_all gs (length gs) (omega arith))
+      (subst (StartsWith (up_to gs g c.sides l f.b e f.a)) (sym (ap (links_of ts) r.1 ∙ of_append (take g gs) c.sides r.0))
+      (starts_behind (links_of ts (take g gs)) _ _ (starts_more _ (links_behind ts [] c.sides) (links_of ts r.0) (whole_name c.sides e l f.a f.b f.order f.first f.second))))) j f.clash
 
   pub record SameLink (g e l h d k : ℕ) : Type 0 where
     pub name : g ≡ h
@@ -186,6 +199,10 @@ apart_once reads r q x y =
     let at : r.at ≡ q.at = some_one r.at q.at (place_in (groups reads) y.name y.later) (subst (λ n. place_in (groups reads) y.name n ≡ Some r.at) s.later (subst (λ n. place_in (groups reads) n x.later ≡ Some r.at) s.name x.at)) y.at in
     let other : x.other ≡ y.other = some_one x.other y.other (place_in (groups reads) y.name y.earlier) (subst (λ n. place_in (groups reads) y.name n ≡ Some x.other) s.earlier (subst (λ n. place_in (groups reads) n x.earlier ≡ Some x.other) s.name x.beside)) y.beside in
     refusal_is r q x.other y.other (x.fault ∙ sym y.fault) at other x.told y.told
+
+-- nothing is told where all links have a joint equivalence
+pub joint_together : (reads : List Read) → Joint (things (all_names reads) (graphs_of reads)) (links_of (things (all_names reads) (graphs_of reads)) (map sides (groups reads))) → (r : Refusal) → AreApart reads r → ⊥
+joint_together reads j r x = none_fails (things (all_names reads) (graphs_of reads)) (map sides (groups reads)) x.name x.earlier x.later x.pair j x.fails
 
 -- units have one first refusal
 pub one_is_told : (mode : Mode) (names : List (List ℕ)) (units : List Source) (r q : Refusal) → IsRefusal mode names units r → IsRefusal mode names units q → One r q

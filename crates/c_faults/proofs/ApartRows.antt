@@ -22,10 +22,10 @@ use Rattle.c_faults.proofs.Expected.{place}
 use Rattle.c_faults.proofs.FirstLaws.{all_are_read}
 use Rattle.c_faults.proofs.Joints.{joined, AreFree, alike_by, alike_incomplete, joint_none, joint_of, part_forced, differ_by}
 
-abbrev files : List (List ℕ)
+abbrev pub files : List (List ℕ)
 files = codes "a.c" ∷ codes "b.c" ∷ codes "c.c" ∷ []
 
-abbrev reads_in : Findings → List Read
+abbrev pub reads_in : Findings → List Read
 reads_in (AllWhole reads) = reads
 reads_in (OneRefused refusal) = []
 reads_in (OneStops t start stop refusal) = []
@@ -35,17 +35,17 @@ abbrev incompatible : ℕ → ℕ → ℕ → ℕ → Refusal
 incompatible unit token other other_token = record { fault = Incompatible; at = place unit token unit 1; other = Some (place other other_token other 1) }
 
 -- the only types of things here
-abbrev of_type : Head → List ℕ → Thing Head Label
+abbrev pub of_type : Head → List ℕ → Thing Head Label
 of_type h parts = record { head = h; inside = Some (map (λ n. (plain, n)) parts) }
 
 -- the structure `s`, with one member `a` or incomplete
 abbrev structure : ℕ → Thing Head Label
 structure member = record { head = head.Tagged Struct (record { 0 = 4 }); inside = Some ((record { name = 4; value = pos 0 }, member) ∷ []) }
 
-abbrev incomplete : Thing Head Label
+abbrev pub incomplete : Thing Head Label
 incomplete = record { head = head.Tagged Struct (record { 0 = 4 }); inside = None }
 
-abbrev side : ℕ → Side
+abbrev pub side : ℕ → Side
 side n = record { ty = n; bare = false }
 
 int_is_not_long : head.Int int ≡ head.Int long → ⊥

@@ -10,3 +10,4 @@ mod SyntaxRows
 mod Joints
 mod ApartRows
 pub mod ApartLaws
+mod TogetherRows

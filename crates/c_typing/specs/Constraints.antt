@@ -19,10 +19,18 @@ abbrev pub has_no_type : Node → Bool
 has_no_type (ConstantNode made) = not (is_some made)
 has_no_type _ = false
 
+-- a literal that is no expression: a static assertion's message, and one that initialises an array
+abbrev pub has_wrong_escape : Option (List ℕ) → Bool
+has_wrong_escape bytes = not (is_some bytes)
+
 -- 2: an identifier has no visible declaration as an object, a function or an enumeration constant (6.5.1p2)
 abbrev pub is_undeclared : Node → Bool
 is_undeclared (NameNode found) = not (is_some found)
 is_undeclared _ = false
+
+-- 4: what is declared without linkage has a declaration in the same scope and name space already (6.7p3)
+abbrev pub is_declared : {A : Type 0} → Option A → Bool
+is_declared seen = is_some seen
 
 -- 8: a complete type is needed
 

@@ -17,6 +17,7 @@ use Rattle.c_tree.specs.declared.words.StorageClass.TheVariants as class
 use Rattle.c_tree.specs.Syntax.{SpecifierTrees, InitTree}
 use Rattle.c_typing.specs.Types.{CType, Types, is_void, is_function, lacks_type, complete}
 use Rattle.c_typing.specs.Conversions.{compatible, same_shape}
+use Rattle.c_typing.specs.Constraints.{is_declared}
 use Rattle.c_typing.specs.Specifiers.{class_of, is_inline}
 use Rattle.c_typing.specs.Scopes.{Linkage, External, Internal, NoLinkage, Denotes, TypedefName, EnumerationConstant, Automatic, Static, Entity, Env, Walk, ◌>>=◌, pure, asks, changes, refuses_if, excludes_if, types_of, visible_name, own_name, is_file_scope, with_name, new_entity, changes_entity, changed_at, entity_named}
 use Rattle.c_typing.specs.Declarators.{Derivation, PointerTo, ArrayOf, FunctionOf, BareFunctionOf, at_of_specifiers}
@@ -241,7 +242,7 @@ abbrev pub refuses_object : NameId → ℕ → CType → Bool → Walk (Unit {0}
 refuses_object x at c initialised = do
   t ← types_of
   seen ← asks (λ (env : Env). own_name env x)
-  _ ← refuses_if (is_some seen) code.Redeclared at
+  _ ← refuses_if (is_declared seen) code.Redeclared at
   _ ← refuses_if (lacks_type t initialised c.shape) code.Incomplete at
   refuses_reserved x at
 

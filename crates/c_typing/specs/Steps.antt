@@ -43,7 +43,7 @@ use Rattle.c_typing.specs.Evaluation.{integer_value, constant_in}
 use Rattle.c_typing.specs.Specifiers.{Position, are_specifiers, qualifiers, qualifiers_in, words_in, basic_shape, class_of, has_tagless_body, qualified, is_wrong_restrict}
 use Rattle.c_typing.specs.Scopes.{Env, Scope, Entity, Denotes, TypedefName as ATypedefName, EnumerationConstant, Automatic, Static, NoLinkage, Walk, ◌>>=◌, pure, asks, changes, faults, refuses_if, exceeds_if, required, visible_name, visible_tag, own_name, own_tag, with_name, with_tag, empty_scope, enter, leave, types_of, new_aggregate, with_changed_aggregate, new_entity, uses}
 use Rattle.c_typing.specs.Nodes.{Node, NameNode, ConstantNode, CallNode, MemberNode, ArrowNode, AddressNode, IndirectNode, PlusNode, UnaryNode, AssignNode, ComputeNode, ConvertNode, constant_operand, place, typed_node}
-use Rattle.c_typing.specs.Constraints.{first_violated, wrong_argument}
+use Rattle.c_typing.specs.Constraints.{has_wrong_escape, is_declared, first_violated, wrong_argument}
 use Rattle.c_typing.specs.Declarators.{at_of, at_of_specifiers, declared_in, place_in, Derivation, ArrayOf, FunctionOf, bound_of, built, last_of, adjusted, bracket_quals, is_lone_void}
 use Rattle.c_typing.specs.Initialisers.{Path, Part, Frame, Filling, AValue, takes_whole, with_whole, with_bytes, fitting, has_room, bound_of_array, inits}
 
@@ -381,7 +381,7 @@ is_zero_integer _ = false
 
 abbrev pub asserted : ℕ → ℕ → Operand → ℕ → List (List ℕ) → Walk (Unit {0})
 asserted at e_at x message_at message = do
-  _ ← refuses_if (not (is_some (string_literal message))) code.IntegerRange message_at
+  _ ← refuses_if (has_wrong_escape (string_literal message)) code.IntegerRange message_at
   n ← known_integer e_at x
   refuses_if (is_zero_integer n) code.Assertion at
 
@@ -402,7 +402,7 @@ closes_body at a b = do
 abbrev pub enumerates : NameId → ℕ → ℤ → List MemberType → Walk (List MemberType)
 enumerates x at v ms = do
   seen ← asks (λ (env : Env). own_name env x)
-  _ ← refuses_if (is_some seen) code.Redeclared at
+  _ ← refuses_if (is_declared seen) code.Redeclared at
   _ ← refuses_if (not (fits int v)) code.EnumRange at
   _ ← refuses_reserved x at
   _ ← changes (with_name x (EnumerationConstant v))
@@ -472,7 +472,7 @@ declares_parameter ss at None c q more = do
   pure (with_parameter (adjusted q c).shape false ps)
 declares_parameter ss at (Some x) c q more = do
   seen ← asks (λ (env : Env). own_name env x.0)
-  _ ← refuses_if (is_some seen) code.Redeclared x.1
+  _ ← refuses_if (is_declared seen) code.Redeclared x.1
   _ ← refuses_if (is_void c.shape) code.Incomplete x.1
   _ ← refuses_reserved x.0 x.1
   _ ← numbers_local x.0 (adjusted q c) (is_register ss)

@@ -14,6 +14,7 @@ use Rattle.c_tree.specs.Syntax.{ExprTree, Name, Integer, Character, Literals, Pa
 use Rattle.c_typing.specs.Types.{CType, Types, Member as MemberType, is_array, is_too_big, is_scalar, is_flexible, complete, member_path}
 use Rattle.c_typing.specs.Conversions.{Operand, operand}
 use Rattle.c_typing.specs.Constants.{integer_constant, character_constant, string_literal}
+use Rattle.c_typing.specs.Constraints.{has_wrong_escape}
 use Rattle.c_typing.specs.Specifiers.{InParameter, NoStorage, qualifiers}
 use Rattle.c_typing.specs.Scopes.{Env, Walk, ◌>>=◌, pure, asks, changes, faults, refuses_if, excludes_if, exceeds_if, required, unevaluated, types_of}
 use Rattle.c_typing.specs.Nodes.{IndexNode, StepNode, BinaryNode, LogicalNode, ConditionalNode, CommaNode, CastNode, SizeofNode, AlignofNode, place}
@@ -102,7 +103,7 @@ item_by static first at d f None walk = do
   y ← fitted first (AValue a) x
   with_value static at y.0 a (record f { frames = y.1 })
 item_by static first at d f (Some texts) walk = do
-  _ ← refuses_if (not (is_some (string_literal texts))) code.IntegerRange at
+  _ ← refuses_if (has_wrong_escape (string_literal texts)) code.IntegerRange at
   x ← part_for first d f
   y ← fitted first ALiteral x
   literal_for static first at y.0 (record f { frames = y.1 }) texts walk
