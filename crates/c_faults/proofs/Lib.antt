@@ -11,3 +11,4 @@ mod Joints
 mod ApartRows
 pub mod ApartLaws
 mod TogetherRows
+mod ExactRows
