@@ -197,7 +197,7 @@ module _ (a : Activation) (enter : Enter) where
   unary Negation t x k o f = negated_is a enter t x k
 
   dot : (m : NameId) (t : Types) (x : Operand) (k : ℕ) → OfRecords x.typed → first_violated t (member_node t m x) ≡ None
-      → syntax.of_member a (k + arrays_in x.typed) (dot_path t m x) (t_exp a enter x.typed k) ≡ t_exp a enter (typed_node t (member_node t m x)).typed k
+      → syntax.of_member a (k + arrays_in x.typed) (dot_path t m x) x (t_exp a enter x.typed k) ≡ t_exp a enter (typed_node t (member_node t m x)).typed k
   dot m t x k o f =
       let p = some_of (member_path t m (shape_in x.typed)) (has_member t (member_node t m x) f) in
       member_is a enter x (member_path t m (shape_in x.typed)) p.0 k p.1 o (found_path t m (shape_in x.typed) p.0 p.1) ∙ given_is (node.of_member x) (member_path t m (shape_in x.typed)) p.0 k p.1
@@ -214,10 +214,10 @@ module _ (a : Activation) (enter : Enter) where
           ≡ t_exp a enter (given (λ (e : Typed). operand (along_node e hops)) (option_map (indirect_node (value_node x.typed)) c)).typed k
       given_pointee None hops e = cc
       given_pointee (Some c) hops e =
-          ruled (member_path t m c.shape) hops (λ hs. pointed a x (t_exp a enter x.typed k) >>> (λ v. indirect v >>> along a (array_number a (k + arrays_in x.typed)) hs)) e
-          ∙ (sym (then_then (pointed a x (t_exp a enter x.typed k)) indirect (along a (array_number a (k + arrays_in x.typed)) hops))
-          ∙ (ap (λ (go : Action Seen). go >>> along a (array_number a (k + arrays_in x.typed)) hops) (indirect_is a enter x k)
-          ∙ along_is a enter (k + arrays_in x.typed) (indirect_node (value_node x.typed) c) hops k tt (λ i. cc) (ap (λ n. k + n) (sym (arrays_of_value x.typed)))))
+          ruled (member_path t m c.shape) hops (λ hs. pointed a x (t_exp a enter x.typed k) >>> (λ v. indirect v >>> along a (array_number a (k + arrays_in x.typed)) None hs)) e
+          ∙ (sym (then_then (pointed a x (t_exp a enter x.typed k)) indirect (along a (array_number a (k + arrays_in x.typed)) None hops))
+          ∙ (ap (λ (go : Action Seen). go >>> along a (array_number a (k + arrays_in x.typed)) None hops) (indirect_is a enter x k)
+          ∙ along_is a enter (k + arrays_in x.typed) (indirect_node (value_node x.typed) c) hops k None tt (λ i. cc) (ap (λ n. k + n) (sym (arrays_of_value x.typed))) (λ i. cc)))
 
   conditional : (t : Types) (x y w : Operand) (k : ℕ) → first_violated t (ConditionalNode x y w) ≡ None
       → syntax.of_conditional a t x y w (t_exp a enter x.typed k) (t_exp a enter y.typed (k + arrays_in x.typed)) (t_exp a enter w.typed (k + arrays_in x.typed + arrays_in y.typed)) ≡ t_exp a enter (typed_node t (ConditionalNode x y w)).typed k
@@ -505,7 +505,7 @@ module _ (a : Activation) (enter : Enter) where
         ∙ (ap (λ (go : Action Seen). syntax.of_call a enter i.0.0 go (λ ps. c_arguments a enter j.0.1.types ps es k)) (exp_is f h i.0 i.1)
         ∙ (call j.0.1.types i.0.0 j.0.0 h.arrays (λ ps. c_arguments a enter j.0.1.types ps es k) w.0 (λ ps. arguments_are es k j.0 j.1 j.0.1.types ps)
         ∙ walked (CallNode i.0.0 j.0.0) j.0.1 y h.arrays w.1)))
-    exp_is (Member at e m) h y g = one e (exp_is e) (by_node at) (λ t x. member_node t m x) (λ t n x. syntax.of_member a n (dot_path t m x)) (λ t x k o f. dot m t x k o f) h y g
+    exp_is (Member at e m) h y g = one e (exp_is e) (by_node at) (λ t x. member_node t m x) (λ t n x. syntax.of_member a n (dot_path t m x) x) (λ t x k o f. dot m t x k o f) h y g
     exp_is (Arrow at e m) h y g = one e (exp_is e) (by_node at) (λ t x. arrow_node t m x) (λ t n x. syntax.of_arrow a n (arrow_path t m x) x) (λ t x k o f. arrow m t x k o f) h y g
     exp_is (Postfix at e op) h y g = one e (exp_is e) (by_operand at (at_of e)) (λ t x. StepNode (postfix_form op) x) (λ t n x. syntax.of_step a t (postfix_form op) x) (λ t x k o f. step (postfix_form op) t 0 x k o f) h y g
     exp_is (CompoundLiteral at ss d items comma) h y g =

@@ -1,5 +1,5 @@
 -- Device: an lvalue gives a place, and what is no lvalue and no array gives a value.
-use Rattle.std.proofs.Common.{◌≡◌, ℕ, ◌+◌, Bool, true, false, not, ◌&&◌, ◌||◌, List, refl, sym, ap, ◌∙◌, subst, slice_get}
+use Rattle.std.proofs.Common.{◌≡◌, ℕ, ◌+◌, Bool, true, false, not, ◌&&◌, ◌||◌, List, Option, refl, sym, ap, ◌∙◌, subst, slice_get}
 use Rattle.std.specs.Prelude.{pos, if◌then◌else◌}
 use Rattle.cil_base.specs.declared.operators.BinOp.{BinOp}
 use Rattle.cil_base.specs.declared.operators.BinOp.TheVariants.{Add}
@@ -23,7 +23,7 @@ use Rattle.c_typing.specs.Evaluation.{decided_by}
 use Rattle.c_typing.specs.Nodes.{int_shape}
 use Rattle.c_typing.specs.Operators.{sides}
 use Rattle.c_semantics.specs.Values.{kind_of, cast_value, as_type, unary_value, value_at, stored, member_at, member_value, around_member, object_pointer}
-use Rattle.c_semantics.specs.Places.{Activation, local_of, literal_number, array_number, arrays_in}
+use Rattle.c_semantics.specs.Places.{Activation, outer_of, local_of, literal_number, array_number, arrays_in}
 use Rattle.c_semantics.specs.Operations.{Action, ◌>>=◌, gives, known, seen, changes, Seen, At, Is, is_value, is_told, valued, placed, single, indirect, operated, computed, subscripted, decided, chosen, member, member_of_value, array_object, assigned, compound, operator_of, stepped, result_of, called, local_object, Object, literal_object, initialised}
 use Rattle.typed_semantics.specs.Expressions.{value_of, single_of, holds, hop, t_exp, t_arguments, t_inits}
 use Rattle.c_elaboration.proofs.Actions.{then_then, then_gives, then_same}
@@ -85,8 +85,8 @@ behind_place {B} go f g p h =
 indirect_placed : (v : Value) → Placed (indirect v)
 indirect_placed v = behind_places (known (place_of v)) (λ w. gives (At w)) of_place
 
-member_placed : (a : Activation) (n : ℕ) (h : Hop) (v : Value) → Placed (member a n h (At v))
-member_placed a n h v = behind_places (seen (λ m. member_at a.types m h.aggregate h.index v)) (λ w. gives (At w)) of_place
+member_placed : (a : Activation) (n : ℕ) (outer : Option (ℕ × ℕ)) (h : Hop) (v : Value) → Placed (member a n outer h (At v))
+member_placed a n outer h v = behind_places (seen (λ m. member_at a.types m h.aggregate h.index v)) (λ w. gives (At w)) of_place
 
 -- lvalues (6.3.2.1p1)
 pub places : (a : Activation) (enter : Enter) (e : Typed) (k : ℕ) → is_place e ≡ true → Placed (t_exp a enter e k)
@@ -102,10 +102,10 @@ places a enter (Has q s f (Subscript l r)) k h =
     (λ e. behind_places {A = Datum} (computed a Add (shape_in l) (shape_in r) d e) (λ x. single x >>= indirect) (λ x. behind_places {A = Value} (single x) indirect indirect_placed)))
 places a enter (Has q s f (Member e g i)) k h = record {
   same =
-      then_then (t_exp a enter e k) (member a (array_number a (k + arrays_in e)) (hop (record { quals = q; shape = s }) g i)) (λ x. placed x >>= (λ v. gives (At v)))
-      ∙ behind_place (t_exp a enter e k) (λ x. member a (array_number a (k + arrays_in e)) (hop (record { quals = q; shape = s }) g i) x >>= (λ y. placed y >>= (λ v. gives (At v))))
-      (member a (array_number a (k + arrays_in e)) (hop (record { quals = q; shape = s }) g i)) (places a enter e k h)
-      (λ v. (member_placed a (array_number a (k + arrays_in e)) (hop (record { quals = q; shape = s }) g i) v).same);
+      then_then (t_exp a enter e k) (member a (array_number a (k + arrays_in e)) (outer_of a.types e) (hop (record { quals = q; shape = s }) g i)) (λ x. placed x >>= (λ v. gives (At v)))
+      ∙ behind_place (t_exp a enter e k) (λ x. member a (array_number a (k + arrays_in e)) (outer_of a.types e) (hop (record { quals = q; shape = s }) g i) x >>= (λ y. placed y >>= (λ v. gives (At v))))
+      (member a (array_number a (k + arrays_in e)) (outer_of a.types e) (hop (record { quals = q; shape = s }) g i)) (places a enter e k h)
+      (λ v. (member_placed a (array_number a (k + arrays_in e)) (outer_of a.types e) (hop (record { quals = q; shape = s }) g i) v).same);
 }
 places a enter (Has q s f (Integer n)) k h = cc
 places a enter (Has q s f (Load e)) k h = cc
@@ -176,9 +176,9 @@ decays_array (ArrayType q s n) e = cc
 decays_array (FuncType r ss p v) e = refl
 decays_array (AggType a) e = refl
 
-member_valued : (a : Activation) (n g i : ℕ) (q : Quals) (s : Shape) (d : Datum) → is_array s ≡ false → Valued (member a n (hop (record { quals = q; shape = s }) g i) (Is d))
-member_valued a n g i q s d e =
-    of_same _ (member_of_value a n (hop (record { quals = q; shape = s }) g i) d) (ap (λ b. chosen b (array_object a n (around_member a.types g i d)) (member_of_value a n (hop (record { quals = q; shape = s }) g i) d)) e) (of_datum (known (member_value a.types g i s d)))
+member_valued : (a : Activation) (n : ℕ) (o : Option (ℕ × ℕ)) (g i : ℕ) (q : Quals) (s : Shape) (d : Datum) → is_array s ≡ false → Valued (member a n o (hop (record { quals = q; shape = s }) g i) (Is d))
+member_valued a n o g i q s d e =
+    of_same _ (member_of_value a n (hop (record { quals = q; shape = s }) g i) d) (ap (λ b. chosen b (array_object a n (around_member a.types o g i d)) (member_of_value a n (hop (record { quals = q; shape = s }) g i) d)) e) (of_datum (known (member_value a.types g i s d)))
 
 -- what is no lvalue and does not decay gives a value
 pub values : (a : Activation) (enter : Enter) (e : Typed) (k : ℕ) → OfRecords e → is_place e ≡ false → decays (shape_in e) ≡ false → Valued (t_exp a enter e k)
@@ -213,10 +213,10 @@ values a enter (Has q s f (Call g es)) k o h i =
     (λ v. of_behind {A = List Argument} (t_arguments a enter es (k + arrays_in g)) (λ xs. called a enter s v xs) (λ xs. of_datum (enter (record { abi = a.types.abi; callee = v; result = kind_of a.types s; arguments = xs }))))
 values a enter (Has q s f (Member e g n)) k o h i = record {
   same = λ b r.
-      then_then (t_exp a enter e k) (member a (array_number a (k + arrays_in e)) (hop (record { quals = q; shape = s }) g n)) (λ x. valued b r x >>= (λ d. gives (Is d)))
-      ∙ behind_value a s (t_exp a enter e k) (λ x. member a (array_number a (k + arrays_in e)) (hop (record { quals = q; shape = s }) g n) x >>= (λ y. valued b r y >>= (λ d. gives (Is d))))
-      (member a (array_number a (k + arrays_in e)) (hop (record { quals = q; shape = s }) g n)) (values a enter e k (o h).1 h (o h).0)
-      (λ d. (member_valued a (array_number a (k + arrays_in e)) g n q s d (decays_array s i)).same b r);
+      then_then (t_exp a enter e k) (member a (array_number a (k + arrays_in e)) (outer_of a.types e) (hop (record { quals = q; shape = s }) g n)) (λ x. valued b r x >>= (λ d. gives (Is d)))
+      ∙ behind_value a s (t_exp a enter e k) (λ x. member a (array_number a (k + arrays_in e)) (outer_of a.types e) (hop (record { quals = q; shape = s }) g n) x >>= (λ y. valued b r y >>= (λ d. gives (Is d))))
+      (member a (array_number a (k + arrays_in e)) (outer_of a.types e) (hop (record { quals = q; shape = s }) g n)) (values a enter e k (o h).1 h (o h).0)
+      (λ d. (member_valued a (array_number a (k + arrays_in e)) (outer_of a.types e) g n q s d (decays_array s i)).same b r);
 }
 values a enter (Has q s f (Local n)) k o h i = cc
 values a enter (Has q s f (Literal n init)) k o h i = cc

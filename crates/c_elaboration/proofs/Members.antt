@@ -11,7 +11,7 @@ use Rattle.c_typing.specs.Types.{CType, Types, Hop, Member, unqualified, is_aggr
 use Rattle.c_typing.specs.Specifiers.{qualified}
 use Rattle.c_typing.specs.Conversions.{decays}
 use Rattle.c_typing.specs.Nodes.{member_type, one_member, along as along_node}
-use Rattle.c_semantics.specs.Places.{Activation, array_number, arrays_in, one_if}
+use Rattle.c_semantics.specs.Places.{Activation, whole, part_of, outer_of, array_number, arrays_in, one_if}
 use Rattle.c_semantics.specs.Operations.{Action, ◌>>=◌, Seen, Is, member, along}
 use Rattle.typed_semantics.specs.Expressions.{hop, t_exp}
 use Rattle.c_elaboration.proofs.Actions.{then_then, then_gives}
@@ -103,39 +103,46 @@ along_records e (h ∷ hs) o g = along_records (one_member e h) hs (λ i. ((aggr
 
 module _ (a : Activation) (enter : Enter) (n : ℕ) where
   -- of an lvalue
-  along_placed : (e : Typed) (hs : List Hop) (k : ℕ) → is_place e ≡ true → (t_exp a enter e k >>= along a (array_number a n) hs) ≡ t_exp a enter (along_node e hs) k
-  along_placed e [] k h = then_gives (t_exp a enter e k)
-  along_placed e (x ∷ hs) k h =
-      sym (then_then (t_exp a enter e k) (member a (array_number a n) x) (along a (array_number a n) hs))
-      ∙ (ap (λ (go : Action Seen). go >>= along a (array_number a n) hs) (behind_place (t_exp a enter e k) (member a (array_number a n) x) (member a (array_number a (k + arrays_in e)) (hop (member_type e x) x.aggregate x.index)) (places a enter e k h) (λ v. refl))
-      ∙ along_placed (one_member e x) hs k h)
+  along_placed : (e : Typed) (hs : List Hop) (k : ℕ) (outer : Option (ℕ × ℕ)) → is_place e ≡ true → (t_exp a enter e k >>= along a (array_number a n) outer hs) ≡ t_exp a enter (along_node e hs) k
+  along_placed e [] k outer h = then_gives (t_exp a enter e k)
+  along_placed e (x ∷ hs) k outer h =
+      sym (then_then (t_exp a enter e k) (member a (array_number a n) outer x) (along a (array_number a n) (part_of a.types outer x.aggregate x.index) hs))
+      ∙ (ap (λ (go : Action Seen). go >>= along a (array_number a n) (part_of a.types outer x.aggregate x.index) hs)
+      (behind_place (t_exp a enter e k) (member a (array_number a n) outer x) (member a (array_number a (k + arrays_in e)) (outer_of a.types e) (hop (member_type e x) x.aggregate x.index)) (places a enter e k h) (λ v. refl))
+      ∙ along_placed (one_member e x) hs k (part_of a.types outer x.aggregate x.index) h)
 
   -- of a value
-  along_valued : (e : Typed) (hs : List Hop) (k : ℕ) → is_place e ≡ false → OfRecords e → Through (shape_in e) hs → (is_array (shape_in e) ≡ false → n ≡ k + arrays_in e)
-      → (t_exp a enter e k >>= along a (array_number a n) hs) ≡ t_exp a enter (along_node e hs) k
-  along_valued e [] k h o g i = then_gives (t_exp a enter e k)
-  along_valued e (x ∷ hs) k h o g i =
-      sym (then_then (t_exp a enter e k) (member a (array_number a n) x) (along a (array_number a n) hs))
-      ∙ (ap (λ (go : Action Seen). go >>= along a (array_number a n) hs)
-      (behind_value a (shape_in e) (t_exp a enter e k) (member a (array_number a n) x) (member a (array_number a (k + arrays_in e)) (hop (member_type e x) x.aggregate x.index)) (values a enter e k o h stays.0) same)
-      ∙ along_valued (one_member e x) hs k h (λ j. (stays.0, o)) (subst (λ s. Through s hs) (sym (member_shape e x h)) g.1) (λ j. i stays.1 ∙ counted j))
+  along_valued : (e : Typed) (hs : List Hop) (k : ℕ) (outer : Option (ℕ × ℕ)) → is_place e ≡ false → OfRecords e → Through (shape_in e) hs → (is_array (shape_in e) ≡ false → n ≡ k + arrays_in e) → outer ≡ outer_of a.types e
+      → (t_exp a enter e k >>= along a (array_number a n) outer hs) ≡ t_exp a enter (along_node e hs) k
+  along_valued e [] k outer h o g i p = then_gives (t_exp a enter e k)
+  along_valued e (x ∷ hs) k outer h o g i p =
+      sym (then_then (t_exp a enter e k) (member a (array_number a n) outer x) (along a (array_number a n) (part_of a.types outer x.aggregate x.index) hs))
+      ∙ (ap (λ (go : Action Seen). go >>= along a (array_number a n) (part_of a.types outer x.aggregate x.index) hs)
+      (behind_value a (shape_in e) (t_exp a enter e k) (member a (array_number a n) outer x) (member a (array_number a (k + arrays_in e)) (outer_of a.types e) (hop (member_type e x) x.aggregate x.index)) (values a enter e k o h stays.0) same)
+      ∙ along_valued (one_member e x) hs k (part_of a.types outer x.aggregate x.index) h (λ j. (stays.0, o)) (subst (λ s. Through s hs) (sym (member_shape e x h)) g.1) (λ j. i stays.1 ∙ counted j) further)
     where
       stays : (decays (shape_in e) ≡ false) × (is_array (shape_in e) ≡ false)
       stays = aggregate_stays (shape_in e) g.0
 
-      same : (d : Datum) → member a (array_number a n) x (Is d) ≡ member a (array_number a (k + arrays_in e)) (hop (member_type e x) x.aggregate x.index) (Is d)
+      same : (d : Datum) → member a (array_number a n) outer x (Is d) ≡ member a (array_number a (k + arrays_in e)) (outer_of a.types e) (hop (member_type e x) x.aggregate x.index) (Is d)
       same d =
-          ap (λ (m : ℕ). member a (array_number a m) x (Is d)) (i stays.1)
-          ∙ ap (λ (s : Shape). member a (array_number a (k + arrays_in e)) (hop (unqualified s) x.aggregate x.index) (Is d)) (sym (member_shape e x h))
+          ap (λ (m : ℕ). member a (array_number a m) outer x (Is d)) (i stays.1)
+          ∙ (ap (λ (z : Option (ℕ × ℕ)). member a (array_number a (k + arrays_in e)) z x (Is d)) p
+          ∙ ap (λ (s : Shape). member a (array_number a (k + arrays_in e)) (outer_of a.types e) (hop (unqualified s) x.aggregate x.index) (Is d)) (sym (member_shape e x h)))
+
+      further : part_of a.types outer x.aggregate x.index ≡ outer_of a.types (one_member e x)
+      further =
+          ap (λ (z : Option (ℕ × ℕ)). part_of a.types z x.aggregate x.index) p
+          ∙ sym (ap (λ (b : Bool). elim b [ true ↦ whole a.types (member_type e x).shape | false ↦ part_of a.types (outer_of a.types e) x.aggregate x.index ]) h)
 
       counted : is_array (shape_in (one_member e x)) ≡ false → k + arrays_in e ≡ k + arrays_in (one_member e x)
       counted j =
           let none : arrays_in (one_member e x) ≡ arrays_in e + 0 = ap (λ b. arrays_in e + one_if (b && not (is_place e))) j in
           omega (arith, none)
 
-  pub along_is : (e : Typed) (hs : List Hop) (k : ℕ) → OfRecords e → (is_place e ≡ false → Through (shape_in e) hs) → n ≡ k + arrays_in e → (t_exp a enter e k >>= along a (array_number a n) hs) ≡ t_exp a enter (along_node e hs) k
-  along_is e hs k o g i = by (is_place e) refl
+  pub along_is : (e : Typed) (hs : List Hop) (k : ℕ) (outer : Option (ℕ × ℕ)) → OfRecords e → (is_place e ≡ false → Through (shape_in e) hs) → n ≡ k + arrays_in e → (is_place e ≡ false → outer ≡ outer_of a.types e) → (t_exp a enter e k >>= along a (array_number a n) outer hs) ≡ t_exp a enter (along_node e hs) k
+  along_is e hs k outer o g i p = by (is_place e) refl
     where
-      by : (b : Bool) → is_place e ≡ b → (t_exp a enter e k >>= along a (array_number a n) hs) ≡ t_exp a enter (along_node e hs) k
-      by true h = along_placed e hs k h
-      by false h = along_valued e hs k h o (g h) (λ j. i)
+      by : (b : Bool) → is_place e ≡ b → (t_exp a enter e k >>= along a (array_number a n) outer hs) ≡ t_exp a enter (along_node e hs) k
+      by true h = along_placed e hs k outer h
+      by false h = along_valued e hs k outer h o (g h) (λ j. i) (p h)

@@ -17,7 +17,7 @@ use Rattle.c_typing.specs.Nodes.{cast_to as cast_node, along as along_node}
 use Rattle.c_typing.specs.Operators.{Sides, sides, binary_sides, subscript_sides, compound_sides, branch_shape}
 use Rattle.c_tree.specs.declared.words.UnaryOp.TheVariants.{Plus, Not as Negation}
 use Rattle.c_semantics.specs.Values.{cast_value, as_type, value_at, holds_of, kind_of}
-use Rattle.c_semantics.specs.Places.{Activation, array_number, arrays_in}
+use Rattle.c_semantics.specs.Places.{Activation, outer_of, array_number, arrays_in}
 use Rattle.c_semantics.specs.Operations.{Action, ◌>>=◌, gives, known, seen, Seen, Is, is_value, placed, used, taken, pointed, tested, indirect, operated, computed, subscripted, chosen, along, assigned, compound, single}
 use Rattle.c_semantics.specs.Expressions as syntax
 use Rattle.typed_semantics.specs.Expressions as typed
@@ -199,8 +199,8 @@ module _ (a : Activation) (enter : Enter) where
 
   -- members (6.5.2.3)
   pub member_is : (x : Operand) (path : Option (List Hop)) (hops : List Hop) (k : ℕ) → path ≡ Some hops → OfRecords x.typed → Through (shape_in x.typed) hops
-      → syntax.of_member a (k + arrays_in x.typed) path (runs x k) ≡ t_exp a enter (along_node x.typed hops) k
-  member_is x path hops k e o g = ruled path hops (λ hs. runs x k >>= along a (array_number a (k + arrays_in x.typed)) hs) e ∙ along_is a enter (k + arrays_in x.typed) x.typed hops k o (λ i. g) refl
+      → syntax.of_member a (k + arrays_in x.typed) path x (runs x k) ≡ t_exp a enter (along_node x.typed hops) k
+  member_is x path hops k e o g = ruled path hops (λ hs. runs x k >>= along a (array_number a (k + arrays_in x.typed)) (outer_of a.types x.typed) hs) e ∙ along_is a enter (k + arrays_in x.typed) x.typed hops k (outer_of a.types x.typed) o (λ i. g) refl (λ i. refl)
 
   -- arguments (6.5.2.2)
   pub argument_is : (to : Shape) (x : Operand) (k : ℕ) (go also : Action (List Argument)) → go ≡ also

@@ -54,7 +54,7 @@ mutual
   exp_m a r (Parentheses at e) h = exp_m a r e h
   exp_m a r (Index at e f) h = operand_m (expr e) h (λ x k. operand_m (expr f) k (λ y j. of_index_m a j.env.types x y (exp_m a r e h) (exp_m a r f k)))
   exp_m a r (Call at f es) h = operand_m (expr f) h (λ x k. operands_m (exprs es) k (λ ys j. of_call_m a x r (exp_m a r f h) (λ ps. arguments_m a r j.env.types ps es k)))
-  exp_m a r (Member at e m) h = operand_m (expr e) h (λ x k. of_member_m a k.arrays (dot_path k.env.types m x) (exp_m a r e h))
+  exp_m a r (Member at e m) h = operand_m (expr e) h (λ x k. of_member_m a k.arrays (dot_path k.env.types m x) x (exp_m a r e h))
   exp_m a r (Arrow at e m) h = operand_m (expr e) h (λ x k. of_arrow_m a k.arrays (arrow_path k.env.types m x) x (exp_m a r e h))
   exp_m a r (Postfix at e op) h = operand_m (expr e) h (λ x k. of_step_m a k.env.types (postfix_form op) x (exp_m a r e h))
   exp_m a r (CompoundLiteral at ss d items comma) h = parts_m (named_type ss d) h (λ c k. operand_m (expr (CompoundLiteral at ss d items comma)) h (λ x j. of_literal_m a x.typed k (λ o q. items_m a r o items q)))

@@ -26,7 +26,7 @@ use Rattle.c_typing.specs.Operators.{Sides}
 use Rattle.c_typing.specs.Scopes.{Denotes, TypedefName, EnumerationConstant, Automatic, Static}
 use Rattle.cil_semantics.specs.Values.{single_in}
 use Rattle.c_semantics.specs.Values.{as_type, unary_value, binary_value, value_at, stored, zeroed, filled, part_from, object_pointer, is_const}
-use Rattle.c_semantics.specs.Places.{Activation, Here, local_of, literal_number}
+use Rattle.c_semantics.specs.Places.{Activation, part_of, Here, local_of, literal_number}
 use Rattle.c_semantics.specs.Operations.{Action, Seen, At, Is, is_value, valued, placed, used, taken, pointed, tested, indirect, operated, computed, subscripted, decided, logical, chosen, array_object, member, along, assigned, compound, operator_of, result_of, stepped, called, unit_object, local_object, Object, literal_object, part_changes, initialised, Rest, zeroes, steps_of, stores_value, next_step}
 use Rattle.c_semantics.specs.Expressions.{denoted, of_number, measured, of_name, of_index, of_call, of_arguments, of_member, of_arrow, of_cast, of_binary, of_conditional, of_comma, of_unary, of_assign, of_step, of_literal, of_value, of_lone, then_rest}
 use Rattle.c_semantics.proofs.Matched.{Matched, Ready, gives_matched, undefined_matched, known_matched, seen_matched, memory_matched, changes_matched, bind_matched, enter_matched}
@@ -78,13 +78,13 @@ pub array_object_m : {n more : ℕ} {base : List ℕ} (a : Activation) (i : ℕ)
 array_object_m a i None = undefined_matched
 array_object_m a i (Some x) = memory_matched _ (λ m. Some (with_held m (local_of a i) (Some (writable x.0))))
 
-pub member_m : {n more : ℕ} {base : List ℕ} (a : Activation) (i : ℕ) (h : Hop) (x : Seen) → Matched n more base (member a i h x) (member a i h x)
-member_m a i h (At p) = bind_matched (seen_matched _) (λ v. gives_matched _)
-member_m a i h (Is d) = chosen_m (is_array h.member.type.shape) (array_object_m a i _) (bind_matched (known_matched _) (λ e. gives_matched _))
+pub member_m : {n more : ℕ} {base : List ℕ} (a : Activation) (i : ℕ) (o : Option (ℕ × ℕ)) (h : Hop) (x : Seen) → Matched n more base (member a i o h x) (member a i o h x)
+member_m a i o h (At p) = bind_matched (seen_matched _) (λ v. gives_matched _)
+member_m a i o h (Is d) = chosen_m (is_array h.member.type.shape) (array_object_m a i _) (bind_matched (known_matched _) (λ e. gives_matched _))
 
-pub along_m : {n more : ℕ} {base : List ℕ} (a : Activation) (i : ℕ) (hs : List Hop) (x : Seen) → Matched n more base (along a i hs x) (along a i hs x)
-along_m a i [] x = gives_matched x
-along_m a i (h ∷ hs) x = bind_matched (member_m a i h x) (λ y. along_m a i hs y)
+pub along_m : {n more : ℕ} {base : List ℕ} (a : Activation) (i : ℕ) (o : Option (ℕ × ℕ)) (hs : List Hop) (x : Seen) → Matched n more base (along a i o hs x) (along a i o hs x)
+along_m a i o [] x = gives_matched x
+along_m a i o (h ∷ hs) x = bind_matched (member_m a i o h x) (λ y. along_m a i (part_of a.types o h.aggregate h.index) hs y)
 
 pub assigned_m : {n more : ℕ} {base : List ℕ} (a : Activation) (s : Shape) (at : Value) (d : Datum) → Matched n more base (assigned a s at d) (assigned a s at d)
 assigned_m a s at d = bind_matched {A = Unit {0}} (changes_matched (stored a.types s at d)) (λ u. bind_matched {A = Datum} (seen_matched (λ m. value_at a.types m s at)) (λ e. gives_matched (Is e)))
@@ -154,11 +154,11 @@ of_call_m a x r m k = bind_matched (known_matched _) (λ c. bind_matched (pointe
 pub of_arguments_m : {n more : ℕ} {base : List ℕ} (a : Activation) (s : Shape) (x : Operand) {go to : Action Seen} {xs ys : Action (List Argument)} → Matched n more base go to → Matched n more base xs ys → Matched n more base (of_arguments a s x go xs) (of_arguments a s x to ys)
 of_arguments_m a s x m k = bind_matched (taken_m a x s m) (λ d. bind_matched k (λ zs. gives_matched _))
 
-pub of_member_m : {n more : ℕ} {base : List ℕ} (a : Activation) (i : ℕ) (path : Option (List Hop)) {go to : Action Seen} → Matched n more base go to → Matched n more base (of_member a i path go) (of_member a i path to)
-of_member_m a i path m = bind_matched (known_matched path) (λ hops. bind_matched m (λ y. along_m a _ hops y))
+pub of_member_m : {n more : ℕ} {base : List ℕ} (a : Activation) (i : ℕ) (path : Option (List Hop)) (x : Operand) {go to : Action Seen} → Matched n more base go to → Matched n more base (of_member a i path x go) (of_member a i path x to)
+of_member_m a i path x m = bind_matched (known_matched path) (λ hops. bind_matched m (λ y. along_m a _ _ hops y))
 
 pub of_arrow_m : {n more : ℕ} {base : List ℕ} (a : Activation) (i : ℕ) (path : Option (List Hop)) (x : Operand) {go to : Action Seen} → Matched n more base go to → Matched n more base (of_arrow a i path x go) (of_arrow a i path x to)
-of_arrow_m a i path x m = bind_matched (known_matched path) (λ hops. bind_matched (pointed_m a x m) (λ v. bind_matched (indirect_m v) (λ y. along_m a _ hops y)))
+of_arrow_m a i path x m = bind_matched (known_matched path) (λ hops. bind_matched (pointed_m a x m) (λ v. bind_matched (indirect_m v) (λ y. along_m a _ _ hops y)))
 
 pub of_cast_m : {n more : ℕ} {base : List ℕ} (a : Activation) (s : Shape) (x : Operand) {go to : Action Seen} → Matched n more base go to → Matched n more base (of_cast a s x go) (of_cast a s x to)
 of_cast_m a s x m = bind_matched (used_m a x m) (λ d. known_matched _)

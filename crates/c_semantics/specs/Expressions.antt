@@ -23,7 +23,7 @@ use Rattle.c_typing.specs.Scopes.{Denotes, TypedefName, EnumerationConstant, Aut
 use Rattle.c_typing.specs.Steps.{logic_of, postfix_form, prefix_form}
 use Rattle.c_typing.specs.Walk.{expr, exprs}
 use Rattle.c_semantics.specs.Values.{kind_of, cast_value}
-use Rattle.c_semantics.specs.Places.{Activation, Here, literal_number, array_number, with_parts, with_operand, with_operands}
+use Rattle.c_semantics.specs.Places.{Activation, Here, outer_of, literal_number, array_number, with_parts, with_operand, with_operands}
 use Rattle.c_semantics.specs.Walks.{named_type, designators}
 use Rattle.c_semantics.specs.Operations.{Action, ◌>>=◌, gives, known, Seen, Is, is_value, is_number, placed, used, taken, pointed, tested, indirect, operated, computed, subscripted, logical, chosen, along, assigned, compound, stepped, called, unit_object, local_object, Object, literal_object, initialised, Rest, zeroes, steps_of, next_step}
 
@@ -86,18 +86,18 @@ of_arguments a to x go more = do
   gives (record { kind = kind_of a.types to; datum = d } ∷ xs)
 
 -- members (6.5.2.3); an array in a value has that number among them
-abbrev pub of_member : Activation → ℕ → Option (List Hop) → Action Seen → Action Seen
-of_member a n path go = do
+abbrev pub of_member : Activation → ℕ → Option (List Hop) → Operand → Action Seen → Action Seen
+of_member a n path x go = do
   hops ← known path
   y ← go
-  along a (array_number a n) hops y
+  along a (array_number a n) (outer_of a.types x.typed) hops y
 
 abbrev pub of_arrow : Activation → ℕ → Option (List Hop) → Operand → Action Seen → Action Seen
 of_arrow a n path x go = do
   hops ← known path
   v ← pointed a x go
   y ← indirect v
-  along a (array_number a n) hops y
+  along a (array_number a n) None hops y
 
 abbrev pub dot_path : Types → NameId → Operand → Option (List Hop)
 dot_path t m x = member_path t m (shape_in x.typed)
@@ -229,7 +229,7 @@ abbrev mutual
   c_exp a enter (Parentheses at e) h s = c_exp a enter e h s
   c_exp a enter (Index at l r) h s = with_operand (expr l) h (λ x k. with_operand (expr r) k (λ y j. of_index a j.env.types x y (c_exp a enter l h) (c_exp a enter r k))) s
   c_exp a enter (Call at f es) h s = with_operand (expr f) h (λ x k. with_operands (exprs es) k (λ ys j. of_call a enter x (c_exp a enter f h) (λ ps. c_arguments a enter j.env.types ps es k))) s
-  c_exp a enter (Member at e m) h s = with_operand (expr e) h (λ x k. of_member a k.arrays (dot_path k.env.types m x) (c_exp a enter e h)) s
+  c_exp a enter (Member at e m) h s = with_operand (expr e) h (λ x k. of_member a k.arrays (dot_path k.env.types m x) x (c_exp a enter e h)) s
   c_exp a enter (Arrow at e m) h s = with_operand (expr e) h (λ x k. of_arrow a k.arrays (arrow_path k.env.types m x) x (c_exp a enter e h)) s
   c_exp a enter (Postfix at e op) h s = with_operand (expr e) h (λ x k. of_step a k.env.types (postfix_form op) x (c_exp a enter e h)) s
   c_exp a enter (CompoundLiteral at ss d items comma) h s = with_parts (named_type ss d) h (λ c k. with_operand (expr (CompoundLiteral at ss d items comma)) h (λ x j. of_literal a x.typed k (λ o. c_init_items a enter o items))) s

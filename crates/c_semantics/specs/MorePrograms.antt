@@ -10,6 +10,10 @@ arrays_in_values =
     -- misaligned in it
     ∷ one_unit (codes "struct s { int n; int a[2]; }; struct s f(void) { struct s x = { 1, { 2, 0 } }; return x; } int main(void) { return *(long long *)f().a; }") 9 (Undefined [])
     ∷ one_unit (codes "struct s { char n; char c[7]; }; struct s f(void) { struct s x = { 1, { 2 } }; return x; } int main(void) { return *(int *)f().c; }") 9 (Undefined [])
+    -- misaligned in the outermost value, and past the member's end there
+    ∷ one_unit (codes "struct t { int n; struct { int a[2]; } s; }; struct t f(void) { struct t x = { 1, { { 2, 0 } } }; return x; } int main(void) { return *(long long *)f().s.a; }") 9 (Undefined [])
+    ∷ one_unit (codes "struct t { int n; struct { int a[2]; } s; }; struct t f(void) { struct t x = { 1, { { 2, 5 } } }; return x; } int main(void) { return f().s.a[0] + f().s.a[1]; }") 9 (Exit 7 [])
+    ∷ one_unit (codes "struct t { int n; struct { int a[2]; }; }; struct t f(void) { struct t x = { 1, { { 2, 0 } } }; return x; } int main(void) { return *(long long *)f().a; }") 9 (Undefined [])
     -- an array without a bound
     ∷ one_unit (codes "struct s { int n; int a[]; }; struct s f(void) { struct s x; x.n = 1; return x; } int main(void) { int *p = f().a; return p != 0; }") 9 (Exit 1 [])
     ∷ []

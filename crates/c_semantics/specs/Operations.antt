@@ -28,7 +28,7 @@ use Rattle.c_typing.specs.Nodes.{int_shape}
 use Rattle.c_typing.specs.Operators.{Sides}
 use Rattle.cil_semantics.specs.Values.{single_in}
 use Rattle.c_semantics.specs.Values.{kind_of, as_type, unary_value, binary_value, holds_of, value_at, member_at, member_value, around_member, part_from, is_const, stored, zeroed, filled, object_pointer}
-use Rattle.c_semantics.specs.Places.{Activation, Here, local_of, literal_number}
+use Rattle.c_semantics.specs.Places.{Activation, Here, part_of, local_of, literal_number}
 
 infixl 10 ◌>>=◌
 -- what is done in a state
@@ -145,7 +145,7 @@ abbrev pub chosen : {A : Type 0} → Bool → Action A → Action A → Action A
 chosen true first second = first
 chosen false first second = second
 
--- members (6.5.2.3p3): of a place, or of a value; where its member of array type is asked for, a value stands in an object of its own (6.2.4p8), which has that number in the activation
+-- members (6.5.2.3p3): of a place, or of a value; where its member of array type is asked for, the outermost value of which it is a part stands in an object of its own (6.2.4p8), which has that number in the activation
 abbrev pub array_object : Activation → ℕ → Option (List Byte × ℕ) → Action Seen
 array_object a n value = λ s. given s value (λ x. Goes (At (object_pointer (local_of a n) x.1)) (with_memory s (with_held s.memory (local_of a n) (Some (writable x.0)))))
 
@@ -154,17 +154,17 @@ member_of_value a n h d = do
   e ← known (member_value a.types h.aggregate h.index h.member.type.shape d)
   gives (Is e)
 
-abbrev pub member : Activation → ℕ → Hop → Seen → Action Seen
-member a n h (At place) = do
+abbrev pub member : Activation → ℕ → Option (ℕ × ℕ) → Hop → Seen → Action Seen
+member a n outer h (At place) = do
   v ← seen (λ m. member_at a.types m h.aggregate h.index place)
   gives (At v)
-member a n h (Is d) = chosen (is_array h.member.type.shape) (array_object a n (around_member a.types h.aggregate h.index d)) (member_of_value a n h d)
+member a n outer h (Is d) = chosen (is_array h.member.type.shape) (array_object a n (around_member a.types outer h.aggregate h.index d)) (member_of_value a n h d)
 
-abbrev pub along : Activation → ℕ → List Hop → Seen → Action Seen
-along a n [] x = gives x
-along a n (h ∷ hs) x = do
-  y ← member a n h x
-  along a n hs y
+abbrev pub along : Activation → ℕ → Option (ℕ × ℕ) → List Hop → Seen → Action Seen
+along a n outer [] x = gives x
+along a n outer (h ∷ hs) x = do
+  y ← member a n outer h x
+  along a n (part_of a.types outer h.aggregate h.index) hs y
 
 -- assignment (6.5.16p3): the value is that of the left operand behind it
 abbrev pub assigned : Activation → Shape → Value → Datum → Action Seen

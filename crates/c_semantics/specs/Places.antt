@@ -1,5 +1,6 @@
 -- Definition: where an expression or a statement stands while it runs: what is declared there (C11 6.2.1), and the activation's objects (6.2.4p5 to p8).
 use Rattle.std.specs.Prelude.{ℕ, zero, suc, ◌+◌, ◌-◌, Bool, true, false, ◌&&◌, not, List, [], ◌∷◌, ◌++◌, length, drop, Option, Some, None}
+use Rattle.std.specs.Option.{option_map, option_and_then}
 use Rattle.type_graph.specs.Shapes.{Shape}
 use Rattle.byte_mem.specs.declared.pointers.ObjName.{ObjName}
 use Rattle.execution.specs.States.{State, Result, Undefined}
@@ -9,7 +10,7 @@ use Rattle.typed_tree.specs.Tree.{Typed, Form, Has, Integer, Local, Literal, Ent
 use Rattle.typed_tree.specs.Places.{is_place}
 use Rattle.typed_tree.specs.Statements.{Stmt, Expr, Declare, Block, If, Switch, While, Do, For, Label, Case, Default, Goto, Break, Continue, Return, Stmts, Done, Seq}
 use Rattle.typed_tree.specs.Units.{Local as LocalObject, Literal as LiteralObject}
-use Rattle.c_typing.specs.Types.{Types, is_array, size_in}
+use Rattle.c_typing.specs.Types.{Types, is_array, size_in, offset_in}
 use Rattle.c_typing.specs.Conversions.{Operand}
 use Rattle.c_typing.specs.Scopes.{Env, Found, Good, Bad, Walk, empty_scope}
 use Rattle.c_typing.specs.Statements.{Place}
@@ -27,6 +28,39 @@ pub record Here : Type 0 where
   pub env : Env
   pub arrays : ℕ
   pub place : Place
+
+-- where a value stands in the outermost value of which it is a part: how many bytes are before it, and how many there are in all
+abbrev pub whole : Types → Shape → Option (ℕ × ℕ)
+whole t s = option_map (λ n. (0, n)) (size_in t s)
+
+abbrev pub part_of : Types → Option (ℕ × ℕ) → ℕ → ℕ → Option (ℕ × ℕ)
+part_of t outer g i = option_and_then (λ (x : ℕ × ℕ). option_map (λ at. (x.0 + at, x.1)) (offset_in t g i)) outer
+
+abbrev mutual
+  pub outer_of : Types → Typed → Option (ℕ × ℕ)
+  outer_of t (Has q s effect form) = outer_form t s form
+
+  outer_form : Types → Shape → Form → Option (ℕ × ℕ)
+  outer_form t s (Member e g i) = elim (is_place e) [ true ↦ whole t s | false ↦ part_of t (outer_of t e) g i ]
+  outer_form t s (Integer n) = whole t s
+  outer_form t s (Local n) = whole t s
+  outer_form t s (Literal n init) = whole t s
+  outer_form t s (Entity n) = whole t s
+  outer_form t s (Load e) = whole t s
+  outer_form t s (Decay e) = whole t s
+  outer_form t s (Address e) = whole t s
+  outer_form t s (Indirect e) = whole t s
+  outer_form t s (Subscript l r) = whole t s
+  outer_form t s (Convert e) = whole t s
+  outer_form t s (Unary op e) = whole t s
+  outer_form t s (Binary op l r) = whole t s
+  outer_form t s (Logical op l r) = whole t s
+  outer_form t s (Conditional c y n) = whole t s
+  outer_form t s (Comma l r) = whole t s
+  outer_form t s (Assign l r) = whole t s
+  outer_form t s (Compute op at l r) = whole t s
+  outer_form t s (Step form at e) = whole t s
+  outer_form t s (Call f es) = whole t s
 
 -- arrays in values: a member of array type of a value that is no lvalue (6.2.4p8), of which each stands in an object of its own (own)
 

@@ -1,5 +1,5 @@
 -- Definition: values of C's types (C11 6.2.5, 6.3, 6.5): kinds, conversions, operators and parts, over the types of a translation unit; None is what is undefined.
-use Rattle.std.specs.Prelude.{ℕ, ◌+◌, ◌*◌, Bool, true, false, not, List, [], ◌∷◌, length, map, Option, Some, None, option_map, pos}
+use Rattle.std.specs.Prelude.{ℕ, ◌+◌, ◌-◌, ◌*◌, Bool, true, false, not, List, [], ◌∷◌, ◌++◌, length, replicate, map, Option, Some, None, option_map, pos}
 use Rattle.cil_base.specs.declared.kinds.Abi.{Abi}
 use Rattle.cil_base.specs.declared.kinds.IntKind.{IntKind}
 use Rattle.cil_base.specs.declared.operators.BinOp.{BinOp}
@@ -10,7 +10,7 @@ use Rattle.cil_base.specs.Arithmetic.{told}
 use Rattle.type_graph.specs.Shapes.{Shape, Shapes, VoidType, IntType, PtrType, ArrayType, FuncType, AggType, NoTypes, MoreTypes}
 use Rattle.byte_mem.specs.declared.pointers.ObjName.{ObjName}
 use Rattle.byte_mem.specs.declared.values.Byte.{Byte}
-use Rattle.byte_mem.specs.declared.values.Byte.TheVariants.{Known}
+use Rattle.byte_mem.specs.declared.values.Byte.TheVariants.{Known, Unknown as Blank}
 use Rattle.byte_mem.specs.declared.values.Scalar.{Scalar}
 use Rattle.byte_mem.specs.declared.values.Scalar.TheVariants.{Int as OfKind, Ptr as OfPointer}
 use Rattle.byte_mem.specs.declared.values.Value.{Value}
@@ -119,9 +119,12 @@ bytes_in (Bytes bytes) = Some bytes
 abbrev pub member_value : Types → ℕ → ℕ → Shape → Datum → Option Datum
 member_value t a i s d = bytes_in d >>= λ bytes. offset_in t a i >>= λ at. kind_of t s >>= λ k. part_value t.abi k at bytes
 
--- the bytes of a value, and the offset of a member in it
-abbrev pub around_member : Types → ℕ → ℕ → Datum → Option (List Byte × ℕ)
-around_member t a i d = bytes_in d >>= λ bytes. offset_in t a i >>= λ at. Some (bytes, at)
+-- a value with what is beside it in the outermost value of which it is a part, unknown bytes (own), and the offset of a member of it there
+abbrev pub in_outermost : ℕ × ℕ → List Byte → List Byte
+in_outermost outer bytes = replicate outer.0 Blank ++ (bytes ++ replicate (outer.1 - (outer.0 + length bytes)) Blank)
+
+abbrev pub around_member : Types → Option (ℕ × ℕ) → ℕ → ℕ → Datum → Option (List Byte × ℕ)
+around_member t outer a i d = bytes_in d >>= λ bytes. offset_in t a i >>= λ at. outer >>= λ (x : ℕ × ℕ). Some (in_outermost x bytes, x.0 + at)
 
 -- parts of an object by their paths (6.7.9p17), with their offsets
 

@@ -13,7 +13,7 @@ use Rattle.typed_tree.specs.Tree.{Typed, Form, Has, Integer, Local, Literal, Ent
 use Rattle.c_typing.specs.Types.{CType, Hop}
 use Rattle.c_typing.specs.Operators.{sides}
 use Rattle.c_semantics.specs.Values.{kind_of, cast_value, holds_of}
-use Rattle.c_semantics.specs.Places.{Activation, literal_number, array_number, arrays_in}
+use Rattle.c_semantics.specs.Places.{Activation, outer_of, literal_number, array_number, arrays_in}
 use Rattle.c_semantics.specs.Operations.{Action, ◌>>=◌, gives, known, seen, Seen, Is, is_value, is_number, single, valued, placed, indirect, operated, computed, subscripted, logical, chosen, member, assigned, compound, stepped, called, unit_object, local_object, Object, literal_object, zero_part, fill_part, store_part, initialised}
 
 -- the value of what an expression gives (6.3.2.1p2 to p4)
@@ -58,10 +58,10 @@ of_subscript a s l r left right = do
 abbrev pub hop : CType → ℕ → ℕ → Hop
 hop c a i = record { aggregate = a; index = i; member = record { name = None; type = c; value = pos 0 } }
 
-abbrev pub of_member : Activation → ℕ → Hop → Action Seen → Action Seen
-of_member a n h go = do
+abbrev pub of_member : Activation → ℕ → Hop → Typed → Action Seen → Action Seen
+of_member a n h e go = do
   x ← go
-  member a (array_number a n) h x
+  member a (array_number a n) (outer_of a.types e) h x
 
 -- a conversion (6.3)
 abbrev pub of_convert : Activation → Shape → Typed → Action Seen → Action Seen
@@ -150,7 +150,7 @@ abbrev mutual
   t_form a enter c (Address e) k st = of_address (t_exp a enter e k) st
   t_form a enter c (Indirect e) k st = of_indirect a e (t_exp a enter e k) st
   t_form a enter c (Subscript l r) k st = of_subscript a c.shape l r (t_exp a enter l k) (t_exp a enter r (k + arrays_in l)) st
-  t_form a enter c (Member e g i) k st = of_member a (k + arrays_in e) (hop c g i) (t_exp a enter e k) st
+  t_form a enter c (Member e g i) k st = of_member a (k + arrays_in e) (hop c g i) e (t_exp a enter e k) st
   t_form a enter c (Convert e) k st = of_convert a c.shape e (t_exp a enter e k) st
   t_form a enter c (Unary op e) k st = of_unary a op e (t_exp a enter e k) st
   t_form a enter c (Binary op l r) k st = of_binary a op l r (t_exp a enter l k) (t_exp a enter r (k + arrays_in l)) st
