@@ -10,7 +10,7 @@ use std::test::Fail;
 const SIZE: Scalar = Scalar::Int(IntKind::ULong);
 
 // Over `z`, whose first read fails.
-const FIRST_FAILS: Outside<'static> = Outside {
+const FIRST_FAILS: Outside<'static, 'static, 'static> = Outside {
     bytes: b"z",
     piece: 1,
     reads: &[0],

@@ -23,16 +23,16 @@ fn at_least_one(n: usize) -> usize
 /// What a console is over: the bytes of its source, how many of them a call gives at most, and which calls fail; and how many bytes
 /// a call of its sink takes at most, and which calls fail. The sink has room for 10,000 bytes.
 #[derive(Clone, Copy)]
-pub struct Outside<'a> {
+pub struct Outside<'a, 'b, 'c> {
     pub bytes: &'a [u8],
     pub piece: usize,
-    pub reads: &'a [u64],
+    pub reads: &'b [u64],
     pub taken: usize,
-    pub writes: &'a [u64],
+    pub writes: &'c [u64],
 }
 
 /// A source that gives all its bytes in one call, and a sink that takes a byte in a call; no call fails.
-pub const CALM: Outside<'static> = Outside {
+pub const CALM: Outside<'static, 'static, 'static> = Outside {
     bytes: b"",
     piece: 5000,
     reads: &[],
@@ -40,19 +40,19 @@ pub const CALM: Outside<'static> = Outside {
     writes: &[],
 };
 
-fn source(alloc: Global, outside: &Outside<'_>) -> Result<MemSource, AllocError> {
+fn source(alloc: Global, outside: &Outside<'_, '_, '_>) -> Result<MemSource, AllocError> {
     let fails = outside.reads.to_vec(alloc)?;
     let bytes = outside.bytes.to_vec(alloc)?;
     Ok(MemSource::new(bytes, at_least_one(outside.piece), fails))
 }
 
-fn sink(alloc: Global, outside: &Outside<'_>) -> Result<MemSink, Memory> {
+fn sink(alloc: Global, outside: &Outside<'_, '_, '_>) -> Result<MemSink, Memory> {
     let fails = outside.writes.to_vec(alloc).map_err(|_| Memory)?;
     MemSink::new(alloc, at_least_one(outside.taken), 10_000, fails)
 }
 
 /// A console at the start of a run.
-pub fn new_console(alloc: Global, outside: &Outside<'_>) -> Result<Console, Fail> {
+pub fn new_console(alloc: Global, outside: &Outside<'_, '_, '_>) -> Result<Console, Fail> {
     let input = source(alloc, outside)?;
     let out = sink(alloc, outside)?;
     Ok(Console::new(alloc, input, out)?)
@@ -169,7 +169,7 @@ fn letter(end: HostEnd) -> char {
 /// What the steps of a script answer over a console, and the bytes that its sink has taken behind them.
 pub fn written(
     alloc: Global,
-    outside: &Outside<'_>,
+    outside: &Outside<'_, '_, '_>,
     script: &str,
 ) -> Result<(String, Vec<u8>), Fail> {
     let mut console = new_console(alloc, outside)?;

@@ -1,7 +1,20 @@
-use crate::console::{CALM, Console, Outside, new_console, written};
+use crate::console::{CALM, Outside, new_console, written};
 use crate::equal::equal;
 use cil_streams::HostEnd;
+use std::alloc::Global;
 use std::test::Fail;
+
+// What seven calls of getchar answer, where a call of the source gives at most so many bytes, and 1 at least.
+fn characters(alloc: Global, bytes: &str, piece: usize, reads: &[u64]) -> Result<String, Fail> {
+    let outside = Outside {
+        bytes: bytes.as_bytes(),
+        piece,
+        reads,
+        ..CALM
+    };
+    let (found, _) = written(alloc, &outside, "<<<<<<<")?;
+    Ok(found)
+}
 
 // Once the source has given its end it is not read again, so that no later read fails. After a read that failed the
 // next getchar reads again.
@@ -34,32 +47,33 @@ fn bytes_are_read_once_and_the_end_too(rt: HostRuntime) -> Result<(), Fail> {
         ("", 1, [0, 1], "RR....."),
         ("", 1, [1, 2], "......."),
     ] {
-        let outside = Outside {
-            bytes: bytes.as_bytes(),
-            piece,
-            reads: &reads,
-            ..CALM
-        };
-        let (found, _) = written(rt.alloc(), &outside, "<<<<<<<")?;
+        let found = characters(rt.alloc(), bytes, piece, reads.as_slice())?;
         equal(&rt, &(bytes, piece, reads), &found.as_str(), &want);
     }
     Ok(())
 }
 
-// How many of 9,000 calls of getchar answer before one whose read fails.
-fn before_a_fault(console: &mut Console) -> Option<usize> {
+// How many of 9,000 calls of getchar answer before one whose read fails, over a source of n bytes that gives all that
+// is asked of it.
+fn before_a_fault(alloc: Global, n: usize, fail: u64) -> Result<Option<usize>, Fail> {
+    let bytes = vec![in alloc; b'x'; n]?;
+    let reads = [fail];
+    let outside = Outside {
+        bytes: &bytes,
+        reads: reads.as_slice(),
+        ..CALM
+    };
+    let mut console = new_console(alloc, &outside)?;
     for i in 0..9000 {
         if console.getchar() == HostEnd::ReadFault {
-            return Some(i);
+            return Ok(Some(i));
         }
     }
-    None
+    Ok(None)
 }
 
-// Over a source of n bytes that gives all that is asked of it.
 #[test]
 fn a_read_asks_for_4096_bytes(rt: HostRuntime) -> Result<(), Fail> {
-    let all = [b'x'; 8192];
     for (n, fail, want) in [
         (0, 0, Some(0)),
         (0, 1, None),
@@ -75,13 +89,8 @@ fn a_read_asks_for_4096_bytes(rt: HostRuntime) -> Result<(), Fail> {
         (8192, 2, Some(8192)),
         (8192, 3, None),
     ] {
-        let outside = Outside {
-            bytes: all.get(..n).unwrap_or_default(),
-            reads: &[fail],
-            ..CALM
-        };
-        let mut console = new_console(rt.alloc(), &outside)?;
-        equal(&rt, &(n, fail), &before_a_fault(&mut console), &want);
+        let found = before_a_fault(rt.alloc(), n, fail)?;
+        equal(&rt, &(n, fail), &found, &want);
     }
     Ok(())
 }
