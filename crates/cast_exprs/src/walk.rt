@@ -728,7 +728,7 @@ fn scalar_list(
 }
 
 /// What a brace list has given a scalar so far.
-#[derive(Clone, Copy, Debug, PartialEq, Eq)]
+#[derive(Clone, Copy, PartialEq, Eq)]
 enum Given {
     Nothing,
     Value,

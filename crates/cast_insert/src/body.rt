@@ -15,7 +15,7 @@ pub(crate) struct Body {
 }
 
 /// What stands around a statement (C11 6.8.6.2p1, 6.8.6.3p1).
-#[derive(Clone, Copy, Debug, PartialEq, Eq)]
+#[derive(Clone, Copy)]
 pub(crate) enum Around {
     /// Neither a loop nor a switch.
     Nothing,

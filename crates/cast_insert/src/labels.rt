@@ -12,7 +12,7 @@ struct Jump {
 }
 
 /// Whether a label that is named is set.
-#[derive(Clone, Copy, Debug, PartialEq, Eq)]
+#[derive(Clone, Copy, PartialEq, Eq)]
 enum Standing {
     Named,
     Set,

@@ -9,7 +9,7 @@ use std::alloc::Global;
 use type_graph::{Node, TypeGraph};
 
 /// What a type has within itself: which aggregates, and whether its size is known.
-#[derive(Clone, Copy, Debug, PartialEq, Eq)]
+#[derive(Clone, Copy)]
 pub(crate) struct Tops {
     /// One more than the number of the aggregate that the type has within itself, its own or that of its elements;
     /// 0 where there is none.

@@ -44,7 +44,7 @@ pub(crate) struct Found {
 }
 
 /// Where a global stands: its unit, and its number there.
-#[derive(Clone, Copy, Debug, PartialEq, Eq)]
+#[derive(Clone, Copy)]
 pub(crate) struct Site {
     pub(crate) unit: UnitNo,
     pub(crate) global: EntityId,

@@ -183,7 +183,7 @@ fn unary_typed(s: &Setting, op: UnOp, e: Typed) -> Result<Typed, Memory>
 }
 
 /// The class of an operator over integers.
-#[derive(Clone, Copy, Debug, PartialEq, Eq)]
+#[derive(Clone, Copy)]
 enum Class {
     /// Its operands and its result are of one kind.
     Arithmetic,

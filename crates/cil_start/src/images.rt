@@ -21,7 +21,7 @@ use cil_tree::ImageItem;
 use type_graph::TypeGraph;
 
 /// What an item of an image writes: the value of a scalar, at an offset.
-#[derive(Clone, Copy, Debug, PartialEq, Eq)]
+#[derive(Clone, Copy)]
 pub(crate) struct Written {
     pub(crate) at: u128,
     pub(crate) scalar: Scalar,

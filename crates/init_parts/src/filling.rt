@@ -15,7 +15,7 @@ pub enum Storage {
 }
 
 /// A part of an object, by its number: of a member, or of an element.
-#[derive(Clone, Copy, Debug, PartialEq, Eq, Hash)]
+#[derive(Clone, Copy, PartialEq, Eq, Hash)]
 struct PartKey {
     of: u32,
     number: u64,

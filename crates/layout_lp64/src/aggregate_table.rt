@@ -11,7 +11,7 @@ use std::marker::Model;
 use type_graph::Layout;
 
 /// The size and alignment of an aggregate, and where its members' offsets stand in the list of all.
-#[derive(Clone, Copy, Debug)]
+#[derive(Clone, Copy)]
 pub(crate) struct Entry {
     whole: Layout,
     first: u32,

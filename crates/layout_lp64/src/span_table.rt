@@ -9,7 +9,7 @@ use std::marker::Model;
 use type_graph::Layout;
 
 /// A span in eight bytes.
-#[derive(Clone, Copy, Debug)]
+#[derive(Clone, Copy)]
 enum Compact {
     /// No size.
     Nothing,

@@ -2,7 +2,7 @@ use cil_base::{Bytes, IntKind, Memory, wrap};
 use std::alloc::Global;
 
 /// Where the characters of a literal are read (C11 6.4.4.4, 6.4.5).
-#[derive(Clone, Copy, Debug, PartialEq, Eq)]
+#[derive(Clone, Copy)]
 enum Reading {
     /// In no escape sequence.
     Plain,

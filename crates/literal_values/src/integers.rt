@@ -1,7 +1,7 @@
 use cil_base::{Abi, IntKind};
 
 /// The base of an integer constant (C11 6.4.4.1p2).
-#[derive(Clone, Copy, Debug, PartialEq, Eq)]
+#[derive(Clone, Copy, PartialEq, Eq)]
 enum Base {
     Decimal,
     Octal,
@@ -9,7 +9,7 @@ enum Base {
 }
 
 /// The length of an integer type, from that of `int` on.
-#[derive(Clone, Copy, Debug, PartialEq, Eq, PartialOrd, Ord)]
+#[derive(Clone, Copy, PartialEq, Eq, PartialOrd, Ord)]
 enum Length {
     Int,
     Long,
@@ -17,7 +17,7 @@ enum Length {
 }
 
 /// What a suffix says (C11 6.4.4.1p1).
-#[derive(Clone, Copy, Debug, PartialEq, Eq)]
+#[derive(Clone, Copy, PartialEq, Eq)]
 struct Suffix {
     unsigned: bool,
     length: Length,

@@ -24,7 +24,7 @@ const PIECE: usize = 4096;
 const ROOM: usize = 65_536;
 
 /// How a run exited.
-#[derive(Clone, Copy, Debug, PartialEq, Eq)]
+#[derive(Clone, Copy)]
 pub(crate) struct RunExit {
     /// The bytes of output.
     pub(crate) output: usize,

@@ -7,7 +7,7 @@ use std::alloc::Global;
 use std::collections::{HashMap, HashSet};
 
 /// Two types of one graph, in order.
-#[derive(Clone, Copy, Debug, PartialEq, Eq, Hash)]
+#[derive(Clone, Copy, PartialEq, Eq, Hash)]
 pub(crate) struct Pair {
     left: TypeId,
     right: TypeId,
