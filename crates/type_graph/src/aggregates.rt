@@ -59,7 +59,7 @@ impl Member {
 }
 
 /// Members in order. One or two stand in the value itself, so that they need no block of memory.
-#[derive(Drop)]
+#[derive(Debug, Drop)]
 enum Kept {
     One([Member; 1]),
     Two([Member; 2]),
