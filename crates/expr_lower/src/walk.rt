@@ -8,8 +8,8 @@ use lower_parts::{
     Computing, FunctionOut, Kept, address_of, argument, before_effects, binary_operand, by_name,
     by_pointer, call_for_effect, call_for_value, called_by_name, choose, clear, compute, computes,
     constant_of, constant_operand, converted_from, converted_operand, decayed, decide, element,
-    element_at, element_of, impossible, is_part, is_void, keep, left_place, left_value, member,
-    member_of_value, named, old_value, part, part_type, read, saved, short_circuit,
+    element_at, element_of, held, impossible, is_part, is_void, keep, left_place, left_value,
+    member, member_of_value, named, old_value, part, part_type, read, saved, short_circuit,
     short_circuit_effects, step, step_op, stepped, store, store_part, value_at, value_of, variable,
 };
 use typed_tree::{InitStep, Path, StepForm, TypedExp, TypedInit, TypedNode};
@@ -114,7 +114,7 @@ fn address(f: &mut FunctionOut, p: &TypedExp, out: &mut Vec<Stmt>) -> Result<Exp
     Ok(address_of(f.alloc, place))
 }
 
-/// The value of a member of a value.
+/// The value of a member of a value, which is read where it stands or in a copy.
 #[inline(never)]
 #[cycle(lower)]
 #[tactic(auto, using(lower_parts::proofs::CodeLaws::extends_twice, lower_parts::proofs::CodeLaws::extends_none))]
@@ -127,6 +127,7 @@ fn member_value(
     ensures grows { OnOk result (Extends out.old.items out.new.items) }
 {
     let x = value(f, of, out)?;
+    let x = held(f, of, x, out)?;
     member_of_value(x, i)
 }
 

@@ -1,5 +1,5 @@
 -- Device: what is put behind code, and places step by step.
-use Rattle.std.proofs.Common.{◌≡◌, ℕ, zero, suc, append-nil, ◌<◌, ◌≤◌, Bool, true, false, List, [], ◌∷◌, ◌++◌, append_assoc, length, drop, take, take_all, if◌then◌else◌, get_or, Some, ◌||◌, Global as Alloc, refl, sym, ap, ◌∙◌, arith}
+use Rattle.std.proofs.Common.{◌≡◌, ℕ, zero, suc, append-nil, ◌<◌, ◌≤◌, Bool, true, false, not, ◌&&◌, List, [], ◌∷◌, ◌++◌, append_assoc, length, drop, take, take_all, if◌then◌else◌, get_or, Some, ◌||◌, Global as Alloc, refl, sym, ap, ◌∙◌, arith}
 use Rattle.std.specs.declared.vec.Vec.{Vec}
 use Rattle.cil_base.specs.declared.kinds.IntKind.TheVariants.{Int as int}
 use Rattle.cil_base.specs.declared.numbers.EntityId.{EntityId}
@@ -11,6 +11,7 @@ use Rattle.typed_tree.specs.declared.expressions.TypedExp.{TypedExp}
 use Rattle.typed_tree.specs.declared.initialisers.Step.{Step}
 use Rattle.typed_tree.specs.declared.initialisers.Step.TheVariants.{Field as ToField, Index as ToIndex}
 use Rattle.cil_tree.specs.declared.expressions.Exp.{Exp}
+use Rattle.cil_tree.specs.declared.expressions.Exp.TheViews as exps
 use Rattle.cil_tree.specs.declared.expressions.Host.{Host, Global, Var, At'}
 use Rattle.cil_tree.specs.declared.expressions.Lval.{Lval}
 use Rattle.cil_tree.specs.declared.expressions.Offset.{Offset, Field, Index'}
@@ -20,12 +21,13 @@ use Rattle.cil_tree.specs.declared.statements.Instr.TheVariants.{Set, Call, Zero
 use Rattle.cil_tree.specs.declared.statements.Stmt.{Stmt, Instr as Do}
 use Rattle.cil_tree.specs.Tree as plain
 use Rattle.cil_tree.specs.View.{exp_of, lval_of, host_of, offsets_of}
+use Rattle.cil_tree.proofs.Views.{at_value}
 use Rattle.cil_nodes.specs.Built.{IsConst, IsValue, IsBin, IsAddress, IsCast, IsAt, IsIf, IsField, IsElement, part_of, joined}
 use Rattle.cil_nodes.proofs.Made.{field_is, element_is}
 use Rattle.lower_parts.specs.declared.places.Kept.{Kept}
 use Rattle.lower_parts.specs.declared.places.Kept.TheVariants.{Global as ToGlobal, Local as ToLocal, Behind}
 use Rattle.lower_parts.specs.declared.results.Computing.{Computing}
-use Rattle.lower_parts.specs.Code.{Extends, IsVariable, Saves, Reads, IsLeft, any_effect, before_last, IsCallee, CallsFor, is_variable, address, IsAddressOf, kept_place, Names, PutsAddress, Keeps, IsLeftPlace, IsConverted, Computes, Chooses, IsTruth, Decides, step_before, offsets_on, IsStep, IsPart, StoresPart, Clears}
+use Rattle.lower_parts.specs.Code.{Extends, IsVariable, Saves, Reads, IsLeft, any_effect, before_last, IsCallee, CallsFor, is_variable, address, IsAddressOf, kept_place, Names, PutsAddress, Keeps, IsLeftPlace, is_found, is_variable_value, IsHeld, IsMemberOf, IsConverted, Computes, Chooses, IsTruth, Decides, step_before, offsets_on, IsStep, IsPart, StoresPart, Clears}
 use Rattle.lower_parts.specs.Hosts.{IsHostAddress, IsWhole, is_behind}
 
 pub extends_none : (old new : List Stmt) → new ≡ old → Extends old new
@@ -144,6 +146,11 @@ keeps_whole (ToGlobal n) place old new whole same = (whole, same)
 keeps_whole (ToLocal n) place old new whole same = (whole, same)
 keeps_whole (Behind n) place old new whole same = absurd whole
 
+pub whole_is_variable : (kept : Kept) (place : Lval) → IsWhole kept place → (nodes : List Node) → is_variable (lval_of nodes place) ≡ true
+whole_is_variable (ToGlobal n) place whole nodes = ap is_variable (whole.at nodes)
+whole_is_variable (ToLocal n) place whole nodes = ap is_variable (whole.at nodes)
+whole_is_variable (Behind n) place whole nodes = absurd whole
+
 pub keeps_behind : (n : LocalId) (place : Lval) (x : Exp) (old new : List Stmt) → ((nodes : List Node) → is_variable (lval_of nodes place) ≡ false) → IsAddressOf place x → Saves n x old new → Keeps (Behind n) place old new
 keeps_behind n place x old new part address saves = record { part = part; pointer = x; address = address; saves = saves }
 
@@ -154,6 +161,23 @@ place_stays true place next old new e same none = cc
 pub place_kept : (b : Bool) (kept : Kept) (place next : Lval) (old new : List Stmt) → b ≡ true → Keeps kept place old new → Names kept next → IsLeftPlace b place old new next
 place_kept true kept place next old new e keeps names = (kept, keeps, names)
 place_kept false kept place next old new e keeps names = cc
+
+-- members of values
+
+pub held_apart : (e : TypedExp) (x y : Exp) (old new : List Stmt) → is_found e.node.value ≡ false → y ≡ x → new ≡ old → IsHeld e x old new y
+held_apart e x y old new apart same none = record { at = λ nodes. left_stays (is_found e.node.value && not (is_variable_value (exp_of nodes x))) x y old new (ap (λ b. b && not (is_variable_value (exp_of nodes x))) apart) same none }
+
+pub held_whole : (e : TypedExp) (x y : Exp) (old new : List Stmt) → ((nodes : List Node) → is_variable_value (exp_of nodes x) ≡ true) → y ≡ x → new ≡ old → IsHeld e x old new y
+held_whole e x y old new whole same none = record { at = λ nodes. left_stays (is_found e.node.value && not (is_variable_value (exp_of nodes x))) x y old new (ap (λ b. is_found e.node.value && not b) (whole nodes) ∙ both (is_found e.node.value)) same none } where
+  both : (b : Bool) → (b && false) ≡ false
+  both false = refl
+  both true = refl
+
+pub held_saved : (e : TypedExp) (n : LocalId) (x y : Exp) (old new : List Stmt) → is_found e.node.value ≡ true → ((nodes : List Node) → is_variable_value (exp_of nodes x) ≡ false) → Saves n x old new → Reads n y → IsHeld e x old new y
+held_saved e n x y old new found part saves reads = record { at = λ nodes. left_saved (is_found e.node.value && not (is_variable_value (exp_of nodes x))) n x y old new (ap (λ b. b && not (is_variable_value (exp_of nodes x))) found ∙ ap not (part nodes)) saves reads }
+
+pub member_read : (x y : Exp) (place part : Lval) (i : ℕ) → x ≡ exps.Lval place → IsField place i part → IsValue part y → IsMemberOf x i y
+member_read x y place part i is member value = record { place = place; value = record { at = λ nodes. at_value nodes x place is }; part = part; member = member; read = value }
 
 -- calls
 

@@ -1,5 +1,5 @@
 -- Definition: what a part on the left is read from, how a place is kept, what is computed and chosen, and the part of a local to which a path leads (C11 5.1.2.3, 6.5.2.4, 6.5.13, 6.5.14, 6.5.16, 6.7.9).
-use Rattle.std.specs.Prelude.{◌≡◌, ◌++◌, ℕ, suc, if◌then◌else◌, Bool, true, false, ◌||◌, List, [], ◌∷◌, Some}
+use Rattle.std.specs.Prelude.{◌≡◌, ◌++◌, ℕ, suc, if◌then◌else◌, Bool, true, false, not, ◌&&◌, ◌||◌, List, [], ◌∷◌, Some}
 use Rattle.std.specs.declared.alloc.Global.{Global}
 use Rattle.std.specs.declared.vec.Vec.{Vec}
 use Rattle.cil_base.specs.declared.kinds.IntKind.TheVariants.{Int as int}
@@ -9,6 +9,8 @@ use Rattle.type_graph.specs.declared.nodes.Node.{Node}
 use Rattle.typed_tree.specs.declared.expressions.Logic.{Logic}
 use Rattle.typed_tree.specs.declared.expressions.Logic.TheVariants.{And, Or}
 use Rattle.typed_tree.specs.declared.expressions.TypedExp.{TypedExp}
+use Rattle.typed_tree.specs.declared.expressions.TypedNode.{TypedNode}
+use Rattle.typed_tree.specs.declared.expressions.TypedNode.TheVariants.{Integer, Local, Literal', Entity, Load', Decay', Address', Indirect', Subscript', Member', Convert', Unary', Binary', Logical', Conditional', Comma', Assign', Compute', Step', Call'}
 use Rattle.typed_tree.specs.declared.initialisers.Step.{Step}
 use Rattle.typed_tree.specs.declared.initialisers.Step.TheVariants.{Field as ToField, Index as ToIndex}
 use Rattle.cil_tree.specs.declared.expressions.Exp.{Exp}
@@ -20,7 +22,7 @@ use Rattle.cil_tree.specs.declared.statements.Instr.TheVariants.{Set, Call, Zero
 use Rattle.cil_tree.specs.declared.statements.Stmt.{Stmt, Instr as Do}
 use Rattle.cil_tree.specs.Tree as plain
 use Rattle.cil_tree.specs.View.{exp_of, lval_of}
-use Rattle.cil_nodes.specs.Built.{IsConst, IsValue, IsBin, IsCast, IsIf, part_of}
+use Rattle.cil_nodes.specs.Built.{IsConst, IsValue, IsBin, IsCast, IsIf, IsField, part_of}
 use Rattle.lower_parts.specs.declared.places.Kept.{Kept}
 use Rattle.lower_parts.specs.declared.places.Kept.TheVariants.{Global as ToGlobal, Local as ToLocal, Behind}
 use Rattle.lower_parts.specs.declared.results.Computing.{Computing}
@@ -112,6 +114,51 @@ Keeps (Behind n) place old new = PutsAddress n place old new
 abbrev pub IsLeftPlace : Bool → Lval → List Stmt → List Stmt → Lval → Type 0
 IsLeftPlace false place old new next = (next ≡ place) × (new ≡ old)
 IsLeftPlace true place old new next = (kept : Kept) × Keeps kept place old new × Names kept next
+
+-- whether the value of an expression stands where it was stored or found
+abbrev pub is_found : TypedNode → Bool
+is_found (Integer n) = false
+is_found (Local n) = false
+is_found (Literal' n k steps) = false
+is_found (Entity n) = false
+is_found (Load' t a p e) = false
+is_found (Decay' t a p e) = false
+is_found (Address' t a p e) = false
+is_found (Indirect' t a p e) = false
+is_found (Subscript' t a p e u b q f) = false
+is_found (Member' t a p e g i) = false
+is_found (Convert' t a p e) = false
+is_found (Unary' op t a p e) = false
+is_found (Binary' op t a p e u b q f) = false
+is_found (Logical' op t a p e u b q f) = false
+is_found (Conditional' t a p e s u b q f v c r g) = false
+is_found (Comma' t a p e u b q f) = true
+is_found (Assign' t a p e u b q f) = true
+is_found (Compute' op at t a p e u b q f) = false
+is_found (Step' form at t a p e) = false
+is_found (Call' t a p e k es) = false
+
+-- the value of a whole variable
+abbrev pub is_variable_value : plain.Exp → Bool
+is_variable_value (plain.Const kind value) = false
+is_variable_value (plain.Value place) = is_variable place
+is_variable_value (plain.Un op operand) = false
+is_variable_value (plain.Bin op left right) = false
+is_variable_value (plain.Cast to operand) = false
+is_variable_value (plain.AddrOf place) = false
+is_variable_value (plain.StartOf place) = false
+
+-- the value whose member is read: what was stored or found is saved, but for a whole variable, since a struct may stand where no scalar of it is aligned (own)
+pub record IsHeld (e : TypedExp) (x : Exp) (old new : List Stmt) (y : Exp) : Type 0 where
+  pub at : (nodes : List Node) → IsLeft (is_found e.node.value && not (is_variable_value (exp_of nodes x))) x old new y
+
+-- a member of the value that a place has
+pub record IsMemberOf (x : Exp) (i : ℕ) (y : Exp) : Type 0 where
+  pub place : Lval
+  pub value : IsValue place x
+  pub part : Lval
+  pub member : IsField place i part
+  pub read : IsValue part y
 
 -- an expression of one type in another: cast where the types differ
 pub record IsConverted (from to : TypeId) (x y : Exp) : Type 0 where

@@ -18,9 +18,9 @@ pub use calls::{
 };
 pub use output::{FunctionOut, UnitOut};
 pub use places::{
-    Kept, address_of, clear, decayed, element, element_at, is_part, keep, left_place, left_value,
-    member, member_of_value, named, part, part_type, read, saved, store, store_part, value_of,
-    variable,
+    Kept, address_of, clear, decayed, element, element_at, held, is_part, keep, left_place,
+    left_value, member, member_of_value, named, part, part_type, read, saved, store, store_part,
+    value_of, variable,
 };
 pub use results::{
     Computing, binary_operand, choose, compute, computes, constant_of, constant_operand, converted,

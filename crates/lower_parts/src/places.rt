@@ -1,10 +1,10 @@
 ghost use Rattle.std.specs.Prelude.{◌≡◌, ◌<◌, ◌++◌, ◌∷◌, [], List, length, false, IfOk, OnOk, MatchOption};
 ghost use Rattle.type_graph.specs.declared.nodes.Node.{Node};
-ghost use Rattle.cil_tree.specs.View.{lval_of};
+ghost use Rattle.cil_tree.specs.View.{exp_of, lval_of};
 ghost use Rattle.cil_tree.specs.declared.statements.Instr.TheVariants as instr;
 ghost use Rattle.cil_tree.specs.declared.statements.Stmt.TheVariants as stmt;
 ghost use Rattle.cil_nodes.specs.Built.{IsValue, IsField, IsElement};
-ghost use Rattle.lower_parts.specs.Code.{Extends, IsVariable, Saves, Reads, IsLeft, IsLeftPlace, IsAddressOf, is_variable, Names, Keeps, IsStep, IsPart, StoresPart, Clears};
+ghost use Rattle.lower_parts.specs.Code.{Extends, IsVariable, Saves, Reads, IsLeft, IsLeftPlace, IsAddressOf, is_variable, Names, Keeps, is_found, is_variable_value, IsHeld, IsMemberOf, IsStep, IsPart, StoresPart, Clears};
 ghost use Rattle.lower_parts.specs.Hosts.{IsHostAddress, IsWhole};
 
 use crate::output::FunctionOut;
@@ -233,8 +233,72 @@ pub fn member(place: Lval, i: u32) -> Result<Lval, Memory>
     Ok(place)
 }
 
+/// Whether the value of an expression stands where it was stored or found: that of an assignment or of a comma.
+fn is_found(e: &TypedExp) -> bool
+    ensures { result ≡ is_found e.now.node.value }
+{
+    match e.node() {
+        TypedNode::Assign(..) | TypedNode::Comma(..) => true,
+        TypedNode::Integer(_)
+        | TypedNode::Local(_)
+        | TypedNode::Literal(..)
+        | TypedNode::Entity(_)
+        | TypedNode::Load(_)
+        | TypedNode::Decay(_)
+        | TypedNode::Address(_)
+        | TypedNode::Indirect(_)
+        | TypedNode::Subscript(..)
+        | TypedNode::Member(..)
+        | TypedNode::Convert(_)
+        | TypedNode::Unary(..)
+        | TypedNode::Binary(..)
+        | TypedNode::Logical(..)
+        | TypedNode::Conditional(..)
+        | TypedNode::Compute(..)
+        | TypedNode::Step(..)
+        | TypedNode::Call(..) => false,
+    }
+}
+
+/// Whether an expression is the value of a whole variable.
+#[tactic(auto, using(crate::proofs::CodeLaws::whole_is_variable, cil_tree::proofs::Views::at_value, cil_tree::proofs::Views::at_address, cil_tree::proofs::Views::at_start))]
+fn is_variable_value(x: &Exp) -> bool
+    ensures { (nodes : List Node) → is_variable_value (exp_of nodes x.now) ≡ result }
+{
+    match x {
+        Exp::Lval(place) => plain(place).is_some(),
+        Exp::Const(..)
+        | Exp::Un(..)
+        | Exp::Bin(..)
+        | Exp::Cast(..)
+        | Exp::AddrOf(_)
+        | Exp::StartOf(_) => false,
+    }
+}
+
+/// The value of a struct or union of which a member is read. What was stored or found is saved, but for a whole variable: it may stand where no
+/// scalar in it is aligned.
+#[tactic(auto, using(crate::proofs::CodeLaws::held_apart, crate::proofs::CodeLaws::held_whole, crate::proofs::CodeLaws::held_saved, crate::proofs::CodeLaws::extends_none))]
+pub fn held(f: &mut FunctionOut, e: &TypedExp, x: Exp, out: &mut Vec<Stmt>) -> Result<Exp, Memory>
+    ensures held { IfOk result (IsHeld e.now x out.old.items out.new.items) }
+    ensures grows { OnOk result (Extends out.old.items out.new.items) }
+{
+    if !is_found(e) {
+        return Ok(x);
+    }
+    if is_variable_value(&x) {
+        return Ok(x);
+    }
+    let t = f.type_of(e)?;
+    let n = saved(f, x, t, out)?;
+    Ok(value_of(f.alloc, n))
+}
+
 /// A member of the value of a struct or union, which stands somewhere.
-pub fn member_of_value(x: Exp, i: u32) -> Result<Exp, Memory> {
+#[tactic(auto, using(crate::proofs::CodeLaws::member_read))]
+pub fn member_of_value(x: Exp, i: u32) -> Result<Exp, Memory>
+    ensures { IfOk result (IsMemberOf x i) }
+{
     match x {
         Exp::Lval(place) => {
             let place = member(place, i)?;
