@@ -302,6 +302,11 @@ common_definitions =
     ∷ units (codes "int a[1]; int f(void) { return a[0]; }" ∷ codes "extern int a[]; int f(void); int main(void) { a[2] = 3; return a[2] + f(); }" ∷ codes "int a[3];" ∷ []) [] [] 9 (Exit 3 [])
     -- a definition is followed by zero bytes
     ∷ units (codes "int a[1] = { 5 };" ∷ codes "extern int a[]; int main(void) { return a[0] + a[2]; }" ∷ codes "int a[3];" ∷ []) [] [] 9 (Exit 5 [])
+    -- of tentative definitions alone one is of a const object, first or last (own)
+    ∷ units (codes "const int n;" ∷ codes "int n; int main(void) { n = 1; return n; }" ∷ []) [] [] 9 (Undefined [])
+    ∷ units (codes "int n; int main(void) { n = 1; return n; }" ∷ codes "const int n;" ∷ []) [] [] 9 (Undefined [])
+    -- beside another definition they do not count (own)
+    ∷ units (codes "const int n;" ∷ codes "int n = 1; int main(void) { n = 2; return n; }" ∷ []) [] [] 9 (Exit 2 [])
     ∷ []
 
 -- a unit, with its outcome where long and pointers have 8 bytes, and where they have 4

@@ -3,7 +3,7 @@ use Rattle.std.proofs.Common.{ℕ, Bool, true, false, not, ◌&&◌, List, [], �
 use Rattle.byte_mem.specs.Steps.{◌>>=◌, only_if}
 use Rattle.host_calls.specs.declared.names.HostName.{HostName}
 use Rattle.execution.specs.Calls.{Meaning, Object, Code, Host}
-use Rattle.execution.specs.Linking.{Linkable, Symbol, External, Internal, same_symbol, rank_after, rank_behind, table_of, entities_of, Row, rows_of, rows_from, rows_in, first_of, said, defined, firmly_said, firmly_defined, greatest_size, grown, defined_in, declared_function, named_among, host_names, host_meaning, meaning_in, linked}
+use Rattle.execution.specs.Linking.{Linkable, Symbol, External, Internal, same_symbol, rank_after, rank_behind, table_of, entities_of, Row, rows_of, rows_from, rows_in, first_of, said, defined, firmly_said, firmly_defined, greatest_size, grown, any_read_only, with_read_only, defined_in, declared_function, named_among, host_names, host_meaning, meaning_in, linked}
 use Rattle.execution.specs.Bounds.{IsTame, AllTame, TameUnit, TameUnits}
 
 abbrev TameRows : List Row → Type 0
@@ -45,8 +45,16 @@ grown_tame size (Some (Object read_only bytes)) h = tt
 grown_tame size (Some (Code f)) h = h
 grown_tame size (Some (Host name)) h = tt
 
+as_read_only_tame : (b : Bool) (m : Option Meaning) → IsTame m → IsTame (with_read_only b m)
+as_read_only_tame b None h = tt
+as_read_only_tame b (Some (Object read_only bytes)) h = tt
+as_read_only_tame b (Some (Code f)) h = h
+as_read_only_tame b (Some (Host name)) h = tt
+
 chosen_tame : (common : Bool) (rows : List Row) (x : Symbol) → TameRows rows → IsTame (defined_in common rows x)
-chosen_tame true rows x h = grown_tame (greatest_size rows x) (first_of (firmly_defined rows x) (defined rows x)) (first_tame (firmly_defined rows x) (defined rows x) (firmly_tame rows x h) (defined_tame rows x h))
+chosen_tame true rows x h =
+    grown_tame (greatest_size rows x) (first_of (firmly_defined rows x) (with_read_only (any_read_only rows x) (defined rows x)))
+    (first_tame (firmly_defined rows x) (with_read_only (any_read_only rows x) (defined rows x)) (firmly_tame rows x h) (as_read_only_tame (any_read_only rows x) (defined rows x) (defined_tame rows x h)))
 chosen_tame false rows x h = defined_tame rows x h
 
 named_tame : (o : Option HostName) → IsTame (o >>= λ h. Some (Host h))

@@ -141,9 +141,27 @@ grown size (Some (Object read_only bytes)) = Some (Object read_only (bytes ++ re
 grown size (Some (Code f)) = Some (Code f)
 grown size (Some (Host name)) = Some (Host name)
 
--- definitions of one name in several units as one definition (C11 J.5.11, 6.9.2p2): the one that is not by tentative definitions alone, if there is one; an object has the greatest of all their sizes
+-- whether what is defined is read-only
+abbrev pub is_read_only : Option Meaning → Bool
+is_read_only None = false
+is_read_only (Some (Object read_only bytes)) = read_only
+is_read_only (Some (Code f)) = false
+is_read_only (Some (Host name)) = false
+
+-- whether any definition of a symbol is of an object with a const type (C11 6.7.3p6)
+abbrev pub any_read_only : List Row → Symbol → Bool
+any_read_only [] x = false
+any_read_only (r ∷ rows) x = is_read_only (said x r) || any_read_only rows x
+
+abbrev pub with_read_only : Bool → Option Meaning → Option Meaning
+with_read_only read_only None = None
+with_read_only read_only (Some (Object one bytes)) = Some (Object read_only bytes)
+with_read_only read_only (Some (Code f)) = Some (Code f)
+with_read_only read_only (Some (Host name)) = Some (Host name)
+
+-- definitions of one name in several units as one definition (C11 J.5.11, 6.9.2p2): the one that is not by tentative definitions alone, if there is one; of tentative definitions alone the object is read-only where any of them is (own), so that no order of the units counts; an object has the greatest of all their sizes
 abbrev pub shared : List Row → Symbol → Option Meaning
-shared rows x = grown (greatest_size rows x) (first_of (firmly_defined rows x) (defined rows x))
+shared rows x = grown (greatest_size rows x) (first_of (firmly_defined rows x) (with_read_only (any_read_only rows x) (defined rows x)))
 
 -- the definition of a symbol, as tentative definitions of several units are common or not
 abbrev pub defined_in : Bool → List Row → Symbol → Option Meaning

@@ -14,7 +14,7 @@ use Rattle.byte_mem.specs.Below.{BelowBytes, BelowValue, Lift, BelowHeld, BelowM
 use Rattle.byte_mem.proofs.BelowLemmas.{length_below}
 use Rattle.host_calls.specs.declared.names.HostName.{HostName}
 use Rattle.execution.specs.Calls.{Function, Meaning, Object, Code, Host, Linked, entity_at, meant}
-use Rattle.execution.specs.Linking.{Linkable, Symbol, External, Internal, same_symbol, symbol_of, rank_after, symbols_of, rank_behind, all_symbols, table_of, numbered_all, memset_symbol, place_in, entities_of, Row, rows_of, rows_from, rows_in, first_of, said, defined, firmly_said, firmly_defined, object_size, greatest_size, grown, shared, defined_in, declared_function, host_names, named_among, host_meaning, meaning_in, linked}
+use Rattle.execution.specs.Linking.{Linkable, Symbol, External, Internal, same_symbol, symbol_of, rank_after, symbols_of, rank_behind, all_symbols, table_of, numbered_all, memset_symbol, place_in, entities_of, Row, rows_of, rows_from, rows_in, first_of, said, defined, firmly_said, firmly_defined, object_size, greatest_size, grown, is_read_only, any_read_only, with_read_only, shared, defined_in, declared_function, host_names, named_among, host_meaning, meaning_in, linked}
 use Rattle.execution.specs.Runs.{entity_held, words_held, memory_of}
 use Rattle.execution.specs.Likeness.{Past, Computes, LikeMeaning}
 use Rattle.simulation_laws.specs.Changes.{itself}
@@ -179,12 +179,64 @@ module _ (P : Function → Function → Type 0) where
   grown_alike size (Some (Host a)) (Some (Code g)) h = absurd h
   grown_alike size (Some (Host a)) (Some (Host b)) h = h
 
+  -- the second is read-only nowhere where the first is not
+
+  writable_alike : (m n : Option Meaning) → AlikeOption P m n → is_read_only m ≡ false → is_read_only n ≡ false
+  writable_alike None None h e = refl
+  writable_alike None (Some n) h e = absurd h
+  writable_alike (Some m) None h e = absurd h
+  writable_alike (Some (Object r bs)) (Some (Object q cs)) h e = h.0 e
+  writable_alike (Some (Object r bs)) (Some (Code g)) h e = absurd h
+  writable_alike (Some (Object r bs)) (Some (Host b)) h e = absurd h
+  writable_alike (Some (Code f)) (Some (Object q cs)) h e = absurd h
+  writable_alike (Some (Code f)) (Some (Code g)) h e = refl
+  writable_alike (Some (Code f)) (Some (Host b)) h e = absurd h
+  writable_alike (Some (Host a)) (Some (Object q cs)) h e = absurd h
+  writable_alike (Some (Host a)) (Some (Code g)) h e = absurd h
+  writable_alike (Some (Host a)) (Some (Host b)) h e = refl
+
+  both_false : (a b : Bool) → (a || b) ≡ false → (a ≡ false) × (b ≡ false)
+  both_false true b e = absurd (cc)
+  both_false false b e = (refl, e)
+
+  neither : (a b : Bool) → a ≡ false → b ≡ false → (a || b) ≡ false
+  neither true b e h = absurd (cc)
+  neither false b e h = h
+
+  all_writable_alike : (rs qs : List Row) (x : Symbol) → AlikeRows rs qs → any_read_only rs x ≡ false → any_read_only qs x ≡ false
+  unfolding AlikeRows
+  all_writable_alike [] [] x h e = refl
+  all_writable_alike [] (q ∷ qs) x h e = absurd h
+  all_writable_alike (r ∷ rs) [] x h e = absurd h
+  all_writable_alike (r ∷ rs) (q ∷ qs) x h e =
+      let each : (is_read_only (said x r) ≡ false) × (any_read_only rs x ≡ false) = both_false (is_read_only (said x r)) (any_read_only rs x) e in
+      neither (is_read_only (said x q)) (any_read_only qs x) (writable_alike (said x r) (said x q) (said_alike r q x h.0) each.0) (all_writable_alike rs qs x h.1 each.1)
+
+  as_read_only_alike : (a b : Bool) (m n : Option Meaning) → (a ≡ false → b ≡ false) → AlikeOption P m n → AlikeOption P (with_read_only a m) (with_read_only b n)
+  as_read_only_alike a b None None k h = tt
+  as_read_only_alike a b None (Some n) k h = absurd h
+  as_read_only_alike a b (Some m) None k h = absurd h
+  as_read_only_alike a b (Some (Object r bs)) (Some (Object q cs)) k h = (k, h.1)
+  as_read_only_alike a b (Some (Object r bs)) (Some (Code g)) k h = absurd h
+  as_read_only_alike a b (Some (Object r bs)) (Some (Host c)) k h = absurd h
+  as_read_only_alike a b (Some (Code f)) (Some (Object q cs)) k h = absurd h
+  as_read_only_alike a b (Some (Code f)) (Some (Code g)) k h = h
+  as_read_only_alike a b (Some (Code f)) (Some (Host c)) k h = absurd h
+  as_read_only_alike a b (Some (Host c)) (Some (Object q cs)) k h = absurd h
+  as_read_only_alike a b (Some (Host c)) (Some (Code g)) k h = absurd h
+  as_read_only_alike a b (Some (Host c)) (Some (Host d)) k h = h
+
+  tentative : List Row → Symbol → Option Meaning
+  tentative rs x = with_read_only (any_read_only rs x) (defined rs x)
+
   chosen_alike : (common : Bool) (rs qs : List Row) (x : Symbol) → AlikeRows rs qs → AlikeOption P (defined_in common rs x) (defined_in common qs x)
+  unfolding tentative
   chosen_alike false rs qs x h = defined_alike rs qs x h
   chosen_alike true rs qs x h =
-      subst (λ (n : ℕ). AlikeOption P (shared rs x) (grown n (first_of (firmly_defined qs x) (defined qs x)))) (sym (greatest_same rs qs x h))
-      (grown_alike (greatest_size rs x) (first_of (firmly_defined rs x) (defined rs x)) (first_of (firmly_defined qs x) (defined qs x))
-      (first_alike (firmly_defined rs x) (firmly_defined qs x) (defined rs x) (defined qs x) (all_firmly_alike rs qs x h) (defined_alike rs qs x h)))
+      subst (λ (n : ℕ). AlikeOption P (shared rs x) (grown n (first_of (firmly_defined qs x) (tentative qs x)))) (sym (greatest_same rs qs x h))
+      (grown_alike (greatest_size rs x) (first_of (firmly_defined rs x) (tentative rs x)) (first_of (firmly_defined qs x) (tentative qs x))
+      (first_alike (firmly_defined rs x) (firmly_defined qs x) (tentative rs x) (tentative qs x) (all_firmly_alike rs qs x h)
+      (as_read_only_alike (any_read_only rs x) (any_read_only qs x) (defined rs x) (defined qs x) (all_writable_alike rs qs x h) (defined_alike rs qs x h))))
 
   function_same : (rs qs : List Row) (x : Symbol) → AlikeRows rs qs → declared_function qs x ≡ declared_function rs x
   unfolding AlikeRows
