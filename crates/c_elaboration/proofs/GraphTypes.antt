@@ -1,35 +1,23 @@
 -- Device: the types of a typed unit have the layouts of the graph that they come from.
-use Rattle.std.proofs.Common.{◌≡◌, ℕ, zero, suc, ◌<◌, Bool, false, not, List, [], ◌∷◌, map, length, Option, Some, None, is_some, slice_get, refl, sym, ap, ◌∙◌, subst, arith}
+use Rattle.std.proofs.Common.{◌≡◌, ℕ, zero, suc, ◌<◌, Bool, false, List, [], ◌∷◌, map, length, Option, Some, None, is_some, slice_get, refl, sym, ap, ◌∙◌, subst, arith}
 use Rattle.std.proofs.Math.Path.{fun_ext}
 use Rattle.std.specs.Option.{option_map, option_and_then}
-use Rattle.cil_base.specs.declared.operators.BinOp.{BinOp}
-use Rattle.cil_base.specs.declared.operators.BinOp.TheVariants.{Sub}
-use Rattle.cil_base.specs.declared.operators.UnOp.{UnOp}
-use Rattle.cil_base.specs.declared.operators.UnOp.TheVariants.{Neg, Compl, Not}
-use Rattle.cil_base.specs.Arithmetic.{told}
-use Rattle.byte_mem.specs.declared.values.Value.{Value}
-use Rattle.byte_mem.specs.declared.values.Value.TheVariants.{Int}
-use Rattle.byte_mem.specs.Steps.{◌>>=◌}
-use Rattle.byte_mem.specs.Memory.{Memory}
-use Rattle.byte_mem.specs.Operator.{converted, truth, pointer_difference}
-use Rattle.execution.specs.Data.{Kind, Datum}
 use Rattle.type_graph.specs.declared.aggregates.AggKind.{AggKind}
 use Rattle.type_graph.specs.declared.aggregates.AggKind.TheVariants.{Struct, Union, Enum}
 use Rattle.type_graph.specs.declared.aggregates.Aggregate.{Aggregate}
 use Rattle.type_graph.specs.declared.aggregates.Member.{Member}
 use Rattle.type_graph.specs.declared.layout.Layout.{Layout}
 use Rattle.type_graph.specs.declared.nodes.Node.{Node}
-use Rattle.type_graph.specs.Shapes.{Shape, VoidType, IntType, PtrType, ArrayType, FuncType, AggType, shape}
+use Rattle.type_graph.specs.Shapes.{Shape, AggType, shape}
 use Rattle.type_graph.specs.Arena.{Graph, IsArena, members_of, rank}
 use Rattle.type_graph.specs.Layouts.{AggLayout, Placed, nothing_placed, placed_behind, placed_over, finished, placed_all, layout_in, member_in, members_layout, aggregate_in, whole_of, agg_at, agg_layout, offset}
 use Rattle.type_graph.proofs.ArenaLaws.{count_within}
 use Rattle.type_graph.proofs.LayoutLaws.{step_same, agg_layout_is, agg_layout_there}
 use Rattle.cil_tree.specs.Typing.{is_enum, names_enum}
-use Rattle.cil_semantics.specs.Values.{aggregate_kind, kind_in, size_in, scalar_kind, single_in, moved_value, summed_value, unary_value as cil_unary, pointers_value as cil_pointers, binary_value as cil_binary, cast_value as cil_cast}
+use Rattle.cil_semantics.specs.Values.{size_in}
 use Rattle.c_typing.specs.Types as typed
-use Rattle.c_semantics.specs.Values.{kind_of, kind_of_aggregate, unary_value, pointers_value, binary_value, cast_value}
 use Rattle.typed_semantics.specs.Units.{member_of, aggregate_of, types_of}
-use Rattle.c_elaboration.specs.GraphTypes.{TypesAreOfGraph, IsTaken, OperatorsOfGraph}
+use Rattle.c_elaboration.specs.GraphTypes.{TypesAreOfGraph}
 
 at_map : {A B : Type 0} (f : A → B) (xs : List A) (i : ℕ) → slice_get (map f xs) i ≡ option_map f (slice_get xs i)
 at_map f [] i = refl
@@ -142,23 +130,15 @@ sizes_same g w s =
     ap (λ (f : ℕ → Option Layout). option_map (λ (l : Layout). l.size) (layout_in g.abi f s))
     (fun_ext (λ a. whole_at (slice_get g.aggs a) (typed.aggregate_layout (types_of g) a) (agg_layout g a) (typed_alike g w a)))
 
-kinds_same : (g : Graph) → IsArena g → (s : Shape) → kind_of (types_of g) s ≡ kind_in g s
-kinds_same g w VoidType = refl
-kinds_same g w (IntType k) = refl
-kinds_same g w (PtrType q s) = refl
-kinds_same g w (ArrayType q s n) = refl
-kinds_same g w (FuncType r ss p v) = refl
-kinds_same g w (AggType a) =
-    ap (λ (o : Option typed.Aggregate). kind_of_aggregate (typed.enum_kind (option_map (λ (x : typed.Aggregate). x.kind) o)) (typed.size_in (types_of g) (AggType a))) (at_map (aggregate_of g.nodes) g.aggs a)
-    ∙ (ap (λ n. kind_of_aggregate (typed.enum_kind (option_map (λ (x : typed.Aggregate). x.kind) (option_map (aggregate_of g.nodes) (slice_get g.aggs a)))) n) (sizes_same g w (AggType a))
-    ∙ by (slice_get g.aggs a))
+enums_same : (g : Graph) (a : ℕ) → typed.is_integer (types_of g) (AggType a) ≡ names_enum g a
+enums_same g a = ap (λ (o : Option typed.Aggregate). is_some (typed.enum_kind (option_map (λ (x : typed.Aggregate). x.kind) o))) (at_map (aggregate_of g.nodes) g.aggs a) ∙ by (slice_get g.aggs a)
   where
-    kind : (k : AggKind) → kind_of_aggregate (typed.enum_kind (Some k)) (size_in g (AggType a)) ≡ aggregate_kind (is_enum k) g a
+    kind : (k : AggKind) → is_some (typed.enum_kind (Some k)) ≡ is_enum k
     kind Struct = refl
     kind Union = refl
     kind Enum = refl
 
-    by : (o : Option Aggregate) → kind_of_aggregate (typed.enum_kind (option_map (λ (x : typed.Aggregate). x.kind) (option_map (aggregate_of g.nodes) o))) (size_in g (AggType a)) ≡ aggregate_kind (elim o [ None ↦ false | Some x ↦ is_enum x.kind ]) g a
+    by : (o : Option Aggregate) → is_some (typed.enum_kind (option_map (λ (x : typed.Aggregate). x.kind) (option_map (aggregate_of g.nodes) o))) ≡ elim o [ None ↦ false | Some x ↦ is_enum x.kind ]
     by None = refl
     by (Some x) = kind x.kind
 
@@ -171,55 +151,4 @@ offsets_same g w a i h = ap (λ (o : Option AggLayout). option_and_then (λ (l :
     by (Some y) o u e h = e.all h
 
 pub types_of_graph : TypesAreOfGraph
-types_of_graph g w = record { sizes = sizes_same g w; kinds = kinds_same g w; offsets = offsets_same g w }
-
--- operators and conversions
-
-module _ (g : Graph) (w : IsArena g) where
-  unary_same : (m : Memory) (op : UnOp) (s : Shape) (v : Value) → IsTaken s → unary_value (types_of g) m op s v ≡ cil_unary g m op s v
-  unary_same m Not s v h = ap (λ (k : Option Kind). (k >>= scalar_kind) >>= λ t. truth m t v >>= λ holds. Some (Int (told (not holds)))) (kinds_same g w s)
-  unary_same m Neg (IntType k) v h = refl
-  unary_same m Compl (IntType k) v h = refl
-  unary_same m Neg (PtrType q s) v h = refl
-  unary_same m Compl (PtrType q s) v h = refl
-  unary_same m op VoidType v h = absurd h
-  unary_same m op (ArrayType q s n) v h = absurd h
-  unary_same m op (FuncType r ss p x) v h = absurd h
-  unary_same m op (AggType i) v h = absurd h
-
-  pointers_same : (m : Memory) (op : BinOp) (s : Shape) (v u : Value) → pointers_value (types_of g) m op s v u ≡ cil_pointers g m op s v u
-  pointers_same m Sub s v u = ap (λ (n : Option ℕ). n >>= pointer_difference g.abi m v u) (sizes_same g w s)
-  pointers_same m op s v u = refl
-
-  binary_same : (m : Memory) (op : BinOp) (s r : Shape) (v u : Value) → IsTaken s → IsTaken r → binary_value (types_of g) m op s r v u ≡ cil_binary g m op s r v u
-  binary_same m op (IntType k) (IntType j) v u h i = refl
-  binary_same m op (PtrType q s) (IntType j) v u h i = ap (λ (n : Option ℕ). n >>= moved_value m op v u) (sizes_same g w s)
-  binary_same m op (IntType k) (PtrType q s) v u h i = ap (λ (n : Option ℕ). n >>= summed_value m op v u) (sizes_same g w s)
-  binary_same m op (PtrType p s) (PtrType q t) v u h i = pointers_same m op s v u
-  binary_same m op VoidType r v u h i = absurd h
-  binary_same m op (ArrayType q s n) r v u h i = absurd h
-  binary_same m op (FuncType t ss p x) r v u h i = absurd h
-  binary_same m op (AggType j) r v u h i = absurd h
-  binary_same m op (IntType k) VoidType v u h i = absurd i
-  binary_same m op (IntType k) (ArrayType q s n) v u h i = absurd i
-  binary_same m op (IntType k) (FuncType t ss p x) v u h i = absurd i
-  binary_same m op (IntType k) (AggType j) v u h i = absurd i
-  binary_same m op (PtrType o z) VoidType v u h i = absurd i
-  binary_same m op (PtrType o z) (ArrayType q s n) v u h i = absurd i
-  binary_same m op (PtrType o z) (FuncType t ss p x) v u h i = absurd i
-  binary_same m op (PtrType o z) (AggType j) v u h i = absurd i
-
-  converts : Shape → Datum → Option Kind → Option Value
-  converts to d k = (k >>= scalar_kind) >>= λ t. single_in d >>= λ v. Some (converted g.abi t v)
-
-  cast_same : (to : Shape) (d : Datum) → cast_value (types_of g) to d ≡ cil_cast g to d
-  unfolding converts
-  cast_same VoidType d = refl
-  cast_same (IntType k) d = refl
-  cast_same (PtrType q s) d = refl
-  cast_same (ArrayType q s n) d = refl
-  cast_same (FuncType r ss p v) d = refl
-  cast_same (AggType i) d = ap (converts (AggType i) d) (kinds_same g w (AggType i))
-
-pub operators_of_graph : OperatorsOfGraph
-operators_of_graph g w = record { unary = unary_same g w; binary = binary_same g w; cast = cast_same g w }
+types_of_graph g w = record { sizes = λ i. record { abi = g.abi; size = λ s. sizes_same g w s i; is_enum = λ a. enums_same g a i }; offsets = offsets_same g w }

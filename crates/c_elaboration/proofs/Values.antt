@@ -1,18 +1,16 @@
 -- Device: kinds and operators do not look at the qualifiers of what is pointed to.
-use Rattle.std.proofs.Common.{◌≡◌, Option, Some, None, refl, ap, ◌∙◌}
+use Rattle.std.proofs.Common.{◌≡◌, Option, refl, ap, ◌∙◌}
 use Rattle.std.proofs.Math.Path.{fun_ext}
 use Rattle.cil_base.specs.declared.operators.BinOp.{BinOp}
 use Rattle.cil_base.specs.declared.operators.UnOp.{UnOp}
 use Rattle.cil_base.specs.declared.operators.UnOp.TheVariants.{Neg, Compl, Not}
 use Rattle.byte_mem.specs.declared.values.Value.{Value}
 use Rattle.byte_mem.specs.Memory.{Memory}
-use Rattle.type_graph.specs.declared.aggregates.AggKind.{AggKind}
-use Rattle.type_graph.specs.declared.aggregates.AggKind.TheVariants.{Struct, Union, Enum}
 use Rattle.type_graph.specs.declared.nodes.Quals.{Quals}
 use Rattle.type_graph.specs.Shapes.{Shape, VoidType, IntType, PtrType, ArrayType, FuncType, AggType}
 use Rattle.execution.specs.Data.{Datum, Single}
-use Rattle.c_typing.specs.Types.{Types, aggregate_kind}
-use Rattle.cil_semantics.specs.Values.{single_in}
+use Rattle.c_typing.specs.Types.{Types}
+use Rattle.typed_values.specs.Values.{single_in}
 use Rattle.c_semantics.specs.Values.{kind_of, binary_value}
 use Rattle.c_semantics.specs.Places.{Activation}
 use Rattle.c_semantics.specs.Operations.{Action, ◌>>=◌, gives, known, seen, operated, computed}
@@ -35,13 +33,7 @@ left_two t m op v w p q u (IntType k) = refl
 left_two t m op v w p q u (PtrType o s) = refl
 left_two t m op v w p q u (ArrayType o s n) = refl
 left_two t m op v w p q u (FuncType s ss o b) = refl
-left_two t m op v w p q u (AggType i) = by (aggregate_kind t i) refl
-  where
-    by : (o : Option AggKind) → aggregate_kind t i ≡ o → binary_value t m op (PtrType p u) (AggType i) v w ≡ binary_value t m op (PtrType q u) (AggType i) v w
-    by None e = rw e refl
-    by (Some Struct) e = rw e refl
-    by (Some Union) e = rw e refl
-    by (Some Enum) e = rw e refl
+left_two t m op v w p q u (AggType i) = refl
 
 right_two : (t : Types) (m : Memory) (op : BinOp) (v w : Value) (p q : Quals) (u s : Shape) → binary_value t m op s (PtrType p u) v w ≡ binary_value t m op s (PtrType q u) v w
 right_two t m op v w p q u VoidType = refl
@@ -49,13 +41,7 @@ right_two t m op v w p q u (IntType k) = refl
 right_two t m op v w p q u (PtrType o s) = refl
 right_two t m op v w p q u (ArrayType o s n) = refl
 right_two t m op v w p q u (FuncType s ss o b) = refl
-right_two t m op v w p q u (AggType i) = by (aggregate_kind t i) refl
-  where
-    by : (o : Option AggKind) → aggregate_kind t i ≡ o → binary_value t m op (AggType i) (PtrType p u) v w ≡ binary_value t m op (AggType i) (PtrType q u) v w
-    by None e = rw e refl
-    by (Some Struct) e = rw e refl
-    by (Some Union) e = rw e refl
-    by (Some Enum) e = rw e refl
+right_two t m op v w p q u (AggType i) = refl
 
 by_values : (Memory → Value → Value → Option Value) → Datum → Datum → Action Datum
 by_values f d e = known (single_in d) >>= (λ v. known (single_in e) >>= (λ w. seen (λ m. f m v w) >>= (λ x. gives (Single x))))

@@ -1,7 +1,7 @@
 ghost use Rattle.execution.specs.Calls.{Enter};
 ghost use Rattle.c_tree.specs.Syntax.{ExprTree};
 ghost use Rattle.c_semantics.specs.Places.{Activation};
-ghost use Rattle.c_elaboration.specs.GraphTypes.{OperatorsOfGraph, TypesAreOfGraph};
+ghost use Rattle.c_elaboration.specs.GraphTypes.{TypesAreOfGraph};
 ghost use Rattle.c_elaboration.specs.Laws.{ExpressionsOfStatements, MeansItsSyntax};
 
 /// What an expression does (C11 6.5) is what the typed expression does that the walk makes of it: its value or place, the
@@ -16,14 +16,9 @@ pub fn typed_parts_of_statements_mean_their_syntax()
     ensures { (a : Activation) (enter : Enter) → ExpressionsOfStatements a enter }
 {}
 
-/// The types of a typed unit that come from a graph have the sizes and kinds that the graph gives them, and their
-/// structures and unions the offsets (C11 6.5.3.4, 6.7.2.1p15 to p18).
+/// The types of a typed unit that come from a graph have the data model, the sizes and the enumerated types of the graph,
+/// which is all that operators, conversions and tests ask of them, and their structures and unions the offsets (C11
+/// 6.5.3.4, 6.7.2.1p15 to p18).
 pub fn types_of_units_are_those_of_their_graph()
     ensures { TypesAreOfGraph }
-{}
-
-/// Over types that come from a graph, the operators on integers and pointers and all conversions give to typed units what
-/// they give to CIL (C11 6.3, 6.5).
-pub fn operators_of_units_are_those_of_their_graph()
-    ensures { OperatorsOfGraph }
 {}

@@ -3,11 +3,12 @@ use Rattle.std.proofs.Common.{ℕ, ◌<◌, ◌≤◌, Bool, true, false, List, 
 use Rattle.std.specs.Prelude.{ℤ}
 use Rattle.execution.specs.States.{State, Result, Goes, spend, last}
 use Rattle.execution.specs.Jumps.{Target, ToLabel, Entry, Signal, Normal, Broken, Jumped, Returned, Has, Goer, jumped, after, behind, jumping, spending, caught, seq_at, seq_from, chosen, if_from, case_for, broken_off, switch_ends, switched, switch_from, turned, turn_ends, turn, loop_from}
+use Rattle.execution.specs.Loops.{nowhere, is_continue, at_end, while_holds, asked, asked_first, started}
 use Rattle.execution.specs.Likeness.{Later, Same, Needs}
 use Rattle.execution.specs.Bounds.{cut_at}
 use Rattle.execution.proofs.Congruence.{later_trans, needs, bind_grows, turned_grows, spending_grows}
 use Rattle.execution.proofs.FixedPoint.{spend_tied}
-use Rattle.c_semantics.specs.Statements.{is_continue, at_end, while_holds, asked, asked_first, started, ended}
+use Rattle.c_semantics.specs.Statements.{ended}
 use Rattle.c_semantics.specs.Operations.{Action}
 use Rattle.c_semantics.proofs.Matched.{Matched, needs_two, gives_matched, bind_matched}
 
@@ -115,8 +116,8 @@ pub asked_first_m : {n more : ℕ} {base : List ℕ} (c c' : Action Bool) (a a' 
 asked_first_m c c' a a' k m None = asked_m c c' (a None) (a' None) k (m None)
 asked_first_m c c' a a' k m (Some t) = m (Some t)
 
-pub started_m : {n more : ℕ} {base : List ℕ} (go to : Action (Unit {0})) (a a' : Goer) → Matched n more base go to → MatchedGoer n more base a a' → MatchedGoer n more base (started go a) (started to a')
-started_m go to a a' k m None = bind_matched {go = go} {to = to} {next = λ u. a None} {also = λ u. a' None} k (λ u. m None)
+pub started_m : {n more : ℕ} {base : List ℕ} (go to a a' : Goer) → Matched n more base (go None) (to None) → MatchedGoer n more base a a' → MatchedGoer n more base (started go a) (started to a')
+started_m go to a a' k m None = behind_m nowhere (go None) (to None) (λ e. a None) (λ e. a' None) k (λ e. m None)
 started_m go to a a' k m (Some t) = m (Some t)
 
 pub ended_m : {n more : ℕ} {base : List ℕ} (go to : Action (Unit {0})) → Matched n more base go to → Matched n more base (ended go) (ended to)

@@ -24,7 +24,7 @@ use Rattle.c_typing.specs.Initialisers.{Path}
 use Rattle.std.specs.Prelude.{ℤ, pos}
 use Rattle.c_typing.specs.Operators.{Sides}
 use Rattle.c_typing.specs.Scopes.{Denotes, TypedefName, EnumerationConstant, Automatic, Static}
-use Rattle.cil_semantics.specs.Values.{single_in}
+use Rattle.typed_values.specs.Values.{single_in}
 use Rattle.c_semantics.specs.Values.{as_type, unary_value, binary_value, value_at, stored, zeroed, filled, part_from, object_pointer, is_const}
 use Rattle.c_semantics.specs.Places.{Activation, part_of, Here, local_of, literal_number}
 use Rattle.c_semantics.specs.Operations.{Action, Seen, At, Is, is_value, valued, placed, used, taken, pointed, tested, indirect, operated, computed, subscripted, decided, logical, chosen, array_object, member, along, assigned, compound, operator_of, result_of, stepped, called, unit_object, local_object, Object, literal_object, part_changes, initialised, Rest, zeroes, steps_of, stores_value, next_step}

@@ -8,6 +8,7 @@ use Rattle.byte_mem.specs.declared.values.Value.{Value}
 use Rattle.execution.specs.States.{State, Result, Goes, last}
 use Rattle.execution.specs.Data.{Datum, Automatic}
 use Rattle.execution.specs.Jumps.{ToLabel, ToContinue, Entry, Signal, Normal, Broken, Jumped, Returned, Goer}
+use Rattle.execution.specs.Loops.{nowhere, at_end, asked, asked_first, Entered, Body, Iterations}
 use Rattle.execution.specs.Calls.{Enter, scoped}
 use Rattle.execution.specs.Likeness.{Later, Needs}
 use Rattle.execution.specs.Bounds.{cut_at}
@@ -23,11 +24,11 @@ use Rattle.c_typing.specs.Specifiers.{Position, InBlock, InFor}
 use Rattle.c_typing.specs.Steps.{Base, base_with}
 use Rattle.c_typing.specs.Walk.{expr, named}
 use Rattle.c_typing.specs.Statements.{in_a_loop, labels, number_or_none, default_label, maybe, effect, test, selector, start_of, statement, declarator, is_alone}
-use Rattle.cil_semantics.specs.Values.{single_in}
+use Rattle.typed_values.specs.Values.{single_in}
 use Rattle.c_semantics.specs.Places.{Activation, Here, entered, local_of, objects_between, arrays_between, in_block}
 use Rattle.c_semantics.specs.Walks.{declared, item, substatement, case_label}
 use Rattle.c_semantics.specs.Operations.{Action}
-use Rattle.c_semantics.specs.Statements.{made_anew, object_of, initialises, arrives, c_declarators, c_declaration, ended, c_effect, c_maybe_effect, c_test, c_maybe_test, c_selector, c_return, c_start, within_loop, opens, labelled, cased, defaulted, has, has_in, has_item, has_inside, passing, nowhere, nothing, at_end, asked, asked_first, Part, Entered, Substatement, Turns, Again, is_of_block, is_item_of_block, objects_if, block_items, block, own_block, whole, sub_of, for_turns, c_entered, c_items, c_item, c_part}
+use Rattle.c_semantics.specs.Statements.{made_anew, object_of, initialises, arrives, c_declarators, c_declaration, ended, c_effect, c_maybe_effect, c_test, c_maybe_test, c_selector, c_return, c_start, within_loop, opens, labelled, cased, defaulted, has, has_in, has_item, has_inside, passing, nothing, Part, Again, is_of_block, is_item_of_block, objects_if, block_items, block, own_block, whole, sub_of, iterated, c_entered, c_items, c_item, c_part}
 use Rattle.c_semantics.proofs.Matched.{Matched, Ready, gives_matched, undefined_matched, known_matched, changes_matched, bind_matched, leaves_matched, scoped_matched}
 use Rattle.c_semantics.proofs.Nodes.{used_m, taken_m, tested_m, initialised_m, steps_of_m}
 use Rattle.c_semantics.proofs.ExpressionsMatch.{parts_m, operand_m, typed_m, maybe_m, stmts_m, exp_m, init_m}
@@ -146,17 +147,17 @@ now {n} w = w.calls n (omega arith)
 sub_m : {n more : ℕ} {base : List ℕ} (a : Activation) {enter also : Enter} {again once : Again} → Within n more base enter also again once → (x : StmtTree) (go to : Here → Goer) → ((k : Here) → MatchedGoer n more base (go k) (to k)) → (h : Here)
     → MatchedGoer n more base (sub_of a again x go h) (sub_of a once x to h)
 sub_m a {again = again} {once = once} w x go to m h en = stmts_m (statement h.place x) h (λ ss k. in_block_m a (objects_if (is_of_block x) a h k) (arrays_between a h k) _ _
-    (caught_m (has x h) (whole a go x h en) (whole a to x h en) (again (Substatement x h)) (once (Substatement x h)) (whole_m a x go to m h en) (λ i l. w.behind i l (Substatement x h)) (w.grows (Substatement x h))))
+    (caught_m (has x h) (whole a go x h en) (whole a to x h en) (again (Body x h)) (once (Body x h)) (whole_m a x go to m h en) (λ i l. w.behind i l (Body x h)) (w.grows (Body x h))))
 
-for_turns_m : {n more : ℕ} {base : List ℕ} (a : Activation) {enter also : Enter} {again once : Again} → Within n more base enter also again once → (c step : Option ExprTree) (y : StmtTree) (go to : Here → Goer)
-    → ((m : ℕ) → m ≤ n → (k : Here) → MatchedGoer m more base (go k) (to k)) → (h : Here) → MatchedGoer n more base (for_turns a enter again c step y go h) (for_turns a also once c step y to h)
-for_turns_m a {enter} {also} {again} {once} w c step y go to m h en = maybe_m (maybe test c) h (λ e k. maybe_m (maybe effect step) k (λ f j.
-    loop_m (again (Turns c step y h) None) (once (Turns c step y h) None)
+iterated_m : {n more : ℕ} {base : List ℕ} (a : Activation) {enter also : Enter} {again once : Again} → Within n more base enter also again once → (c step : Option ExprTree) (y : StmtTree) (go to : Here → Goer)
+    → ((m : ℕ) → m ≤ n → (k : Here) → MatchedGoer m more base (go k) (to k)) → (h : Here) → MatchedGoer n more base (iterated a enter again c step y go h) (iterated a also once c step y to h)
+iterated_m a {enter} {also} {again} {once} w c step y go to m h en = maybe_m (maybe test c) h (λ e k. maybe_m (maybe effect step) k (λ f j.
+    loop_m (again (Iterations c step y h) None) (once (Iterations c step y h) None)
     (asked_first (c_maybe_test a enter c h) (at_end (ended (c_maybe_effect a enter step k)) (go (entered (within_loop j))))) (asked_first (c_maybe_test a also c h) (at_end (ended (c_maybe_effect a also step k)) (to (entered (within_loop j)))))
-    (λ i l. w.behind i l (Turns c step y h) None)
+    (λ i l. w.behind i l (Iterations c step y h) None)
     (λ i l. asked_first_m (c_maybe_test a enter c h) (c_maybe_test a also c h) (at_end (ended (c_maybe_effect a enter step k)) (go (entered (within_loop j)))) (at_end (ended (c_maybe_effect a also step k)) (to (entered (within_loop j))))
     (maybe_test_m a (w.calls i l) c h) (at_end_m (ended (c_maybe_effect a enter step k)) (ended (c_maybe_effect a also step k)) (go (entered (within_loop j))) (to (entered (within_loop j))) (ended_m (c_maybe_effect a enter step k) (c_maybe_effect a also step k) (maybe_effect_m a (w.calls i l) step k)) (m i l (entered (within_loop j)))))
-    (w.grows (Turns c step y h) None) en))
+    (w.grows (Iterations c step y h) None) en))
 
 mutual
   pub entered_m : {more : ℕ} {base : List ℕ} (a : Activation) {enter also : Enter} {again once : Again} (x : StmtTree) (n : ℕ) → Within n more base enter also again once → (h : Here) → MatchedGoer n more base (c_entered a enter again x h) (c_entered a also once x h)
@@ -195,8 +196,8 @@ mutual
       (w.grows (Entered (Do at y c) h) None) en)
       (λ i l. w.behind i l (Entered (Do at y c) h)) (w.grows (Entered (Do at y c) h)))
   entered_m a {enter} {also} {again} {once} (For at start c step y) n w h en = stmts_m (start_of start) h (λ ss k. caught_m (has (For at start c step y) h) _ _ (again (Entered (For at start c step y) h)) (once (Entered (For at start c step y) h))
-      (started_m (c_start a enter start h) (c_start a also start h) (for_turns a enter again c step y (sub_of a again y (c_entered a enter again y)) k) (for_turns a also once c step y (sub_of a once y (c_entered a also once y)) k)
-      (start_m a (now w) start h) (for_turns_m a w c step y (sub_of a again y (c_entered a enter again y)) (sub_of a once y (c_entered a also once y))
+      (started_m (λ e. ended (c_start a enter start h)) (λ e. ended (c_start a also start h)) (iterated a enter again c step y (sub_of a again y (c_entered a enter again y)) k) (iterated a also once c step y (sub_of a once y (c_entered a also once y)) k)
+      (ended_m (c_start a enter start h) (c_start a also start h) (start_m a (now w) start h)) (iterated_m a w c step y (sub_of a again y (c_entered a enter again y)) (sub_of a once y (c_entered a also once y))
       (λ i l j. sub_m a (lower i l w) y (c_entered a enter again y) (c_entered a also once y) (λ q. entered_m a y i (lower i l w) q) j) k) en)
       (λ i l. w.behind i l (Entered (For at start c step y) h)) (w.grows (Entered (For at start c step y) h)))
   entered_m a (Goto at x) n w h en = gives_matched (Jumped (ToLabel (number_or_none h.place x)))
@@ -215,7 +216,7 @@ mutual
 -- one step of the meaning
 pub part_m : {more : ℕ} {base : List ℕ} (a : Activation) {enter also : Enter} {again once : Again} (x : Part) (n : ℕ) → Within n more base enter also again once → MatchedGoer n more base (c_part a enter again x) (c_part a also once x)
 part_m a (Entered x h) n w en = entered_m a x n w h en
-part_m a {enter} {also} {again} {once} (Substatement x h) n w en = caught_m (has x h) (whole a (c_entered a enter again x) x h en) (whole a (c_entered a also once x) x h en) (again (Substatement x h)) (once (Substatement x h))
-    (whole_m a x (c_entered a enter again x) (c_entered a also once x) (λ j. entered_m a x n w j) h en) (λ i l. w.behind i l (Substatement x h)) (w.grows (Substatement x h))
-part_m a {enter} {also} {again} {once} (Turns c step y h) n w en = for_turns_m a w c step y (sub_of a again y (c_entered a enter again y)) (sub_of a once y (c_entered a also once y))
+part_m a {enter} {also} {again} {once} (Body x h) n w en = caught_m (has x h) (whole a (c_entered a enter again x) x h en) (whole a (c_entered a also once x) x h en) (again (Body x h)) (once (Body x h))
+    (whole_m a x (c_entered a enter again x) (c_entered a also once x) (λ j. entered_m a x n w j) h en) (λ i l. w.behind i l (Body x h)) (w.grows (Body x h))
+part_m a {enter} {also} {again} {once} (Iterations c step y h) n w en = iterated_m a w c step y (sub_of a again y (c_entered a enter again y)) (sub_of a once y (c_entered a also once y))
     (λ i l j. sub_m a (lower i l w) y (c_entered a enter again y) (c_entered a also once y) (λ q. entered_m a y i (lower i l w) q) j) h en

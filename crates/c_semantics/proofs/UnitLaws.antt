@@ -8,6 +8,7 @@ use Rattle.type_graph.specs.Shapes.{Shape, VoidType, IntType, PtrType, ArrayType
 use Rattle.execution.specs.States.{with_memory}
 use Rattle.execution.specs.Data.{Datum}
 use Rattle.execution.specs.Unrolling.{meaning}
+use Rattle.execution.specs.Loops.{Entered}
 use Rattle.execution.specs.Calls.{Enter, Meaning, Object, Code, Host, calls}
 use Rattle.execution.specs.Linking.{Linkable, linked}
 use Rattle.execution.specs.Likeness.{Needs}
@@ -22,7 +23,7 @@ use Rattle.c_typing.specs.Types.{Types, any_of}
 use Rattle.c_typing.specs.Scopes.{Entity, Env, Found, Good, Bad}
 use Rattle.c_typing.specs.Faults.{walked, start_env}
 use Rattle.c_semantics.specs.Places.{Activation}
-use Rattle.c_semantics.specs.Statements.{Entered, part_step, c_meaning}
+use Rattle.c_semantics.specs.Statements.{part_step, c_meaning}
 use Rattle.c_semantics.specs.Units.{Source, sources, protect_parameters, activation, body_meaning, function_meaning, zeros, image, object, source_of, is_main, Translated, definition_meaning, linkables_from, linkables_of, linkables}
 use Rattle.c_semantics.specs.Literals.{literals_in_unit}
 use Rattle.c_semantics.proofs.Matched.{Matched, memory_matched, bind_matched}

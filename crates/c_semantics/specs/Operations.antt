@@ -26,7 +26,7 @@ use Rattle.c_typing.specs.Evaluation.{decided_by}
 use Rattle.c_typing.specs.Initialisers.{Path}
 use Rattle.c_typing.specs.Nodes.{int_shape}
 use Rattle.c_typing.specs.Operators.{Sides}
-use Rattle.cil_semantics.specs.Values.{single_in}
+use Rattle.typed_values.specs.Values.{single_in}
 use Rattle.c_semantics.specs.Values.{kind_of, as_type, unary_value, binary_value, holds_of, value_at, member_at, member_value, around_member, part_from, is_const, stored, zeroed, filled, object_pointer}
 use Rattle.c_semantics.specs.Places.{Activation, Here, part_of, local_of, literal_number}
 

@@ -7,7 +7,8 @@ use Rattle.byte_mem.specs.Operator.{number_in}
 use Rattle.execution.specs.States.{State, Result, Goes, Undefined, bind}
 use Rattle.execution.specs.Unrolling.{Step, meaning}
 use Rattle.execution.specs.Data.{Automatic}
-use Rattle.execution.specs.Jumps.{Target, ToLabel, ToCase, ToDefault, ToContinue, Entry, Signal, Normal, Broken, Jumped, Returned, Has, Goer, behind, caught, seq_from, if_from, switch_from, loop_from}
+use Rattle.execution.specs.Jumps.{Target, ToLabel, ToCase, ToDefault, ToContinue, Entry, Signal, Normal, Broken, Jumped, Returned, Has, Goer, caught, seq_from, if_from, switch_from, loop_from}
+use Rattle.execution.specs.Loops.{nowhere, at_end, asked, asked_first, started, PartOf, Entered, Body, Iterations}
 use Rattle.execution.specs.Calls.{Enter}
 use Rattle.typed_tree.specs.Tree.{Typed, Inits}
 use Rattle.typed_tree.specs.Statements.{Stmt, Declare, Case as When, Expr as AnExpression, Block as ABlock, If as AnIf, Switch as ASwitch, While as AWhile, Do as ADo, For as AFor, Label as ALabel, Goto as AGoto, Break as ABreak, Continue as AContinue, Return as AReturn, Default as ADefault}
@@ -25,9 +26,9 @@ use Rattle.c_semantics.specs.Walks.{declared, item, substatement, case_label}
 use Rattle.c_semantics.specs.Operations.{Action, ◌>>=◌, gives, known, changes, used, taken, tested, single, Object, initialised, steps_of}
 use Rattle.c_semantics.specs.Expressions.{c_exp, c_init}
 
--- declarations (6.7, 6.2.4p6)
+-- declarations (6.7, 6.2.4p6, 6.8p3)
 
--- the bytes of an object become unknown where its declaration without an initialiser is reached
+-- the bytes of an object become unknown where its declaration without an initialiser is reached (6.2.4p6, 6.8p3)
 abbrev pub made_anew : Activation → ℕ → LocalObject → Action (Unit {0})
 made_anew a n l = do
   size ← known (size_in a.types l.shape)
@@ -65,6 +66,7 @@ arrives a enter ss b x (ABreak ∷ more) h k = gives tt
 arrives a enter ss b x (AContinue ∷ more) h k = gives tt
 arrives a enter ss b x (AReturn e ∷ more) h k = gives tt
 
+-- declarators in the order in which they appear (6.8p3)
 abbrev pub c_declarators : Activation → Enter → SpecifierTrees → Base → List (DeclaratorTree × Option InitTree) → Here → State → Result (Unit {0})
 c_declarators a enter ss b [] h s = Goes tt s
 c_declarators a enter ss b (x ∷ xs) h s = with_stmts undefined (declarator ss b x) h (λ ds k. do
@@ -133,12 +135,6 @@ is_label (ToLabel n) = true
 is_label (ToCase v) = false
 is_label ToDefault = false
 is_label ToContinue = false
-
-abbrev pub is_continue : Target → Bool
-is_continue (ToLabel n) = false
-is_continue (ToCase v) = false
-is_continue ToDefault = false
-is_continue ToContinue = true
 
 abbrev pub is_case_of : ℤ → Stmt → Bool
 is_case_of v (When kind w) = int_eq v w
@@ -257,42 +253,15 @@ abbrev pub passing : (Target → Bool) → Entry → Entry
 passing reached None = None
 passing reached (Some t) = elim (reached t) [ true ↦ None | false ↦ Some t ]
 
--- what there is nothing of
-abbrev pub nowhere : Has
-nowhere t = false
-
+-- a substatement that is not there
 abbrev pub nothing : Goer
 nothing en s = Goes Normal s
 
--- loops (6.8.5): what stands at the end of a body is reached by `continue` too (6.8.6.2p2)
-abbrev pub at_end : (State → Result Signal) → Goer → Goer
-at_end next body en s = behind is_continue (body en s) (λ e. next)
-
--- a condition that does not hold ends the loop as a break does
-abbrev pub while_holds : (State → Result Signal) → Bool → State → Result Signal
-while_holds go true s = go s
-while_holds go false s = Goes Broken s
-
-abbrev pub asked : (State → Result Bool) → (State → Result Signal) → State → Result Signal
-asked condition go s = bind (condition s) (while_holds go)
-
--- a turn of `while` and `for` evaluates the condition first, if it is not entered by a jump
-abbrev pub asked_first : (State → Result Bool) → Goer → Goer
-asked_first condition body None s = asked condition (body None) s
-asked_first condition body (Some t) s = body (Some t) s
-
--- the start of a `for` is evaluated once, if the loop is not entered by a jump (6.8.5.3p1)
-abbrev pub started : Action (Unit {0}) → Goer → Goer
-started start loop None s = bind (start s) (λ u. loop None)
-started start loop (Some t) s = loop (Some t) s
-
 -- blocks (6.8.2, 6.8.4p3, 6.8.5p5)
 
--- what of a function may be entered again behind a spent unit: the block that a statement is, or the one that a substatement is, both being entered already; the turns of a `for`
-pub data Part : Type 0 where
-  Entered : (x : StmtTree) (h : Here) → Part
-  Substatement : (x : StmtTree) (h : Here) → Part
-  Turns : (condition step : Option ExprTree) (body : StmtTree) (h : Here) → Part
+-- what of a function may be entered again behind a spent unit: a statement, a substatement, whose scope is open, or a `for` behind its start
+abbrev pub Part : Type 0
+Part = PartOf StmtTree StmtTree ExprTree Here
 
 abbrev pub Again : Type 0
 Again = Part → Goer
@@ -334,7 +303,7 @@ block a is h go s = block_items a is h (λ objects end. in_block a objects (arra
 -- a substatement is a block (6.8.4p3, 6.8.5p5)
 abbrev pub substatement_block : Activation → (Here → Goer) → Again → StmtTree → Here → Goer
 substatement_block a go again x h en s = with_stmts undefined (statement h.place x) h (λ ss k.
-    in_block a (objects_if (is_of_block x) a h k) (arrays_between a h k) (λ t. caught (has x h) (go h en t) (again (Substatement x h)))) s
+    in_block a (objects_if (is_of_block x) a h k) (arrays_between a h k) (λ t. caught (has x h) (go h en t) (again (Body x h)))) s
 
 -- a selection or iteration statement is a block, whose objects are those of its own expressions and declarations; the parts that stand in it have theirs
 abbrev pub own_block : Activation → Here → Here → (State → Result Signal) → State → Result Signal
@@ -363,10 +332,10 @@ whole a go (Return at e) h en s = go h en s
 abbrev pub sub_of : Activation → Again → StmtTree → (Here → Goer) → Here → Goer
 sub_of a again y go h = substatement_block a (whole a go y) again y h
 
--- the turns of a `for`, where its start is behind; `body` is what its substatement does at a place
-abbrev pub for_turns : Activation → Enter → Again → Option ExprTree → Option ExprTree → StmtTree → (Here → Goer) → Here → Goer
-for_turns a enter again c step y body h en s = with_maybe (maybe test c) h (λ e k. with_maybe (maybe effect step) k (λ f j.
-    loop_from (again (Turns c step y h) None) (asked_first (c_maybe_test a enter c h) (at_end (ended (c_maybe_effect a enter step k)) (body (entered (within_loop j))))) en)) s
+-- the iterations of a `for`, where its start is behind; `body` is what its substatement does at a place
+abbrev pub iterated : Activation → Enter → Again → Option ExprTree → Option ExprTree → StmtTree → (Here → Goer) → Here → Goer
+iterated a enter again c step y body h en s = with_maybe (maybe test c) h (λ e k. with_maybe (maybe effect step) k (λ f j.
+    loop_from (again (Iterations c step y h) None) (asked_first (c_maybe_test a enter c h) (at_end (ended (c_maybe_effect a enter step k)) (body (entered (within_loop j))))) en)) s
 
 abbrev mutual
   -- what a statement does from an entry, given what calls do and what comes behind a spent unit; if it is a block, the block is entered already
@@ -395,7 +364,7 @@ abbrev mutual
       (loop_from (again (Entered (Do at y c) h) None) (at_end (asked (c_test a enter c k) (Goes Normal)) (sub_of a again y (c_entered a enter again y) (entered (within_loop h)))) en t)
       (again (Entered (Do at y c) h))) s
   c_entered a enter again (For at start c step y) h en s = with_stmts undefined (start_of start) h (λ ss k t.
-      caught (has (For at start c step y) h) (started (c_start a enter start h) (for_turns a enter again c step y (sub_of a again y (c_entered a enter again y)) k) en t) (again (Entered (For at start c step y) h))) s
+      caught (has (For at start c step y) h) (started (λ e. ended (c_start a enter start h)) (iterated a enter again c step y (sub_of a again y (c_entered a enter again y)) k) en t) (again (Entered (For at start c step y) h))) s
   c_entered a enter again (Goto at x) h en s = Goes (Jumped (ToLabel (number_or_none h.place x))) s
   c_entered a enter again (Continue at) h en s = Goes (Jumped ToContinue) s
   c_entered a enter again (Break at) h en s = Goes Broken s
@@ -412,8 +381,8 @@ abbrev mutual
 -- one step of the meaning: a part of a function from an entry
 abbrev pub c_part : Activation → Enter → Again → Part → Goer
 c_part a enter again (Entered x h) en s = c_entered a enter again x h en s
-c_part a enter again (Substatement x h) en s = caught (has x h) (whole a (c_entered a enter again x) x h en s) (again (Substatement x h))
-c_part a enter again (Turns c step y h) en s = for_turns a enter again c step y (sub_of a again y (c_entered a enter again y)) h en s
+c_part a enter again (Body x h) en s = caught (has x h) (whole a (c_entered a enter again x) x h en s) (again (Body x h))
+c_part a enter again (Iterations c step y h) en s = iterated a enter again c step y (sub_of a again y (c_entered a enter again y)) h en s
 
 -- a part of a function and where it is entered
 abbrev pub EnteredPart : Type 0

@@ -15,6 +15,7 @@ use Rattle.byte_mem.specs.Memory.{Memory, protect}
 use Rattle.type_graph.specs.Shapes.{Shape, VoidType, IntType, PtrType, ArrayType, FuncType, AggType}
 use Rattle.execution.specs.States.{State, with_memory, Result}
 use Rattle.execution.specs.Data.{Datum}
+use Rattle.execution.specs.Loops.{Entered}
 use Rattle.execution.specs.Calls.{Enter, Meaning, Object, Code, value_at_end, returns}
 use Rattle.execution.specs.Linking.{Linkable}
 use Rattle.execution.specs.Runs.{run, units_spent, finds_end}
@@ -26,12 +27,12 @@ use Rattle.c_typing.specs.Initialisers.{Path}
 use Rattle.c_typing.specs.Scopes.{Linkage, External, Internal, NoLinkage, Entity, Env, Found, Good, Bad}
 use Rattle.c_typing.specs.Statements.{labels_in_items}
 use Rattle.c_typing.specs.Faults.{external, walked, start_env, is_only_tentative}
-use Rattle.cil_semantics.specs.Runs.{constant_value, start_of}
+use Rattle.typed_values.specs.Units.{constant_value, start_of}
 use Rattle.c_semantics.specs.Values.{kind_of, scalar_of, kinds_of, part_from, is_const, known_bytes}
 use Rattle.c_semantics.specs.Places.{Activation, Here, local_of}
 use Rattle.c_semantics.specs.Walks.{opens_function}
 use Rattle.c_semantics.specs.Literals.{literals_in_unit}
-use Rattle.c_semantics.specs.Statements.{Entered, block, c_meaning}
+use Rattle.c_semantics.specs.Statements.{block, c_meaning}
 
 -- functions (6.9.1)
 

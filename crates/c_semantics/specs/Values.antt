@@ -1,94 +1,57 @@
--- Definition: values of C's types (C11 6.2.5, 6.3, 6.5): kinds, conversions, operators and parts, over the types of a translation unit; None is what is undefined.
-use Rattle.std.specs.Prelude.{ℕ, ◌+◌, ◌-◌, ◌*◌, Bool, true, false, not, List, [], ◌∷◌, ◌++◌, length, replicate, map, Option, Some, None, option_map, pos}
+-- Definition: values of C's types over those of a translation unit (C11 6.2.5, 6.3, 6.5): operators, lvalues and parts; None is what is undefined.
+use Rattle.std.specs.Prelude.{ℕ, ◌+◌, ◌-◌, ◌*◌, Bool, true, false, List, [], ◌∷◌, ◌++◌, length, replicate, map, Option, Some, None, option_map, pos}
 use Rattle.cil_base.specs.declared.kinds.Abi.{Abi}
-use Rattle.cil_base.specs.declared.kinds.IntKind.{IntKind}
 use Rattle.cil_base.specs.declared.operators.BinOp.{BinOp}
-use Rattle.cil_base.specs.declared.operators.BinOp.TheVariants.{Sub}
 use Rattle.cil_base.specs.declared.operators.UnOp.{UnOp}
-use Rattle.cil_base.specs.declared.operators.UnOp.TheVariants.{Neg, Compl, Not}
-use Rattle.cil_base.specs.Arithmetic.{told}
-use Rattle.type_graph.specs.Shapes.{Shape, Shapes, VoidType, IntType, PtrType, ArrayType, FuncType, AggType, NoTypes, MoreTypes}
+use Rattle.type_graph.specs.Shapes.{Shape, Shapes, VoidType, ArrayType, AggType}
 use Rattle.byte_mem.specs.declared.pointers.ObjName.{ObjName}
 use Rattle.byte_mem.specs.declared.values.Byte.{Byte}
 use Rattle.byte_mem.specs.declared.values.Byte.TheVariants.{Known, Unknown as Blank}
 use Rattle.byte_mem.specs.declared.values.Scalar.{Scalar}
-use Rattle.byte_mem.specs.declared.values.Scalar.TheVariants.{Int as OfKind, Ptr as OfPointer}
 use Rattle.byte_mem.specs.declared.values.Value.{Value}
-use Rattle.byte_mem.specs.declared.values.Value.TheVariants.{Int, Ptr, Unknown}
+use Rattle.byte_mem.specs.declared.values.Value.TheVariants.{Ptr, Unknown}
 use Rattle.byte_mem.specs.Steps.{◌>>=◌}
 use Rattle.byte_mem.specs.Scalar.{scalar_size, value_of}
 use Rattle.byte_mem.specs.Object.{part_at}
 use Rattle.byte_mem.specs.Memory.{Memory}
-use Rattle.byte_mem.specs.Operator.{converted, truth, compared, pointer_difference, member_place, computed, unary}
+use Rattle.byte_mem.specs.Operator.{member_place}
 use Rattle.execution.specs.Data.{Kind, OfVoid, OfScalar, OfAggregate, Datum, Single, Bytes, load_datum, store_datum, zero_from}
+use Rattle.typed_values.specs.Values as typed
+use Rattle.typed_values.specs.Values.{TypeSizes}
 use Rattle.typed_tree.specs.declared.initialisers.Step.{Step as PathStep}
 use Rattle.typed_tree.specs.declared.initialisers.Step.TheVariants.{Field, Index}
-use Rattle.c_typing.specs.Types.{CType, Types, pointee, kind_in, enum_kind, aggregate_kind, size_in, offset_in, has_constant}
+use Rattle.c_typing.specs.Types.{CType, Types, is_integer, size_in, offset_in, has_constant}
 use Rattle.c_typing.specs.Conversions.{alike, decays}
 use Rattle.c_typing.specs.Initialisers.{Path, part_of}
-use Rattle.cil_semantics.specs.Values.{scalar_kind, single_in, moved_value, summed_value}
 
--- kinds
+-- what operators ask of a unit's types
+abbrev pub sizes_of : Types → TypeSizes
+sizes_of t = record { abi = t.abi; size = size_in t; is_enum = λ a. is_integer t (AggType a) }
 
--- an enumerated type is an int (own), a structure or union has a size
-abbrev pub kind_of_aggregate : Option IntKind → Option ℕ → Option Kind
-kind_of_aggregate (Some kind) size = Some (OfScalar (OfKind kind))
-kind_of_aggregate None size = option_map OfAggregate size
-
--- the kind of a type, by which calls, loads and stores go; functions, arrays and what is incomplete have none, but for void
 abbrev pub kind_of : Types → Shape → Option Kind
-kind_of t VoidType = Some OfVoid
-kind_of t (IntType kind) = Some (OfScalar (OfKind kind))
-kind_of t (PtrType q s) = Some (OfScalar OfPointer)
-kind_of t (ArrayType q s bound) = None
-kind_of t (FuncType ret params proto variadic) = None
-kind_of t (AggType a) = kind_of_aggregate (enum_kind (aggregate_kind t a)) (size_in t (AggType a))
-
-abbrev pub scalar_of : Types → Shape → Option Scalar
-scalar_of t s = kind_of t s >>= scalar_kind
+kind_of t s = typed.kind_in (sizes_of t) s
 
 abbrev pub kinds_of : Types → Shapes → List (Option Kind)
-kinds_of t NoTypes = []
-kinds_of t (MoreTypes s ss) = kind_of t s ∷ kinds_of t ss
+kinds_of t params = typed.kinds_of (sizes_of t) params
 
--- conversions (6.3)
+abbrev pub scalar_of : Types → Shape → Option Scalar
+scalar_of t s = typed.scalar_in (sizes_of t) s
 
--- a cast to void uses nothing of the value (6.3.2.2)
 abbrev pub cast_value : Types → Shape → Datum → Option Value
-cast_value t VoidType d = Some Unknown
-cast_value t to d = scalar_of t to >>= λ k. single_in d >>= λ v. Some (converted t.abi k v)
+cast_value t to d = typed.cast_value (sizes_of t) to d
+
+abbrev pub unary_value : Types → Memory → UnOp → Shape → Value → Option Value
+unary_value t m op s v = typed.unary_value (sizes_of t) m op s v
+
+abbrev pub binary_value : Types → Memory → BinOp → Shape → Shape → Value → Value → Option Value
+binary_value t m op s r v w = typed.binary_value (sizes_of t) m op s r v w
+
+abbrev pub holds_of : Types → Memory → Shape → Datum → Option Bool
+holds_of t m s d = typed.holds_of (sizes_of t) m s d
 
 -- a value of one type as one of another; one of a compatible type stays as it is (6.3p2)
 abbrev pub as_type : Types → Shape → Shape → Datum → Option Datum
 as_type t from to d = elim (alike from to) [ true ↦ Some d | false ↦ option_map Single (cast_value t to d) ]
-
--- operators
-
--- `-` and `~` on a promoted operand, `!` compares with 0 (6.5.3.3)
-abbrev pub unary_value : Types → Memory → UnOp → Shape → Value → Option Value
-unary_value t m Neg s v = kind_in t s >>= λ k. unary Neg k v
-unary_value t m Compl s v = kind_in t s >>= λ k. unary Compl k v
-unary_value t m Not s v = scalar_of t s >>= λ k. truth m k v >>= λ holds. Some (Int (told (not holds)))
-
--- two pointers: a difference (6.5.6p9), an order or an equality (6.5.8p5, 6.5.9p6)
-abbrev pub pointers_value : Types → Memory → BinOp → Shape → Value → Value → Option Value
-pointers_value t m Sub s v w = size_in t s >>= pointer_difference t.abi m v w
-pointers_value t m op s v w = compared m op v w >>= λ holds. Some (Int (told holds))
-
--- a binary operator on values of the types to which its operands went (6.5.5 to 6.5.12)
-abbrev pub binary_value : Types → Memory → BinOp → Shape → Shape → Value → Value → Option Value
-binary_value t m op s r v w = by (kind_in t s) (kind_in t r) (pointee s) (pointee r)
-  where
-    by : Option IntKind → Option IntKind → Option CType → Option CType → Option Value
-    by (Some k) (Some j) p q = computed op k v w
-    by None (Some j) (Some p) q = size_in t p.shape >>= moved_value m op v w
-    by (Some k) None p (Some q) = size_in t q.shape >>= summed_value m op v w
-    by None None (Some p) (Some q) = pointers_value t m op p.shape v w
-    by _ _ _ _ = None
-
--- whether a value compares unequal to 0 (6.8.4.1p2, 6.5.13p3)
-abbrev pub holds_of : Types → Memory → Shape → Datum → Option Bool
-holds_of t m s d = scalar_of t s >>= λ k. single_in d >>= truth m k
 
 -- lvalues
 

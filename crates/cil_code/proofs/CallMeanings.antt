@@ -12,7 +12,8 @@ use Rattle.execution.specs.Data.{OfAggregate}
 use Rattle.cil_tree.specs.Tree.{Exp, Lval, Direct, Through}
 use Rattle.cil_tree.specs.Typing.{Scope, names_enum, pointed, global_type, type_of}
 use Rattle.cil_check.specs.Seen.{told, at}
-use Rattle.cil_semantics.specs.Values.{size_in, kind_in, aggregate_kind, pointer_at}
+use Rattle.typed_values.specs.Values.{aggregate_kind}
+use Rattle.cil_semantics.specs.Values.{size_in, kind_in, pointer_at}
 use Rattle.cil_semantics.specs.Statements.{result_type}
 use Rattle.cil_machine.specs.declared.terms.Term.{Address, Wrong as NoTerm}
 use Rattle.cil_machine.specs.declared.terms.Spot.{Entity as Global'}
@@ -27,13 +28,13 @@ use Rattle.cil_code.specs.Passing.{IsOperand}
 use Rattle.cil_code.specs.Calling.{kind_of, kind_from, IsReceived, IsCallee, AreOperands}
 
 pub enum_kind : (g : Graph) (t : Shape) (a : ℕ) → t ≡ AggType a → names_enum g a ≡ true → option_map kind_of (Some (OneScalar (OfKind int))) ≡ kind_in g t
-enum_kind g t a is h = sym (ap (kind_in g) is ∙ ap (λ b. aggregate_kind b g a) h)
+enum_kind g t a is h = sym (ap (kind_in g) is ∙ ap (λ b. aggregate_kind b (size_in g (AggType a))) h)
 
 pub sized_kind : (g : Graph) (t : Shape) (a n : ℕ) → t ≡ AggType a → names_enum g a ≡ false → Some n ≡ size_in g t → option_map kind_of (Some (OneSize n)) ≡ kind_in g t
-sized_kind g t a n is h size = ap (option_map OfAggregate) (size ∙ ap (size_in g) is) ∙ sym (ap (kind_in g) is ∙ ap (λ b. aggregate_kind b g a) h)
+sized_kind g t a n is h size = ap (option_map OfAggregate) (size ∙ ap (size_in g) is) ∙ sym (ap (kind_in g) is ∙ ap (λ b. aggregate_kind b (size_in g (AggType a))) h)
 
 pub sizeless_kind : (g : Graph) (t : Shape) (a : ℕ) → t ≡ AggType a → names_enum g a ≡ false → None ≡ size_in g t → None ≡ kind_in g t
-sizeless_kind g t a is h size = ap (option_map OfAggregate) (size ∙ ap (size_in g) is) ∙ sym (ap (kind_in g) is ∙ ap (λ b. aggregate_kind b g a) h)
+sizeless_kind g t a is h size = ap (option_map OfAggregate) (size ∙ ap (size_in g) is) ∙ sym (ap (kind_in g) is ∙ ap (λ b. aggregate_kind b (size_in g (AggType a))) h)
 
 then_is : {A B : Type 0} (f : A → Option B) (o : Option A) → option_and_then f o ≡ (o >>= f)
 then_is f None = refl

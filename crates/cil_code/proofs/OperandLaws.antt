@@ -20,7 +20,8 @@ use Rattle.cil_tree.specs.Tree.{Exp, Const, Value as ValueOf, Un, Bin, Cast, Add
 use Rattle.cil_tree.specs.Typing.{Scope, is_void, is_array, is_scalar, is_wide, same_shape, is_function, is_readable, read_type, unary_type, integer_type, moved_type, pointers_type, forward_type, backward_type, binary_type, cast_type, address_type, start_type, type_of, place_type, names_enum}
 use Rattle.cil_check.specs.declared.seen.Seen.{Seen}
 use Rattle.cil_check.specs.Seen.{seen_shape, told, at}
-use Rattle.cil_semantics.specs.Values.{Activation, size_in, kind_in, scalar_in, scalar_kind, aggregate_kind, single_in, unary_value, binary_value, cast_value, value, place}
+use Rattle.typed_values.specs.Values.{scalar_kind, aggregate_kind, single_in}
+use Rattle.cil_semantics.specs.Values.{Activation, size_in, kind_in, scalar_in, unary_value, binary_value, cast_value, value, place}
 use Rattle.cil_machine.specs.declared.terms.Term.{Term, Load}
 use Rattle.cil_machine.specs.declared.terms.Spot.{Spot}
 use Rattle.cil_machine.specs.declared.resolution.Typed.{Typed}
@@ -276,7 +277,7 @@ aggregate_is g (ArrayType q s bound) n full no_array apart size = absurd (cc)
 aggregate_is g (FuncType ret params proto variadic) n full no_array apart size = absurd (cc)
 aggregate_is g (AggType a) n full no_array apart size = by (names_enum g a) apart
   where
-    by : (b : Bool) → (aggregate_kind b g a >>= scalar_kind) ≡ None → aggregate_kind b g a ≡ Some (OfAggregate n)
+    by : (b : Bool) → (aggregate_kind b (size_in g (AggType a)) >>= scalar_kind) ≡ None → aggregate_kind b (size_in g (AggType a)) ≡ Some (OfAggregate n)
     by true apart = some-none _ apart
     by false apart = ap (option_map OfAggregate) size
 

@@ -17,6 +17,7 @@ use Rattle.cil_tree.specs.Tree.{Exp, Lval, Callee}
 use Rattle.cil_tree.specs.Typing.{Scope, is_void, is_type, is_scalar, type_of, place_type}
 use Rattle.cil_tree.specs.Bodies.{is_complete, has_type, set_fits, test_fits, switch_kind, callee_type, result_fits, called_fits, call_fits}
 use Rattle.cil_tree.proofs.ShapeEquality.{same_is_equal}
+use Rattle.typed_values.specs.Values.{single_in}
 use Rattle.cil_semantics.specs.Values.{Activation, abi_of, kind_in, scalar_in, size_in, value, scalar_value, place, holds_of}
 use Rattle.cil_semantics.specs.Statements.{kind_of_place, written, result_place, callee_value, result_kind, argument, arguments, kind_of_result}
 use Rattle.cil_control.specs.Remains.{Remains}
@@ -118,9 +119,16 @@ test_is c es e u t of q is scalar means = record {
   does = λ fit act enter end at i s.
       let type : scalar_type c e ≡ Some of = ap (λ o. o >>= scalar_in c.program.graph) is ∙ scalar in
       given_pure s (term_value c.program.graph.abi s.memory act of u >>= truth s.memory of) (holds_of (activation c es act) s.memory e) (λ h. at (place_by h (suc i) q))
-      (ap (λ o. o >>= truth s.memory of) (means.at of type s.memory act) ∙ ap (λ o. o >>= λ t. scalar_value (activation c es act) s.memory e >>= truth s.memory t) (sym type));
+      (ap (λ o. o >>= truth s.memory of) (means.at of type s.memory act)
+      ∙ (tested s.memory (value (activation c es act) s.memory e)
+      ∙ (ap (λ o. value (activation c es act) s.memory e >>= λ d. o >>= λ k. single_in d >>= truth s.memory k) (sym scalar)
+      ∙ ap (λ o. o >>= λ t. value (activation c es act) s.memory e >>= λ d. scalar_in c.program.graph t >>= λ k. single_in d >>= truth s.memory k) (sym is))));
   leads_on = λ n i h. h;
 }
+  where
+    tested : (m : Memory) (o : Option Datum) → ((o >>= single_in) >>= truth m of) ≡ (o >>= λ d. single_in d >>= truth m of)
+    tested m None = refl
+    tested m (Some d) = refl
 
 not_fit : {X : Type 0} (b : Bool) → b ≡ false → b ≡ true → X
 not_fit true e f = absurd (cc)

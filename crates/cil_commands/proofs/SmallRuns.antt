@@ -13,7 +13,8 @@ use Rattle.byte_mem.specs.declared.values.Value.TheVariants.{Int}
 use Rattle.byte_mem.specs.Steps.{◌>>=◌}
 use Rattle.byte_mem.specs.Memory.{Memory}
 use Rattle.execution.specs.Data.{Datum, Single}
-use Rattle.cil_semantics.specs.Values.{value, single_in, binary_value}
+use Rattle.typed_values.specs.Values.{single_in}
+use Rattle.cil_semantics.specs.Values.{value, binary_value}
 use Rattle.cil_semantics.specs.Runs.{RunCil as WholeRun, activation_of}
 use Rattle.cil_meaning.specs.Program.{Exp, Const, Bin, IsExp}
 use Rattle.cil_meaning.specs.Meaning.{value_of, RunCil}

@@ -17,7 +17,8 @@ use Rattle.execution.specs.Runs.{run, units_spent, finds_end}
 use Rattle.cil_tree.specs.Tree.{Block, Step, ToField, ToIndex, Item, Local, Body, Definition, Declared, Zeros, Image, Function, GlobalDecl, Program}
 use Rattle.cil_tree.specs.Globals.{Part, aggregate_of, member_part, element_part, path_part}
 use Rattle.cil_tree.specs.Programs.{SameProgram}
-use Rattle.cil_semantics.specs.Runs.{constant_value, item_written, with_item, with_items, zeros, object, start_of, kinds_of, with_object, objects_from, body_meaning, function_meaning, is_main, definition_meaning, global_meaning, has_function_type, is_tentative, linkable, linkables}
+use Rattle.typed_values.specs.Units.{constant_value, start_of}
+use Rattle.cil_semantics.specs.Runs.{item_written, with_item, with_items, zeros, object, kinds_of, with_object, objects_from, body_meaning, function_meaning, is_main, definition_meaning, global_meaning, has_function_type, is_tentative, linkable, linkables}
 use Rattle.cil_text.proofs.Alike.{alike, type_alike}
 use Rattle.cil_text.proofs.TypedAlike.{Equal, layout_alike}
 use Rattle.cil_equal.specs.Runs.{RunAlike}

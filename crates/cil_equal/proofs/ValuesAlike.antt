@@ -1,24 +1,23 @@
 -- Device: what expressions and places mean depends on nothing but what the equality of programs speaks of.
-use Rattle.std.proofs.Common.{◌≡◌, ℕ, Bool, true, false, not, slice_get, List, Some, option_map, refl, ap}
+use Rattle.std.proofs.Common.{◌≡◌, ℕ, slice_get, List, option_map, refl, ap}
 use Rattle.std.specs.Option.{option_and_then}
 use Rattle.cil_base.specs.declared.operators.BinOp.{BinOp}
-use Rattle.cil_base.specs.declared.operators.BinOp.TheVariants.{Sub}
 use Rattle.cil_base.specs.declared.operators.UnOp.{UnOp}
-use Rattle.cil_base.specs.declared.operators.UnOp.TheVariants.{Neg, Compl, Not}
-use Rattle.cil_base.specs.Arithmetic.{told}
 use Rattle.type_graph.specs.declared.layout.Layout.{Layout}
-use Rattle.type_graph.specs.Shapes.{Shape, VoidType, IntType, PtrType, ArrayType, FuncType, AggType}
+use Rattle.type_graph.specs.Shapes.{Shape}
 use Rattle.type_graph.specs.Layouts.{AggLayout, offset}
 use Rattle.byte_mem.specs.declared.values.Value.{Value}
-use Rattle.byte_mem.specs.declared.values.Value.TheVariants.{Int}
 use Rattle.byte_mem.specs.Steps.{◌>>=◌}
 use Rattle.byte_mem.specs.Memory.{Memory}
-use Rattle.byte_mem.specs.Operator.{converted, place_of, truth, pointer_difference, member_place, element_place}
-use Rattle.execution.specs.Data.{OfAggregate, Datum, Single, load_datum}
+use Rattle.byte_mem.specs.Operator.{place_of, member_place, element_place}
+use Rattle.execution.specs.Data.{Datum, Single, load_datum}
+use Rattle.typed_values.specs.Values as typed
+use Rattle.typed_values.specs.Values.{TypeSizes}
 use Rattle.cil_tree.specs.Tree.{Exp, Const, Value as ValueOf, Un, Bin, Cast, AddrOf, StartOf, Host, Global, Var, At, Offsets, Here, Field, Index, Lval, Place, Local, Program}
-use Rattle.cil_tree.specs.Typing.{names_enum, element_of}
+use Rattle.cil_tree.specs.Typing.{element_of}
 use Rattle.cil_tree.specs.Globals.{aggregate_of}
-use Rattle.cil_semantics.specs.Values.{Activation, size_in, aggregate_kind, kind_in, scalar_kind, scalar_in, single_in, unary_value, moved_value, summed_value, pointers_value, binary_value, cast_value, member_offset, value, host_place, part_place, place, scalar_value, holds_of}
+use Rattle.typed_values.specs.Values.{single_in}
+use Rattle.cil_semantics.specs.Values.{Activation, sizes_of, size_in, kind_in, scalar_in, unary_value, binary_value, cast_value, member_offset, value, host_place, part_place, place, scalar_value, holds_of}
 use Rattle.cil_text.proofs.Alike.{enum_alike, type_alike}
 use Rattle.cil_text.proofs.TypedAlike.{Equal, in_scope, agg_alike, layout_alike, exp_type_alike, host_type_alike, place_type_alike}
 
@@ -31,23 +30,14 @@ act_in p locals labels entities number = record { scope = in_scope p locals labe
 pub size_alike : (p q : Program) → Equal p q → (s : Shape) → size_in p.graph s ≡ size_in q.graph s
 size_alike p q same s = ap (option_map (λ (l : Layout). l.size)) (layout_alike p q same s)
 
-aggregate_kind_alike : (p q : Program) → Equal p q → (b : Bool) (a : ℕ) → aggregate_kind b p.graph a ≡ aggregate_kind b q.graph a
-aggregate_kind_alike p q same true a = refl
-aggregate_kind_alike p q same false a = ap (option_map OfAggregate) (size_alike p q same (AggType a))
+sizes_alike : (p q : Program) → Equal p q → sizes_of p.graph ≡ sizes_of q.graph
+sizes_alike p q same = λ i. record { abi = same.abi i; size = λ s. size_alike p q same s i; is_enum = λ a. enum_alike p q same.aggregates a i }
 
 pub kind_alike : (p q : Program) → Equal p q → (s : Shape) → kind_in p.graph s ≡ kind_in q.graph s
-kind_alike p q same (AggType a) = by (names_enum p.graph a) (names_enum q.graph a) (enum_alike p q same.aggregates a)
-  where
-    by : (b c : Bool) → b ≡ c → aggregate_kind b p.graph a ≡ aggregate_kind c q.graph a
-    by b c e = λ i. aggregate_kind_alike p q same (e i) a i
-kind_alike p q same VoidType = refl
-kind_alike p q same (IntType k) = refl
-kind_alike p q same (PtrType r s) = refl
-kind_alike p q same (ArrayType r s bound) = refl
-kind_alike p q same (FuncType ret params proto variadic) = refl
+kind_alike p q same s = ap (λ (t : TypeSizes). typed.kind_in t s) (sizes_alike p q same)
 
 pub scalar_in_alike : (p q : Program) → Equal p q → (s : Shape) → scalar_in p.graph s ≡ scalar_in q.graph s
-scalar_in_alike p q same s = λ i. kind_alike p q same s i >>= scalar_kind
+scalar_in_alike p q same s = ap (λ (t : TypeSizes). typed.scalar_in t s) (sizes_alike p q same)
 
 pub offset_alike : (p q : Program) → Equal p q → (a n : ℕ) → offset p.graph a n ≡ offset q.graph a n
 offset_alike p q same a n = λ i. option_and_then (λ (l : AggLayout). slice_get l.offsets n) (agg_alike p q same a i)
@@ -55,32 +45,13 @@ offset_alike p q same a n = λ i. option_and_then (λ (l : AggLayout). slice_get
 -- operators
 
 unary_alike : (p q : Program) → Equal p q → (m : Memory) (op : UnOp) (s : Shape) (v : Value) → unary_value p.graph m op s v ≡ unary_value q.graph m op s v
-unary_alike p q same m Not s v = λ i. scalar_in_alike p q same s i >>= λ t. truth m t v >>= λ holds. Some (Int (told (not holds)))
-unary_alike p q same m Neg (IntType k) v = refl
-unary_alike p q same m Compl (IntType k) v = refl
-unary_alike p q same m op s v = refl
+unary_alike p q same m op s v = ap (λ (t : TypeSizes). typed.unary_value t m op s v) (sizes_alike p q same)
 
-pointers_alike : (p q : Program) → Equal p q → (m : Memory) (op : BinOp) (s : Shape) (v w : Value) → pointers_value p.graph m op s v w ≡ pointers_value q.graph m op s v w
-pointers_alike p q same m Sub s v w = λ i. size_alike p q same s i >>= pointer_difference (same.abi i) m v w
-pointers_alike p q same m op s v w = refl
-
-binary_alike : (p q : Program) → Equal p q → (m : Memory) (op : BinOp) (s t : Shape) (v w : Value) → binary_value p.graph m op s t v w ≡ binary_value q.graph m op s t v w
-binary_alike p q same m op (PtrType r s) (IntType l) v w = λ i. size_alike p q same s i >>= moved_value m op v w
-binary_alike p q same m op (IntType k) (PtrType r s) v w = λ i. size_alike p q same s i >>= summed_value m op v w
-binary_alike p q same m op (PtrType r s) (PtrType u t) v w = pointers_alike p q same m op s v w
-binary_alike p q same m op s t v w = refl
-
-converted_alike : (p q : Program) → Equal p q → (s : Shape) (d : Datum) →
-    (scalar_in p.graph s >>= λ t. single_in d >>= λ v. Some (converted p.graph.abi t v)) ≡ (scalar_in q.graph s >>= λ t. single_in d >>= λ v. Some (converted q.graph.abi t v))
-converted_alike p q same s d = λ i. scalar_in_alike p q same s i >>= λ t. single_in d >>= λ v. Some (converted (same.abi i) t v)
+binary_alike : (p q : Program) → Equal p q → (m : Memory) (op : BinOp) (s r : Shape) (v w : Value) → binary_value p.graph m op s r v w ≡ binary_value q.graph m op s r v w
+binary_alike p q same m op s r v w = ap (λ (t : TypeSizes). typed.binary_value t m op s r v w) (sizes_alike p q same)
 
 cast_alike : (p q : Program) → Equal p q → (s : Shape) (d : Datum) → cast_value p.graph s d ≡ cast_value q.graph s d
-cast_alike p q same VoidType d = refl
-cast_alike p q same (IntType k) d = converted_alike p q same (IntType k) d
-cast_alike p q same (PtrType r s) d = converted_alike p q same (PtrType r s) d
-cast_alike p q same (ArrayType r s bound) d = converted_alike p q same (ArrayType r s bound) d
-cast_alike p q same (FuncType ret params proto variadic) d = converted_alike p q same (FuncType ret params proto variadic) d
-cast_alike p q same (AggType a) d = converted_alike p q same (AggType a) d
+cast_alike p q same s d = ap (λ (t : TypeSizes). typed.cast_value t s d) (sizes_alike p q same)
 
 member_offset_alike : (p q : Program) → Equal p q → (ls : List Local) (bs : List (List ℕ)) (es : List ℕ) (act : ℕ) (s : Shape) (n : ℕ) → member_offset (act_in p ls bs es act) s n ≡ member_offset (act_in q ls bs es act) s n
 member_offset_alike p q same ls bs es act s n = λ i. aggregate_of s >>= λ x. offset_alike p q same x n i
@@ -122,5 +93,4 @@ pub scalar_value_alike : (p q : Program) → Equal p q → (ls : List Local) (bs
 scalar_value_alike p q same ls bs es act m e = λ i. value_alike p q same ls bs es act m e i >>= single_in
 
 pub holds_alike : (p q : Program) → Equal p q → (ls : List Local) (bs : List (List ℕ)) (es : List ℕ) (act : ℕ) (m : Memory) (e : Exp) → holds_of (act_in p ls bs es act) m e ≡ holds_of (act_in q ls bs es act) m e
-holds_alike p q same ls bs es act m e =
-    λ i. (exp_type_alike p q same ls bs e i >>= λ s. scalar_in_alike p q same s i) >>= λ t. scalar_value_alike p q same ls bs es act m e i >>= truth m t
+holds_alike p q same ls bs es act m e = λ i. exp_type_alike p q same ls bs e i >>= λ s. value_alike p q same ls bs es act m e i >>= typed.holds_of (sizes_alike p q same i) m s

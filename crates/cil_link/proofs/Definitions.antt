@@ -22,8 +22,10 @@ use Rattle.cil_tree.specs.Typing.{is_scalar, is_function, global_type}
 use Rattle.cil_tree.specs.Text.{is_function_type}
 use Rattle.cil_tree.specs.Names.{is_declared}
 use Rattle.cil_tree.specs.Globals.{Part, path_part, is_object, constant_fits, item_fits, has_definition, object_is_complete, definition_fits, is_nonempty}
-use Rattle.cil_semantics.specs.Values.{scalar_kind, scalar_in, aggregate_kind}
-use Rattle.cil_semantics.specs.Runs.{constant_value, item_written, with_item, with_items, zeros, object, definition_meaning, function_meaning}
+use Rattle.typed_values.specs.Values.{scalar_kind, aggregate_kind}
+use Rattle.cil_semantics.specs.Values.{size_in, scalar_in}
+use Rattle.typed_values.specs.Units.{constant_value}
+use Rattle.cil_semantics.specs.Runs.{item_written, with_item, with_items, zeros, object, definition_meaning, function_meaning}
 
 pub both : (p q : Bool) → p && q ≡ true → (p ≡ true) × (q ≡ true)
 both true q e = (refl, e)
@@ -39,7 +41,7 @@ scalar_there g (IntType kind) e = refl
 scalar_there g (PtrType q s) e = refl
 scalar_there g (ArrayType q s bound) e = cc
 scalar_there g (FuncType ret params proto variadic) e = cc
-scalar_there g (AggType a) e = ap (λ b. is_some (aggregate_kind b g a >>= scalar_kind)) e
+scalar_there g (AggType a) e = ap (λ b. is_some (aggregate_kind b (size_in g (AggType a)) >>= scalar_kind)) e
 
 -- what an item writes, and where
 pub record Writes (p : Program) (es : List ℕ) (s : Shape) (x : Item) : Type 0 where

@@ -20,7 +20,8 @@ use Rattle.cil_tree.specs.declared.globals.GlobalDef.{GlobalDef}
 use Rattle.cil_tree.specs.declared.globals.GlobalDef.TheVariants as code
 use Rattle.cil_tree.specs.Tree as plain
 use Rattle.cil_tree.specs.View.{type_at, item_of, body_of, definition_of, global_of}
-use Rattle.cil_semantics.specs.Runs.{words_start, start_by, start_of, zeros, with_items, object, is_main, function_meaning, definition_meaning, global_meaning}
+use Rattle.typed_values.specs.Units.{words_start, start_by, start_of}
+use Rattle.cil_semantics.specs.Runs.{zeros, with_items, object, is_main, function_meaning, definition_meaning, global_meaning}
 use Rattle.cil_link.specs.declared.mains.Main.{Main}
 use Rattle.cil_link.specs.Mains.{start_in}
 use Rattle.cil_link.specs.MainGlobals.{is_int, is_char, is_argv, are_words, start_for, start_at, main_with, called_with, Begun}

@@ -8,7 +8,8 @@ use Rattle.execution.specs.Calls.{Start, NotMain, Function, Meaning, Code}
 use Rattle.execution.specs.Linking.{first_of}
 use Rattle.execution.specs.Runs.{code_in, main_arguments}
 use Rattle.cil_tree.specs.Tree.{GlobalDecl}
-use Rattle.cil_semantics.specs.Runs.{is_main, start_of}
+use Rattle.typed_values.specs.Units.{start_of}
+use Rattle.cil_semantics.specs.Runs.{is_main}
 use Rattle.cil_link.specs.declared.mains.Main.{Main}
 use Rattle.cil_link.specs.Entities.{InRun}
 use Rattle.cil_link.specs.Mains.{start_in}

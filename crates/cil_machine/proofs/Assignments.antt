@@ -12,7 +12,8 @@ use Rattle.type_graph.specs.Shapes.{Shape}
 use Rattle.execution.specs.Data.{Kind, OfScalar, OfAggregate, Datum, Single, Bytes, store_datum, store_to, load_datum, zero_from}
 use Rattle.cil_tree.specs.Tree.{Value as ValueOf, Lval}
 use Rattle.cil_tree.specs.Typing.{Scope, place_type}
-use Rattle.cil_semantics.specs.Values.{kind_in, scalar_in, single_in, size_in, value, scalar_value, place}
+use Rattle.typed_values.specs.Values.{single_in}
+use Rattle.cil_semantics.specs.Values.{kind_in, scalar_in, size_in, value, scalar_value, place}
 use Rattle.cil_machine.specs.Terms.{term_value, spot_place}
 use Rattle.cil_machine.specs.Resolution.{activation}
 use Rattle.cil_machine.specs.Instructions.{bytes_from}

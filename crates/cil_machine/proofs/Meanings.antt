@@ -28,7 +28,8 @@ use Rattle.cil_base.specs.Kinds.{same_kind}
 use Rattle.cil_tree.specs.Typing.{Scope, type_of, place_type, is_wide, is_scalar, is_comparison, integer_type, binary_type, unary_type, cast_type, pointers_type, is_function, same_shape, is_void, read_type, is_readable, address_type, start_type, pointer_to}
 use Rattle.cil_base.proofs.KindLaws.{kind_told, kind_itself}
 use Rattle.cil_machine.proofs.FitLaws.{fits_is}
-use Rattle.cil_semantics.specs.Values.{Activation, scalar_in, scalar_kind, kind_in, single_in, size_in, value, scalar_value, place, unary_value, binary_value, moved_value, summed_value, pointers_value, cast_value}
+use Rattle.typed_values.specs.Values.{scalar_kind, single_in, moved_value, summed_value, pointers_value}
+use Rattle.cil_semantics.specs.Values.{Activation, sizes_of, scalar_in, kind_in, size_in, value, scalar_value, place, unary_value, binary_value, cast_value}
 use Rattle.cil_machine.specs.declared.terms.Term.{Term, Number, Load, Not', Unary', Arithmetic', Shift', Compare', Sum', Less', Difference', Relation', Convert', Address}
 use Rattle.cil_machine.specs.declared.terms.Spot.{Spot}
 use Rattle.cil_machine.specs.Terms.{number, loaded, number_from, told_from, term_value, compared_number, difference_at}
@@ -348,7 +349,7 @@ relation_int c Eq to s test h = of_some (OfKind int) s h
 relation_int c Ne to s test h = of_some (OfKind int) s h
 relation_int c op to s test h = absurd (cc)
 
-relation_value : (g : Graph) (m : Memory) (op : BinOp) (to : Shape) (v w : Value) → is_comparison op ≡ true → (compared m op v w >>= λ holds. Some (Int (told holds))) ≡ pointers_value g m op to v w
+relation_value : (g : Graph) (m : Memory) (op : BinOp) (to : Shape) (v w : Value) → is_comparison op ≡ true → (compared m op v w >>= λ holds. Some (Int (told holds))) ≡ pointers_value (sizes_of g) m op to v w
 relation_value g m Sub to v w test = absurd (cc)
 relation_value g m op to v w test = refl
 
@@ -369,7 +370,7 @@ means_relation c es op e f t u p q r d to also_to is also test means means_too =
     same true s h = relation_int c op to s test h
     same false s h = none-some s h
 
-    each : (m : Memory) (act : ℕ) (o u : Option Value) → (o >>= λ v. u >>= λ w. told_from c.program.graph.abi (OfKind int) (compared m op v w)) ≡ (o >>= λ v. u >>= pointers_value c.program.graph m op to v)
+    each : (m : Memory) (act : ℕ) (o u : Option Value) → (o >>= λ v. u >>= λ w. told_from c.program.graph.abi (OfKind int) (compared m op v w)) ≡ (o >>= λ v. u >>= pointers_value (sizes_of c.program.graph) m op to v)
     each m act None u = refl
     each m act (Some v) None = refl
     each m act (Some v) (Some w) = told_is c (compared m op v w) ∙ relation_value c.program.graph m op to v w test

@@ -18,7 +18,8 @@ use Rattle.byte_mem.specs.Operator.{member_place, element_place, place_of}
 use Rattle.cil_tree.specs.Tree.{Exp, Host, Global, Var, At, Offsets, Here, Field, Index, Lval, Place}
 use Rattle.cil_tree.specs.Typing.{Scope, type_of, host_type, part_type, place_type, member_type, element_of, element_type, is_index, pointed}
 use Rattle.cil_tree.specs.Globals.{aggregate_of}
-use Rattle.cil_semantics.specs.Values.{scalar_in, size_in, single_in, value, member_offset, part_place, host_place}
+use Rattle.typed_values.specs.Values.{single_in}
+use Rattle.cil_semantics.specs.Values.{scalar_in, size_in, value, member_offset, part_place, host_place}
 use Rattle.cil_machine.specs.declared.terms.Term.{Term}
 use Rattle.cil_machine.specs.declared.terms.Spot.{Spot, Entity as Global', Local as Own, At', Member', Element', Wrong as NoSpot}
 use Rattle.cil_machine.specs.Terms.{term_value, spot_place, pointer_at}

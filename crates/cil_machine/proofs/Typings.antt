@@ -17,7 +17,8 @@ use Rattle.type_graph.specs.Arena.{Graph, complete_shape}
 use Rattle.byte_mem.specs.Steps.{◌>>=◌}
 use Rattle.cil_tree.specs.Tree.{Exp, Value as ValueOf, Un, Bin, Cast, AddrOf, StartOf, Lval}
 use Rattle.cil_tree.specs.Typing.{Scope, type_of, place_type, is_scalar, is_comparison, names_enum, binary_type, unary_type, cast_type, read_type, address_type, start_type, forward_type, backward_type, is_wide, pointer_to, same_shape, pointers_type, is_void}
-use Rattle.cil_semantics.specs.Values.{scalar_in, scalar_kind, aggregate_kind}
+use Rattle.typed_values.specs.Values.{scalar_kind, aggregate_kind}
+use Rattle.cil_semantics.specs.Values.{size_in, scalar_in}
 use Rattle.cil_check.specs.declared.seen.Seen.{Seen}
 use Rattle.cil_check.specs.Seen.{seen_shape, IsThere, told, is_other}
 use Rattle.cil_machine.specs.declared.terms.Term.{Term, Load, Unary', Arithmetic', Shift', Address}
@@ -101,7 +102,7 @@ not_scalar g (ArrayType q to bound) e = refl
 not_scalar g (FuncType ret params proto variadic) e = refl
 not_scalar g (AggType a) e = by (names_enum g a) refl e
   where
-    by : (b : Bool) → names_enum g a ≡ b → (aggregate_kind b g a >>= scalar_kind) ≡ None → b ≡ false
+    by : (b : Bool) → names_enum g a ≡ b → (aggregate_kind b (size_in g (AggType a)) >>= scalar_kind) ≡ None → b ≡ false
     by true is e = some-none _ e
     by false is e = refl
 

@@ -1,37 +1,28 @@
 -- Definition: what a list of CIL programs does when it is linked and run: each global is given its meaning by its own program's types (C11 5.1.2, 6.2.4, 6.7.9, 6.9).
-use Rattle.std.specs.Prelude.{ℕ, suc, Bool, true, false, ◌&&◌, not, codes, List, [], ◌∷◌, length, drop, map, replicate, Option, Some, None, option_map, slice_get, pos}
+use Rattle.std.specs.Prelude.{ℕ, suc, Bool, true, false, ◌&&◌, not, codes, List, [], ◌∷◌, length, drop, map, replicate, Option, Some, None, option_map}
 use Rattle.std.specs.Str.{bytes_eq}
 use Rattle.cil_base.specs.declared.constants.Constant.{Constant}
-use Rattle.cil_base.specs.declared.constants.Constant.TheVariants.{Int as Number, Address, Function as Code'}
 use Rattle.cil_base.specs.declared.kinds.Mode.{Mode}
-use Rattle.cil_base.specs.declared.kinds.IntKind.TheVariants.{Int as int, Char as char}
 use Rattle.cil_base.specs.declared.runs.Outcome.{Outcome}
-use Rattle.type_graph.specs.Shapes.{Shape, Shapes, IntType, PtrType, FuncType, NoTypes, MoreTypes}
+use Rattle.type_graph.specs.Shapes.{Shape, Shapes, FuncType}
 use Rattle.type_graph.specs.Arena.{Graph}
-use Rattle.byte_mem.specs.declared.pointers.ObjName.TheVariants.{Entity}
 use Rattle.byte_mem.specs.declared.values.Byte.{Byte}
 use Rattle.byte_mem.specs.declared.values.Byte.TheVariants.{Known}
-use Rattle.byte_mem.specs.declared.values.Value.{Value}
-use Rattle.byte_mem.specs.declared.values.Value.TheVariants.{Int, Ptr}
 use Rattle.byte_mem.specs.Steps.{◌>>=◌}
 use Rattle.byte_mem.specs.Scalar.{bytes_of}
 use Rattle.byte_mem.specs.Object.{with_part}
 use Rattle.execution.specs.States.{State, Result}
 use Rattle.execution.specs.Data.{Kind, Datum, Automatic}
-use Rattle.execution.specs.Calls.{Enter, Start, NotMain, WithoutWords, WithWords, Meaning, Object, Code, scoped, value_at_end, returns}
+use Rattle.execution.specs.Calls.{Enter, Meaning, Object, Code, scoped, value_at_end, returns}
 use Rattle.execution.specs.Linking.{Linkable}
 use Rattle.execution.specs.Runs.{run, units_spent, finds_end}
+use Rattle.typed_values.specs.Values as typed
+use Rattle.typed_values.specs.Units.{constant_value, start_of}
 use Rattle.cil_tree.specs.Tree.{Block, Item, Local, Body, Definition, Declared, Zeros, Image, Function, GlobalDecl, Program}
 use Rattle.cil_tree.specs.Typing.{scope_of, is_function}
 use Rattle.cil_tree.specs.Globals.{Part, path_part}
-use Rattle.cil_semantics.specs.Values.{Activation, size_in, kind_in, scalar_in}
+use Rattle.cil_semantics.specs.Values.{Activation, sizes_of, size_in, kind_in, scalar_in}
 use Rattle.cil_semantics.specs.Statements.{statement}
-
--- the value of a constant (C11 6.6p6, p9): an address is that of the run's entity
-abbrev pub constant_value : List ℕ → Constant → Option Value
-constant_value entities (Number kind v) = Some (Int v)
-constant_value entities (Address object at) = slice_get entities object.0 >>= λ e. Some (Ptr (record { name = Entity (record { 0 = e }); offset = at }))
-constant_value entities (Code' function) = slice_get entities function.0 >>= λ e. Some (Ptr (record { name = Entity (record { 0 = e }); offset = pos 0 }))
 
 abbrev pub item_written : Graph → List ℕ → Constant → Part → List Byte → Option (List Byte)
 item_written g entities c part bytes = scalar_in g part.0 >>= λ t. constant_value entities c >>= λ v. Some (with_part part.1 (bytes_of g.abi t v) bytes)
@@ -51,23 +42,8 @@ zeros g s = size_in g s >>= λ n. Some (replicate n (Known 0))
 abbrev pub object : Option (List Byte) → Option Meaning
 object bytes = option_map (Object false) bytes
 
--- C11 5.1.2.2.1p1: the types of a main; qualifiers do not count
-abbrev pub words_start : Shapes → Start
-words_start NoTypes = WithoutWords
-words_start (MoreTypes (IntType int) (MoreTypes (PtrType p (PtrType q (IntType char))) NoTypes)) = WithWords
-words_start _ = NotMain
-
-abbrev pub start_by : Bool → Shapes → Start
-start_by true params = NotMain
-start_by false params = words_start params
-
-abbrev pub start_of : Shape → Start
-start_of (FuncType (IntType int) params proto variadic) = start_by variadic params
-start_of _ = NotMain
-
 abbrev pub kinds_of : Graph → Shapes → List (Option Kind)
-kinds_of g NoTypes = []
-kinds_of g (MoreTypes s more) = kind_in g s ∷ kinds_of g more
+kinds_of g params = typed.kinds_of (sizes_of g) params
 
 -- the objects of an activation behind its arguments: the locals from number i on, of complete types
 abbrev pub with_object : ℕ → Option ℕ → List Automatic → List Automatic

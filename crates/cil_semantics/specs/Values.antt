@@ -1,26 +1,23 @@
 -- Definition: what expressions and lvalues of CIL mean in a memory (C11 6.3.2.1, 6.5); they change nothing, and None is what is undefined. An lvalue's meaning, its place, is a value (own).
-use Rattle.std.specs.Prelude.{ℕ, Bool, true, false, not, Option, Some, None, option_map, List, slice_get, pos}
+use Rattle.std.specs.Prelude.{ℕ, Bool, Option, Some, option_map, List, slice_get, pos}
 use Rattle.cil_base.specs.declared.kinds.Abi.{Abi}
-use Rattle.cil_base.specs.declared.kinds.IntKind.TheVariants.{Int as int}
 use Rattle.cil_base.specs.declared.operators.BinOp.{BinOp}
-use Rattle.cil_base.specs.declared.operators.BinOp.TheVariants.{Add, Sub}
 use Rattle.cil_base.specs.declared.operators.UnOp.{UnOp}
-use Rattle.cil_base.specs.declared.operators.UnOp.TheVariants.{Neg, Compl, Not}
-use Rattle.cil_base.specs.Arithmetic.{told}
 use Rattle.type_graph.specs.declared.layout.Layout.{Layout}
-use Rattle.type_graph.specs.Shapes.{Shape, VoidType, IntType, PtrType, ArrayType, FuncType, AggType}
+use Rattle.type_graph.specs.Shapes.{Shape}
 use Rattle.type_graph.specs.Arena.{Graph}
 use Rattle.type_graph.specs.Layouts.{offset}
 use Rattle.byte_mem.specs.declared.pointers.ObjName.{ObjName}
 use Rattle.byte_mem.specs.declared.pointers.ObjName.TheVariants.{Entity}
 use Rattle.byte_mem.specs.declared.values.Scalar.{Scalar}
-use Rattle.byte_mem.specs.declared.values.Scalar.TheVariants.{Int as OfKind, Ptr as OfPointer}
 use Rattle.byte_mem.specs.declared.values.Value.{Value}
-use Rattle.byte_mem.specs.declared.values.Value.TheVariants.{Int, Ptr, Unknown}
+use Rattle.byte_mem.specs.declared.values.Value.TheVariants.{Int, Ptr}
 use Rattle.byte_mem.specs.Steps.{◌>>=◌}
 use Rattle.byte_mem.specs.Memory.{Memory}
-use Rattle.byte_mem.specs.Operator.{converted, place_of, truth, compared, pointer_sum, pointer_less, pointer_difference, member_place, element_place, computed, unary}
-use Rattle.execution.specs.Data.{Kind, OfVoid, OfScalar, OfAggregate, Datum, Single, Bytes, load_datum, local_name}
+use Rattle.byte_mem.specs.Operator.{place_of, member_place, element_place}
+use Rattle.execution.specs.Data.{Kind, Datum, Single, load_datum, local_name}
+use Rattle.typed_values.specs.Values as typed
+use Rattle.typed_values.specs.Values.{TypeSizes, single_in}
 use Rattle.cil_tree.specs.Tree.{Exp, Const, Value as ValueOf, Un, Bin, Cast, AddrOf, StartOf, Host, Global, Var, At, Offsets, Here, Field, Index, Lval, Place}
 use Rattle.cil_tree.specs.Typing.{Scope, names_enum, member_type, element_of, type_of, host_type, place_type}
 use Rattle.cil_tree.specs.Globals.{aggregate_of}
@@ -42,67 +39,24 @@ abi_of a = a.scope.program.graph.abi
 abbrev pub size_in : Graph → Shape → Option ℕ
 size_in g s = option_map (λ (l : Layout). l.size) (shape_layout g s)
 
--- an enum is an int (own), another aggregate has a size
-abbrev pub aggregate_kind : Bool → Graph → ℕ → Option Kind
-aggregate_kind true g a = Some (OfScalar (OfKind int))
-aggregate_kind false g a = option_map OfAggregate (size_in g (AggType a))
+-- what operators ask of a program's types
+abbrev pub sizes_of : Graph → TypeSizes
+sizes_of g = record { abi = g.abi; size = size_in g; is_enum = names_enum g }
 
--- the kind of a type; functions, arrays and what is incomplete have none, but for void
 abbrev pub kind_in : Graph → Shape → Option Kind
-kind_in g VoidType = Some OfVoid
-kind_in g (IntType kind) = Some (OfScalar (OfKind kind))
-kind_in g (PtrType q s) = Some (OfScalar OfPointer)
-kind_in g (AggType a) = aggregate_kind (names_enum g a) g a
-kind_in g (ArrayType q s bound) = None
-kind_in g (FuncType ret params proto variadic) = None
-
-abbrev pub scalar_kind : Kind → Option Scalar
-scalar_kind (OfScalar s) = Some s
-scalar_kind OfVoid = None
-scalar_kind (OfAggregate size) = None
+kind_in g s = typed.kind_in (sizes_of g) s
 
 abbrev pub scalar_in : Graph → Shape → Option Scalar
-scalar_in g s = kind_in g s >>= scalar_kind
+scalar_in g s = typed.scalar_in (sizes_of g) s
 
-abbrev pub single_in : Datum → Option Value
-single_in (Single v) = Some v
-single_in (Bytes bytes) = None
-
--- C11 6.5.3.3: `-` and `~` on a promoted operand; `!` is a test
 abbrev pub unary_value : Graph → Memory → UnOp → Shape → Value → Option Value
-unary_value g m Not s v = scalar_in g s >>= λ t. truth m t v >>= λ holds. Some (Int (told (not holds)))
-unary_value g m Neg (IntType kind) v = unary Neg kind v
-unary_value g m Neg _ v = None
-unary_value g m Compl (IntType kind) v = unary Compl kind v
-unary_value g m Compl _ v = None
+unary_value g m op s v = typed.unary_value (sizes_of g) m op s v
 
--- C11 6.5.6p8: an integer added to a pointer or subtracted from it
-abbrev pub moved_value : Memory → BinOp → Value → Value → ℕ → Option Value
-moved_value m Add v i size = pointer_sum m v i size
-moved_value m Sub v i size = pointer_less m v i size
-moved_value m _ v i size = None
-
-abbrev pub summed_value : Memory → BinOp → Value → Value → ℕ → Option Value
-summed_value m Add i v size = pointer_sum m v i size
-summed_value m _ i v size = None
-
--- C11 6.5.6p9, 6.5.8p5, 6.5.9p6: two pointers
-abbrev pub pointers_value : Graph → Memory → BinOp → Shape → Value → Value → Option Value
-pointers_value g m Sub s v w = size_in g s >>= pointer_difference g.abi m v w
-pointers_value g m op s v w = compared m op v w >>= λ holds. Some (Int (told holds))
-
--- C11 6.5.5 to 6.5.12, by the operands' types
 abbrev pub binary_value : Graph → Memory → BinOp → Shape → Shape → Value → Value → Option Value
-binary_value g m op (IntType k) (IntType l) v w = computed op k v w
-binary_value g m op (PtrType q s) (IntType l) v w = size_in g s >>= moved_value m op v w
-binary_value g m op (IntType k) (PtrType q s) v w = size_in g s >>= summed_value m op v w
-binary_value g m op (PtrType p s) (PtrType q t) v w = pointers_value g m op s v w
-binary_value g m op _ _ v w = None
+binary_value g m op s t v w = typed.binary_value (sizes_of g) m op s t v w
 
--- C11 6.3, 6.5.4: a conversion; a cast to void uses nothing of the value (6.3.2.2)
 abbrev pub cast_value : Graph → Shape → Datum → Option Value
-cast_value g VoidType d = Some Unknown
-cast_value g to d = scalar_in g to >>= λ t. single_in d >>= λ v. Some (converted g.abi t v)
+cast_value g to d = typed.cast_value (sizes_of g) to d
 
 -- the place of an object or function is a pointer to it
 abbrev pub pointer_at : ObjName → Value
@@ -149,4 +103,4 @@ scalar_value a m e = value a m e >>= single_in
 
 -- C11 6.8.4.1p2: whether a value compares unequal to 0
 abbrev pub holds_of : Activation → Memory → Exp → Option Bool
-holds_of a m e = type_of a.scope e >>= scalar_in (graph_of a) >>= λ t. scalar_value a m e >>= truth m t
+holds_of a m e = type_of a.scope e >>= λ s. value a m e >>= typed.holds_of (sizes_of (graph_of a)) m s

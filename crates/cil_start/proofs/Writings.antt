@@ -43,8 +43,9 @@ use Rattle.cil_tree.specs.Typing.{is_scalar, is_enum}
 use Rattle.cil_tree.specs.Text.{shape_layout}
 use Rattle.cil_tree.specs.View.{item_of}
 use Rattle.cil_tree.specs.Globals.{Part, item_fits}
-use Rattle.cil_semantics.specs.Values.{size_in, scalar_in, scalar_kind, aggregate_kind}
-use Rattle.cil_semantics.specs.Runs.{constant_value}
+use Rattle.typed_values.specs.Values.{scalar_kind, aggregate_kind}
+use Rattle.cil_semantics.specs.Values.{size_in, scalar_in}
+use Rattle.typed_values.specs.Units.{constant_value}
 use Rattle.cil_start.specs.declared.images.Written.{Written}
 use Rattle.cil_start.specs.declared.loaded.Loaded.{Loaded}
 use Rattle.cil_start.specs.Loads.{program_in, IsReady, written_of, place_of, Changed, IsObject, item_held, items_held, Writing}
@@ -90,7 +91,7 @@ module _ (g : Graph) (arena : IsArena g) where
   scaled (FuncType ret params proto variadic) t l h k e = cc
   scaled (AggType a) t l h k e =
       let al = mapped_from (λ (y : AggLayout). y.whole) (agg_layout g a) l e in
-      let int_is : Some (OfKind int) ≡ Some t = sym (ap (λ b. aggregate_kind b g a >>= scalar_kind) h) ∙ k in
+      let int_is : Some (OfKind int) ≡ Some t = sym (ap (λ b. aggregate_kind b (size_in g (AggType a)) >>= scalar_kind) h) ∙ k in
       let scalar : OfKind int ≡ t = cc in
       subst (λ (u : Scalar). Scaled g.abi u l) scalar (by (slice_get g.aggs a) refl h al.0 (sym (agg_layout_is g arena a) ∙ al.1) al.2)
     where

@@ -18,7 +18,8 @@ use Rattle.cil_tree.specs.Globals.{path_part}
 use Rattle.cil_tree.specs.View.{program_of}
 use Rattle.cil_semantics.specs.Units.{IsUnit}
 use Rattle.cil_semantics.specs.Values.{size_in, scalar_in}
-use Rattle.cil_semantics.specs.Runs.{constant_value, with_item, with_items, zeros, object, global_meaning}
+use Rattle.typed_values.specs.Units.{constant_value}
+use Rattle.cil_semantics.specs.Runs.{with_item, with_items, zeros, object, global_meaning}
 use Rattle.cil_start.specs.declared.images.Written.{Written}
 use Rattle.cil_start.specs.declared.loaded.Loaded.{Loaded}
 use Rattle.cil_link.specs.declared.entities.Definer.{Definer}

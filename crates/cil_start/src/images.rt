@@ -9,7 +9,7 @@ ghost use Rattle.cil_tree.specs.Tree as plain;
 ghost use Rattle.cil_tree.specs.View.{item_of};
 ghost use Rattle.cil_tree.specs.Globals.{item_fits};
 ghost use Rattle.cil_semantics.specs.Values.{scalar_in};
-ghost use Rattle.cil_semantics.specs.Runs.{constant_value};
+ghost use Rattle.typed_values.specs.Units.{constant_value};
 ghost use Rattle.cil_start.specs.Loads.{program_in, IsReady, written_of, place_of, Changed, IsObject, item_held, items_held, Writing};
 
 use crate::loaded::Loaded;

@@ -13,7 +13,8 @@ use Rattle.cil_tree.specs.View.{global_of}
 use Rattle.cil_tree.specs.Globals.{global_fits, has_definition, object_is_complete, definition_fits}
 use Rattle.cil_semantics.specs.Units.{IsUnit}
 use Rattle.cil_semantics.specs.Values.{kind_in}
-use Rattle.cil_semantics.specs.Runs.{zeros, with_items, object, is_main, kinds_of, start_of, body_meaning, definition_meaning}
+use Rattle.typed_values.specs.Units.{start_of}
+use Rattle.cil_semantics.specs.Runs.{zeros, with_items, object, is_main, kinds_of, body_meaning, definition_meaning}
 use Rattle.cil_semantics.specs.Laws.{calls_in}
 use Rattle.cil_control.specs.Remains.{Remains}
 use Rattle.cil_code.specs.Taking.{datum_of}

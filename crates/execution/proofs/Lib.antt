@@ -1,5 +1,6 @@
 pub mod Congruence
 pub mod Growth
+pub mod LoopLaws
 pub mod CallCongruence
 pub mod FixedPoint
 pub mod Twins

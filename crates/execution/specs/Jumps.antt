@@ -39,7 +39,7 @@ after has go Broken s = Goes Broken s
 after has go (Jumped t) s = jumped (has t) t s go
 after has go (Returned v) s = Goes (Returned v) s
 
--- C11 6.8p3: a statement behind another, which a jump may enter
+-- C11 6.8p2: a statement behind another, which a jump may enter
 abbrev pub behind : Has → Result Signal → Goer → Result Signal
 behind has r go = bind r (after has go)
 

@@ -2,6 +2,7 @@ pub mod States
 pub mod Unrolling
 pub mod Data
 pub mod Jumps
+pub mod Loops
 pub mod Calls
 pub mod Linking
 pub mod Runs

@@ -16,7 +16,8 @@ use Rattle.type_graph.specs.Layouts.{AggLayout, members_layout, member_in, aggre
 use Rattle.type_graph.proofs.LayoutLaws.{agg_layout_is, agg_layout_there}
 use Rattle.execution.specs.Data.{OfScalar, OfAggregate}
 use Rattle.cil_tree.specs.Typing.{Scope, is_array, is_enum, is_readable, read_type, names_enum}
-use Rattle.cil_semantics.specs.Values.{aggregate_kind, size_in}
+use Rattle.typed_values.specs.Values.{aggregate_kind}
+use Rattle.cil_semantics.specs.Values.{size_in}
 use Rattle.simulation_laws.specs.Kinds.{IsStored, TypesAreStored}
 
 readable : (g : Graph) (s : Shape) → complete_shape g.aggs s ≡ true → is_array s ≡ false → (c : Scope) → c.program.graph ≡ g → read_type c s ≡ Some s
@@ -48,7 +49,7 @@ aggregate_stored g a w h = by (names_enum g a) refl
     by : (b : Bool) → names_enum g a ≡ b → IsStored g (AggType a)
     by true e = record {
       kind = OfScalar (OfKind int);
-      kind_is = ap (λ b. aggregate_kind b g a) e;
+      kind_is = ap (λ b. aggregate_kind b (size_in g (AggType a))) e;
       size_is = ap (λ (o : Option AggLayout). option_map (λ (l : Layout). l.size) (whole_of o)) (agg_layout_is g w a) ∙ enum (slice_get g.aggs a) h e;
       read = readable g (AggType a) h refl;
     }
@@ -57,7 +58,7 @@ aggregate_stored g a w h = by (names_enum g a) refl
         let size : size_in g (AggType a) ≡ Some l.0.whole.size = ap (λ (o : Option AggLayout). option_map (λ (l : Layout). l.size) (whole_of o)) l.1 in
         record {
           kind = OfAggregate l.0.whole.size;
-          kind_is = ap (λ b. aggregate_kind b g a) e ∙ ap (option_map OfAggregate) size;
+          kind_is = ap (λ b. aggregate_kind b (size_in g (AggType a))) e ∙ ap (option_map OfAggregate) size;
           size_is = size;
           read = readable g (AggType a) h refl;
         }

@@ -6,7 +6,8 @@ use Rattle.byte_mem.specs.Memory.{make}
 use Rattle.byte_mem.specs.Operator.{number_in}
 use Rattle.execution.specs.States.{State, Result, Goes}
 use Rattle.execution.specs.Unrolling.{Step, meaning}
-use Rattle.execution.specs.Jumps.{Target, ToLabel, ToCase, ToDefault, ToContinue, Entry, Signal, Normal, Broken, Jumped, Returned, Goer, behind, caught, seq_from, if_from, switch_from, loop_from}
+use Rattle.execution.specs.Jumps.{Target, ToLabel, ToCase, ToDefault, ToContinue, Entry, Signal, Normal, Broken, Jumped, Returned, Goer, caught, seq_from, if_from, switch_from, loop_from}
+use Rattle.execution.specs.Loops.{at_end, asked, asked_first, started, PartOf, Entered, Body, Iterations}
 use Rattle.execution.specs.Calls.{Enter}
 use Rattle.typed_tree.specs.Tree.{Typed, Inits}
 use Rattle.typed_tree.specs.Statements.{Stmt, Expr, Declare, Block, If, Switch, While, Do, For, Label, Case, Default, Goto, Break, Continue, Return, Stmts, Done, Seq}
@@ -14,7 +15,7 @@ use Rattle.typed_tree.specs.Units.{Function, Local as LocalObject}
 use Rattle.c_typing.specs.Types.{size_in}
 use Rattle.c_semantics.specs.Places.{Activation, local_of, array_number, numbers_from, in_block, arrays_in, arrays_in_maybe, arrays_in_stmt, arrays_in_stmts}
 use Rattle.c_semantics.specs.Operations.{Action, ◌>>=◌, gives, known, changes, single, Object, initialised}
-use Rattle.c_semantics.specs.Statements.{is_label, labelled, defaulted, nowhere, at_end, asked, asked_first, ended}
+use Rattle.c_semantics.specs.Statements.{is_label, labelled, defaulted, ended}
 use Rattle.typed_semantics.specs.Expressions.{value_of, holds, t_exp, t_inits}
 use Rattle.typed_semantics.specs.Objects.{objects_in, objects_in_maybe, own_objects}
 
@@ -96,11 +97,9 @@ abbrev mutual
 
 -- blocks
 
--- what of a function may be entered again behind a spent unit: the block that a statement is, or the one that a list is, both being entered already; the turns of a `for`
-pub data Part : Type 0 where
-  Entered : (x : Stmt) (k : ℕ) → Part
-  Items : (xs : Stmts) (k : ℕ) → Part
-  Turns : (test step : Option Typed) (body : Stmts) (k : ℕ) → Part
+-- what of a function may be entered again behind a spent unit: a statement, a list of statements that is a substatement or a body, whose objects live already, or a `for` behind its start
+abbrev pub Part : Type 0
+Part = PartOf Stmt Stmts Typed ℕ
 
 abbrev pub Again : Type 0
 Again = Part → Goer
@@ -113,7 +112,7 @@ abbrev pub block : Activation → Function → Stmts → ℕ → (State → Resu
 block a f xs k go s = in_block a (own_objects a f xs) (arrays_from a k (arrays_in_stmts xs)) go s
 
 abbrev pub sub_block : Activation → Function → (ℕ → Goer) → Again → Stmts → ℕ → Goer
-sub_block a f go again xs k en s = block a f xs k (λ t. caught (t_has_in xs) (go k en t) (again (Items xs k))) s
+sub_block a f go again xs k en s = block a f xs k (λ t. caught (t_has_in xs) (go k en t) (again (Body xs k))) s
 
 -- the arrays in values before the parts of a loop
 abbrev pub behind_start : ℕ → Stmts → ℕ
@@ -141,14 +140,9 @@ t_whole a f go Break k en s = go k en s
 t_whole a f go Continue k en s = go k en s
 t_whole a f go (Return e) k en s = go k en s
 
--- the start of a `for` is evaluated once, if the loop is not entered by a jump (6.8.5.3p1)
-abbrev pub started_by : Goer → Goer → Goer
-started_by start loop None s = behind nowhere (start None s) (λ en. loop None)
-started_by start loop (Some t) s = loop (Some t) s
-
-abbrev pub for_turns : Activation → Enter → Again → Option Typed → Option Typed → Stmts → (ℕ → Goer) → ℕ → Goer
-for_turns a enter again test step xs body k en s =
-    loop_from (again (Turns test step xs k) None) (asked_first (t_maybe_test a enter test k) (at_end (ended (t_maybe_effect a enter step (k + arrays_in_maybe test))) (body (behind_heads k test step)))) en s
+abbrev pub iterated : Activation → Enter → Again → Option Typed → Option Typed → Stmts → (ℕ → Goer) → ℕ → Goer
+iterated a enter again test step xs body k en s =
+    loop_from (again (Iterations test step xs k) None) (asked_first (t_maybe_test a enter test k) (at_end (ended (t_maybe_effect a enter step (k + arrays_in_maybe test))) (body (behind_heads k test step)))) en s
 
 abbrev mutual
   pub t_entered : Activation → Function → Enter → Again → Stmt → ℕ → Goer
@@ -166,7 +160,7 @@ abbrev mutual
   t_entered a f enter again (Do xs e) k en s =
       caught (t_has_in xs) (loop_from (again (Entered (Do xs e) k) None) (at_end (asked (t_test a enter e (k + arrays_in_stmts xs)) (Goes Normal)) (sub_block a f (t_stmts a f enter again xs) again xs k)) en s) (again (Entered (Do xs e) k))
   t_entered a f enter again (For start test step xs) k en s =
-      caught (t_has_in xs) (started_by (t_stmts a f enter again start k) (for_turns a enter again test step xs (sub_block a f (t_stmts a f enter again xs) again xs) (behind_start k start)) en s) (again (Entered (For start test step xs) k))
+      caught (t_has_in xs) (started (t_stmts a f enter again start k) (iterated a enter again test step xs (sub_block a f (t_stmts a f enter again xs) again xs) (behind_start k start)) en s) (again (Entered (For start test step xs) k))
   t_entered a f enter again (Label n) k en s = Goes Normal s
   t_entered a f enter again (Case kind v) k en s = Goes Normal s
   t_entered a f enter again Default k en s = Goes Normal s
@@ -182,8 +176,8 @@ abbrev mutual
 -- one step of the meaning
 abbrev pub t_part : Activation → Function → Enter → Again → Part → Goer
 t_part a f enter again (Entered x k) en s = t_entered a f enter again x k en s
-t_part a f enter again (Items xs k) en s = caught (t_has_in xs) (t_stmts a f enter again xs k en s) (again (Items xs k))
-t_part a f enter again (Turns test step xs k) en s = for_turns a enter again test step xs (sub_block a f (t_stmts a f enter again xs) again xs) k en s
+t_part a f enter again (Body xs k) en s = caught (t_has_in xs) (t_stmts a f enter again xs k en s) (again (Body xs k))
+t_part a f enter again (Iterations test step xs k) en s = iterated a enter again test step xs (sub_block a f (t_stmts a f enter again xs) again xs) k en s
 
 abbrev pub EnteredPart : Type 0
 EnteredPart = Part × Entry

@@ -12,6 +12,7 @@ use Rattle.type_graph.specs.Arena.{Graph}
 use Rattle.type_graph.specs.Shapes.{Shape, VoidType, IntType, PtrType, ArrayType, FuncType, AggType, shape}
 use Rattle.execution.specs.States.{State, with_memory, Result}
 use Rattle.execution.specs.Data.{Datum}
+use Rattle.execution.specs.Loops.{Body as Substatements}
 use Rattle.execution.specs.Calls.{Enter, Meaning, Object, Code, value_at_end, returns}
 use Rattle.execution.specs.Linking.{Linkable}
 use Rattle.execution.specs.Runs.{run}
@@ -19,11 +20,11 @@ use Rattle.typed_tree.specs.declared.units.EntityKind.{EntityKind}
 use Rattle.typed_tree.specs.declared.units.EntityKind.TheVariants.{External, Internal, StaticLocal, Literal}
 use Rattle.typed_tree.specs.Units.{Unit as TypedTree, Entity as TreeEntity, Definition, Declared, Zero, Initialised, Body, Function}
 use Rattle.c_typing.specs.Types.{Aggregate, Member, Types, is_function}
-use Rattle.cil_semantics.specs.Runs.{start_of}
+use Rattle.typed_values.specs.Units.{start_of}
 use Rattle.c_semantics.specs.Values.{kind_of, kinds_of}
 use Rattle.c_semantics.specs.Places.{Activation}
 use Rattle.c_semantics.specs.Units.{activation, protect_parameters, zeros, image}
-use Rattle.typed_semantics.specs.Statements.{Items, block, t_meaning}
+use Rattle.typed_semantics.specs.Statements.{block, t_meaning}
 
 -- an object with static storage duration or a function, as it is linked and run
 pub record TypedEntity : Type 0 where
@@ -42,7 +43,7 @@ pub record TypedUnit : Type 0 where
 
 abbrev pub body_in : Activation → Function → Datum → Enter → State → Result Datum
 body_in a f end enter s =
-    returns end (block a f f.body 0 (λ t. t_meaning a f enter (Items f.body 0) None (with_memory t (protect_parameters a 0 (take f.params f.locals) t.memory))) s)
+    returns end (block a f f.body 0 (λ t. t_meaning a f enter (Substatements f.body 0) None (with_memory t (protect_parameters a 0 (take f.params f.locals) t.memory))) s)
 
 abbrev pub body_meaning : Types → List ℕ → Function → Datum → Enter → ℕ → State → Result Datum
 body_meaning t entities f end enter act s = body_in (activation t entities f act) f end enter s
