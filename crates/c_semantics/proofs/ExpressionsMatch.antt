@@ -1,6 +1,6 @@
 -- Device: expressions of C are matched where calls are.
 use Rattle.std.proofs.Common.{ℕ, List, [], Option, option_map}
-use Rattle.std.specs.Prelude.{pos, ℤ, length}
+use Rattle.std.specs.Prelude.{ℤ, length}
 use Rattle.cil_base.specs.declared.kinds.IntKind.{IntKind}
 use Rattle.type_graph.specs.Shapes.{Shapes}
 use Rattle.execution.specs.States.{State, Result}

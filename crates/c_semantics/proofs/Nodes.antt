@@ -26,8 +26,8 @@ use Rattle.c_typing.specs.Operators.{Sides}
 use Rattle.c_typing.specs.Scopes.{Denotes, TypedefName, EnumerationConstant, Automatic, Static}
 use Rattle.typed_values.specs.Values.{single_in}
 use Rattle.c_semantics.specs.Values.{as_type, unary_value, binary_value, value_at, stored, zeroed, filled, part_from, object_pointer, is_const}
-use Rattle.c_semantics.specs.Places.{Activation, part_of, Here, local_of, literal_number}
-use Rattle.c_semantics.specs.Operations.{Action, Seen, At, Is, is_value, valued, placed, used, taken, pointed, tested, indirect, operated, computed, subscripted, decided, logical, chosen, array_object, member, along, assigned, compound, operator_of, result_of, stepped, called, unit_object, local_object, Object, literal_object, part_changes, initialised, Rest, zeroes, steps_of, stores_value, next_step}
+use Rattle.c_semantics.specs.Places.{Activation, part_of, Here, local_of}
+use Rattle.c_semantics.specs.Operations.{Action, Seen, At, Is, is_value, valued, placed, used, taken, pointed, tested, indirect, operated, computed, subscripted, decided, logical, chosen, array_object, member, along, assigned, compound, operator_of, result_of, stepped, called, unit_object, Object, literal_object, part_changes, initialised, Rest, zeroes, steps_of, stores_value, next_step}
 use Rattle.c_semantics.specs.Expressions.{denoted, of_number, measured, of_name, of_index, of_call, of_arguments, of_member, of_arrow, of_cast, of_binary, of_conditional, of_comma, of_unary, of_assign, of_step, of_literal, of_value, of_lone, then_rest}
 use Rattle.c_semantics.proofs.Matched.{Matched, Ready, gives_matched, undefined_matched, known_matched, seen_matched, memory_matched, changes_matched, bind_matched, enter_matched}
 

@@ -1,5 +1,5 @@
 -- Device: units have tame bodies, so that the laws of runs hold of them.
-use Rattle.std.proofs.Common.{ℕ, suc, ◌≤◌, Bool, true, false, List, [], ◌∷◌, map, take, Option, Some, None, is_some, ◌&&◌}
+use Rattle.std.proofs.Common.{ℕ, suc, ◌≤◌, Bool, List, [], ◌∷◌, take, Option, Some, None}
 use Rattle.cil_base.specs.declared.kinds.Abi.{Abi}
 use Rattle.cil_base.specs.declared.kinds.Mode.{Mode}
 use Rattle.byte_mem.specs.declared.values.Byte.{Byte}
@@ -9,8 +9,8 @@ use Rattle.execution.specs.States.{with_memory}
 use Rattle.execution.specs.Data.{Datum}
 use Rattle.execution.specs.Unrolling.{meaning}
 use Rattle.execution.specs.Loops.{Entered}
-use Rattle.execution.specs.Calls.{Enter, Meaning, Object, Code, Host, calls}
-use Rattle.execution.specs.Linking.{Linkable, linked}
+use Rattle.execution.specs.Calls.{Enter, calls}
+use Rattle.execution.specs.Linking.{linked}
 use Rattle.execution.specs.Likeness.{Needs}
 use Rattle.execution.specs.Bounds.{cut_at, Tied, Calm, Tame, IsTame, TameUnit, TameUnits}
 use Rattle.execution.proofs.Congruence.{needs}
@@ -19,7 +19,7 @@ use Rattle.execution.proofs.CallLaws.{returns_tied, calls_tied}
 use Rattle.execution.proofs.LinkLaws.{linked_tame}
 use Rattle.typed_tree.specs.Units.{Definition, Declared, Zero, Initialised, Body, Function, Local}
 use Rattle.c_tree.specs.Units.{Compound, UnitTree}
-use Rattle.c_typing.specs.Types.{Types, any_of}
+use Rattle.c_typing.specs.Types.{Types}
 use Rattle.c_typing.specs.Scopes.{Entity, Env, Found, Good, Bad}
 use Rattle.c_typing.specs.Faults.{walked, start_env}
 use Rattle.c_semantics.specs.Places.{Activation}
