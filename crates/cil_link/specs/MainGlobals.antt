@@ -1,6 +1,8 @@
 -- Device: the global that is a main, and how a run begins with what it means.
 use Rattle.std.specs.Prelude.{◌≡◌, ℕ, Bool, true, false, ◌&&◌, if◌then◌else◌, List, [], ◌∷◌, Option, Some, None}
+use Rattle.cil_base.specs.declared.kinds.IntKind.{IntKind}
 use Rattle.cil_base.specs.declared.kinds.IntKind.TheVariants.{Int as int, Char as char}
+use Rattle.cil_base.specs.Kinds.{same_kind}
 use Rattle.type_graph.specs.Shapes.{Shape, Shapes, IntType, PtrType, NoTypes, MoreTypes}
 use Rattle.byte_mem.specs.Steps.{◌>>=◌}
 use Rattle.execution.specs.Data.{Argument}
@@ -25,13 +27,15 @@ abbrev pub main_among : List InRun → Option ℕ
 main_among [] = None
 main_among (u ∷ units) = first_of (main_number u.entities u.program.globals) (main_among units)
 
+abbrev pub is_kind : IntKind → Shape → Bool
+is_kind kind (IntType k) = same_kind k kind
+is_kind kind _ = false
+
 abbrev pub is_int : Shape → Bool
-is_int (IntType int) = true
-is_int _ = false
+is_int s = is_kind int s
 
 abbrev pub is_char : Shape → Bool
-is_char (IntType char) = true
-is_char _ = false
+is_char s = is_kind char s
 
 abbrev pub points_to_char : Shape → Bool
 points_to_char (PtrType q s) = is_char s

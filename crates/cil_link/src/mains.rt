@@ -8,7 +8,7 @@ ghost use Rattle.cil_semantics.specs.Runs.{is_main, global_meaning};
 ghost use Rattle.cil_link.specs.Entities.{meant, IsThere};
 ghost use Rattle.cil_link.specs.Mains.{BeginsWith};
 ghost use Rattle.cil_link.specs.Units.{AreLinked, programs_in, units_in};
-ghost use Rattle.cil_link.specs.MainGlobals.{main_number, main_among, is_int, is_char, points_to_char, is_argv, are_words, start_for, start_at, main_with, Begun};
+ghost use Rattle.cil_link.specs.MainGlobals.{main_number, main_among, is_kind, points_to_char, is_argv, are_words, start_for, start_at, main_with, Begun};
 
 use crate::entities::{Definer, text};
 use crate::units::Units;
@@ -23,20 +23,16 @@ pub struct Main {
     pub words: bool,
 }
 
-/// Whether a type is `int`.
-fn is_int(g: &TypeGraph, t: TypeId) -> bool
+/// Whether a type is the integer type of a kind.
+fn is_kind(g: &TypeGraph, t: TypeId, kind: IntKind) -> bool
     requires { t.0 < length g.now.nodes }
-    ensures { result ≡ is_int (shape g.now.nodes t.0) }
+    ensures { result ≡ is_kind kind (shape g.now.nodes t.0) }
 {
-    matches!(g.node(t), Node::Int(IntKind::Int))
-}
-
-/// Whether a type is `char`.
-fn is_char(g: &TypeGraph, t: TypeId) -> bool
-    requires { t.0 < length g.now.nodes }
-    ensures { result ≡ is_char (shape g.now.nodes t.0) }
-{
-    matches!(g.node(t), Node::Int(IntKind::Char))
+    if let Node::Int(k) = g.node(t) {
+        *k == kind
+    } else {
+        false
+    }
 }
 
 /// Whether a type is `char *`, whose qualifiers do not count.
@@ -45,7 +41,7 @@ fn points_to_char(g: &TypeGraph, t: TypeId) -> bool
     ensures { result ≡ points_to_char (shape g.now.nodes t.0) }
 {
     if let Node::Ptr(to) = g.node(t) {
-        is_char(g, to.of)
+        is_kind(g, to.of, IntKind::Char)
     } else {
         false
     }
@@ -70,7 +66,7 @@ fn are_words(g: &TypeGraph, params: &[TypeId]) -> bool
     ensures { result ≡ are_words (shapes_of (shape g.now.nodes) params.now) }
 {
     match params {
-        [first, second] => is_int(g, *first) && is_argv(g, *second),
+        [first, second] => is_kind(g, *first, IntKind::Int) && is_argv(g, *second),
         _ => false,
     }
 }
@@ -106,7 +102,7 @@ fn start_of(g: &TypeGraph, t: TypeId) -> Option<bool>
         ..
     } = g.node(t)
     {
-        if *variadic || !is_int(g, *ret) {
+        if *variadic || !is_kind(g, *ret, IntKind::Int) {
             None
         } else {
             params_start(g, params.as_slice())

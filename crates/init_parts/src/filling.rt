@@ -197,12 +197,10 @@ pub fn is_character_array(t: &Types, ty: QualType) -> bool {
     }
 }
 
-/// Whether a type is a character type (C11 6.2.5p15).
+/// Whether a type is a character type (C11 6.2.5p15): these have the rank of char, and no other does (6.3.1.1p1).
 fn is_character(t: &Types, ty: QualType) -> bool {
     match t.class(ty.of) {
-        Class::Int(kind) => {
-            kind == IntKind::Char || kind == IntKind::SChar || kind == IntKind::UChar
-        }
+        Class::Int(kind) => kind.rank() == IntKind::Char.rank(),
         Class::Void | Class::Ptr(_) | Class::Array(..) | Class::Func { .. } | Class::Agg(..) => {
             false
         }
