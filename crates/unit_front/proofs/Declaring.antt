@@ -1,15 +1,11 @@
 -- Device: the external names of a program are looked at one by one.
-use Rattle.std.proofs.Common.{◌≡◌, ℕ, zero, suc, ◌+◌, ◌<◌, ◌≤◌, Bool, true, false, List, [], ◌∷◌, length, Some, slice_get, ◌⊎◌, inl, inr, leb, sym, subst, ◌∙◌, arith}
+use Rattle.std.proofs.Common.{◌≡◌, ℕ, zero, suc, ◌+◌, ◌<◌, ◌≤◌, true, false, List, [], ◌∷◌, length, Some, slice_get, ◌⊎◌, inl, inr, leb, sym, subst, ◌∙◌, arith}
 use Rattle.std.proofs.lemmas.Bool.Decides.{leb_tells}
 use Rattle.std.proofs.lemmas.Option.{same_Some}
-use Rattle.cil_base.specs.declared.numbers.NameId.{NameId}
-use Rattle.cil_base.specs.declared.tokens.Token.{Token}
-use Rattle.cil_base.specs.declared.tokens.TokenKind.TheVariants.{Name}
-use Rattle.cil_base.specs.declared.faults.Place.{Place}
-use Rattle.c_lexer.specs.Lexed.{Lexed, token_at, place_at}
+use Rattle.c_lexer.specs.Lexed.{Lexed}
 use Rattle.link_names.specs.declared.units.Site.{Site}
 use Rattle.link_names.specs.declared.units.Fronted.{Fronted}
-use Rattle.unit_front.specs.Identifiers.{IsIdentifier, IsDeclared, AreDeclared}
+use Rattle.unit_front.specs.Identifiers.{IsDeclared, AreDeclared}
 
 -- those before a number
 abbrev pub AreDeclaredTo : Lexed → Fronted → ℕ → Type 0

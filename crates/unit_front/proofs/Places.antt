@@ -1,5 +1,5 @@
 -- Device: a place in the tokens of a unit has the unit's number, so each layer's refusal stands in the unit.
-use Rattle.std.proofs.Common.{◌≡◌, ℕ, List, ◌==◌, Bool, true, false, Option, Some, None, slice_get, length, if◌then◌else◌, ap, sym, subst}
+use Rattle.std.proofs.Common.{◌≡◌, ℕ, ◌==◌, Bool, true, false, Option, Some, None, slice_get, length, if◌then◌else◌, ap, sym, subst}
 use Rattle.std.specs.Option.{option_map}
 use Rattle.std.proofs.lemmas.Option.{same_Some}
 use Rattle.cil_base.specs.declared.numbers.UnitNo.{UnitNo}
