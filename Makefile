@@ -30,15 +30,19 @@ try-edits:
 
 install: program
 	install -D -m 755 $(PROGRAM) $(DESTDIR)$(PREFIX)/bin/cil
+	install -m 755 scripts/merge-project $(DESTDIR)$(PREFIX)/bin/cil-merge-project
 	install -D -m 644 docs/cil.1 $(DESTDIR)$(PREFIX)/share/man/man1/cil.1
-	install -d $(DESTDIR)$(PREFIX)/share/cil/include $(DESTDIR)$(PREFIX)/share/cil/lib
+	install -d $(DESTDIR)$(PREFIX)/share/cil/include $(DESTDIR)$(PREFIX)/share/cil/lib $(DESTDIR)$(PREFIX)/share/cil/posix/sys
 	install -m 644 include/*.h $(DESTDIR)$(PREFIX)/share/cil/include
 	install -m 644 lib/*.c $(DESTDIR)$(PREFIX)/share/cil/lib
+	install -m 644 examples/posix/*.h $(DESTDIR)$(PREFIX)/share/cil/posix
+	install -m 644 examples/posix/sys/*.h $(DESTDIR)$(PREFIX)/share/cil/posix/sys
 
 check-docs:
 	scripts/check-docs
 
-# Merges, runs and merges again an example with the C library of lib/, and compares each step with gcc; then the units, programs and commands of tests/.
+# Merges, runs and merges again an example with the C library of lib/, merges one that reads a file by scripts/merge-project, and compares each
+# step with gcc; then the units, programs and commands of tests/.
 check-program: program
 	scripts/check-program $(PROGRAM)
 	scripts/check-rows $(PROGRAM)
