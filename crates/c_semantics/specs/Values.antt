@@ -28,6 +28,7 @@ use Rattle.c_typing.specs.Initialisers.{Path, part_of}
 abbrev pub sizes_of : Types → TypeSizes
 sizes_of t = record { abi = t.abi; size = size_in t; is_enum = λ a. is_integer t (AggType a) }
 
+-- kinds, casts, operators and tests over a unit's types (6.2.5, 6.5.3.3, 6.5.4, 6.5.5 to 6.5.12, 6.8.4.1)
 abbrev pub kind_of : Types → Shape → Option Kind
 kind_of t s = typed.kind_in (sizes_of t) s
 

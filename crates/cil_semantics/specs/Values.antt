@@ -43,6 +43,7 @@ size_in g s = option_map (λ (l : Layout). l.size) (shape_layout g s)
 abbrev pub sizes_of : Graph → TypeSizes
 sizes_of g = record { abi = g.abi; size = size_in g; is_enum = names_enum g }
 
+-- kinds, operators and casts over a program's types (C11 6.2.5, 6.5.3.3, 6.5.4, 6.5.5 to 6.5.12)
 abbrev pub kind_in : Graph → Shape → Option Kind
 kind_in g s = typed.kind_in (sizes_of g) s
 
