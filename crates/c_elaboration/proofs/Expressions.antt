@@ -19,6 +19,7 @@ use Rattle.typed_tree.specs.Tree.{Typed, NoArguments, MoreArguments, Literal as 
 use Rattle.c_tree.specs.declared.words.UnaryOp.{UnaryOp}
 use Rattle.c_tree.specs.declared.words.UnaryOp.TheVariants.{Address, Indirection, Plus, Minus, Complement, Not as Negation}
 use Rattle.c_tree.specs.Syntax.{ExprTree, Name, Integer, Character, Literals, Parentheses, Index, Call, Member, Arrow, Postfix, CompoundLiteral, Prefix, Unary, SizeofExpr, SizeofType, AlignofType, Cast, Binary, Logical, Conditional, Assign, Comma, ExprTrees, NoExprs, MoreExprs, InitTree, Single as Lone, Braces, Item, ItemTrees, NoItems, MoreItems, DesignatorTrees, NoDesignators}
+use Rattle.c_tree.specs.Places.{first_expr, first_type_name, first_item}
 use Rattle.c_typing.specs.Types.{CType, Types, Hop, is_void, pointee, kind_in, member_path, size_in, alignment_in}
 use Rattle.c_typing.specs.Conversions.{Operand, operand, shape_of, kind_of, value_shape, promoted_shape, value_of as value_node, value_as}
 use Rattle.c_typing.specs.Constants.{integer_constant, character_constant, string_literal}
@@ -27,13 +28,13 @@ use Rattle.c_typing.specs.Operators.{binary_sides, subscript_sides, compound_sid
 use Rattle.c_typing.specs.Scopes.{Env, Denotes, TypedefName, EnumerationConstant, Automatic, Static, Walk, Found, Good, ◌>>=◌, following, pure, unevaluated, visible_name, refuses_if, excludes_if, with_entity}
 use Rattle.c_typing.specs.Nodes.{Node, NameNode, ConstantNode, IndexNode, CallNode, StepNode, BinaryNode, LogicalNode, ConditionalNode, CommaNode, CastNode, SizeofNode, AlignofNode, Callee, callee_of, given, place, along as along_node, indirect as indirect_node, passed, constant_operand, integer_operand, size_shape, typed_node}
 use Rattle.c_typing.specs.Nodes as node
-use Rattle.c_typing.specs.Declarators.{at_of, at_of_specifiers}
+use Rattle.c_typing.specs.Declarators.{at_first}
 use Rattle.c_typing.specs.Initialisers.{Part, Frame, Filling, AValue, ALiteral, is_character_array, inits, beginning, whole_part}
 use Rattle.c_typing.specs.Statements.{Place}
 use Rattle.c_typing.specs.Steps.{at_node, by_node, by_operand, by_sized, at_call, uses_name, designates, made_entity, nameless, literal_type, literal_of, logic_of, postfix_form, prefix_form, unary_node, assign_node, member_node, arrow_node, ats_of, with_value, with_literal, in_flexible}
-use Rattle.c_typing.specs.Walk.{is_static_here, may_be_initialised, literal_in, alone, item_at, brace_at, part_for, fitted, literal_for, object_by, item_by, with_brace, braced, braces_for, number_of_literal, literal_object, filled, compound_literal, expr, exprs, initialise, items_in, item, designation}
+use Rattle.c_typing.specs.Walk.{is_static_here, may_be_initialised, literal_in, alone, brace_at, part_for, fitted, literal_for, object_by, item_by, with_brace, braced, braces_for, number_of_literal, literal_object, filled, compound_literal, expr, exprs, initialise, items_in, item, designation, named_type}
 use Rattle.c_semantics.specs.Places.{Activation, Here, here_behind, found, none, undefined, with_parts, with_operand, with_operands, literal_number, array_number, arrays_in, arrays_in_operands, arrays_in_init, arrays_in_inits}
-use Rattle.c_semantics.specs.Walks.{named_type, designators as walked_designators}
+use Rattle.c_semantics.specs.Walks.{designators as walked_designators}
 use Rattle.c_semantics.specs.Operations.{Action, ◌>>=◌ as ◌>>>◌, gives, Seen, single, taken, pointed, indirect, called, unit_object, local_object, logical, tested, along, fill_part, Object, literal_object as object_literal, initialised, Rest, zeroes, steps_of, next_step}
 use Rattle.c_semantics.specs.Expressions as syntax
 use Rattle.c_semantics.specs.Expressions.{of_number, measured, of_name, dot_path, arrow_path, passed_shape, parameters_behind, c_exp, c_arguments, c_init, c_init_items}
@@ -507,33 +508,33 @@ module _ (a : Activation) (enter : Enter) where
         ∙ walked (CallNode i.0.0 j.0.0) j.0.1 y h.arrays w.1)))
     exp_is (Member at e m) h y g = one e (exp_is e) (by_node at) (λ t x. member_node t m x) (λ t n x. syntax.of_member a n (dot_path t m x) x) (λ t x k o f. dot m t x k o f) h y g
     exp_is (Arrow at e m) h y g = one e (exp_is e) (by_node at) (λ t x. arrow_node t m x) (λ t n x. syntax.of_arrow a n (arrow_path t m x) x) (λ t x k o f. arrow m t x k o f) h y g
-    exp_is (Postfix at e op) h y g = one e (exp_is e) (by_operand at (at_of e)) (λ t x. StepNode (postfix_form op) x) (λ t n x. syntax.of_step a t (postfix_form op) x) (λ t x k o f. step (postfix_form op) t 0 x k o f) h y g
-    exp_is (CompoundLiteral at ss d items comma) h y g =
-        let i = stepped {A = CType} (named_type ss d h.env) (literal_walk at items) y g in
-        parts_found (named_type ss d) h (λ c k. with_operand (expr (CompoundLiteral at ss d items comma)) h (λ x j. syntax.of_literal a x.typed k (λ o. c_init_items a enter o items))) i.0 i.1
-        ∙ (operand_found (expr (CompoundLiteral at ss d items comma)) h (λ x j. syntax.of_literal a x.typed (here_behind none h i.0) (λ o. c_init_items a enter o items)) y g
+    exp_is (Postfix at e op) h y g = one e (exp_is e) (by_operand at (first_expr e)) (λ t x. StepNode (postfix_form op) x) (λ t n x. syntax.of_step a t (postfix_form op) x) (λ t x k o f. step (postfix_form op) t 0 x k o f) h y g
+    exp_is (CompoundLiteral at t items comma) h y g =
+        let i = stepped {A = CType} (named_type t h.env) (literal_walk at items) y g in
+        parts_found (named_type t) h (λ c k. with_operand (expr (CompoundLiteral at t items comma)) h (λ x j. syntax.of_literal a x.typed k (λ o. c_init_items a enter o items))) i.0 i.1
+        ∙ (operand_found (expr (CompoundLiteral at t items comma)) h (λ x j. syntax.of_literal a x.typed (here_behind none h i.0) (λ o. c_init_items a enter o items)) y g
         ∙ (literal_means at items (items_are items) i.0.0 (here_behind none h i.0) y i.2
         ∙ ap (λ n. t_exp a enter y.0.typed n) (add-zero h.arrays)))
-    exp_is (Prefix at op e) h y g = one e (exp_is e) (by_operand at (at_of e)) (λ t x. StepNode (prefix_form op) x) (λ t n x. syntax.of_step a t (prefix_form op) x) (λ t x k o f. step (prefix_form op) t 0 x k o f) h y g
-    exp_is (Unary at op e) h y g = one e (exp_is e) (by_operand at (at_of e)) (λ t x. unary_node op x) (λ t n x. syntax.of_unary a t op x) (λ t x k o f. unary op t x k o f) h y g
+    exp_is (Prefix at op e) h y g = one e (exp_is e) (by_operand at (first_expr e)) (λ t x. StepNode (prefix_form op) x) (λ t n x. syntax.of_step a t (prefix_form op) x) (λ t x k o f. step (prefix_form op) t 0 x k o f) h y g
+    exp_is (Unary at op e) h y g = one e (exp_is e) (by_operand at (first_expr e)) (λ t x. unary_node op x) (λ t n x. syntax.of_unary a t op x) (λ t x k o f. unary op t x k o f) h y g
     exp_is (SizeofExpr at e) h y g =
-        let i = stepped {A = Operand} (unevaluated (expr e) h.env) (λ x. at_node (by_sized at (at_of e)) (SizeofNode (shape_in x.typed))) y g in
+        let i = stepped {A = Operand} (unevaluated (expr e) h.env) (λ x. at_node (by_sized at (first_expr e)) (SizeofNode (shape_in x.typed))) y g in
         operand_found (unevaluated (expr e)) h (λ x k. measured (size_in k.env.types (shape_in x.typed))) i.0 i.1
         ∙ measured_is _ (SizeofNode (shape_in i.0.0.typed)) i.0.1 y h.arrays (size_in i.0.1.types (shape_in i.0.0.typed)) i.2 refl
-    exp_is (SizeofType at ss d) h y g =
-        let i = stepped {A = CType} (unevaluated (named_type ss d) h.env) (λ (c : CType). at_node (by_sized at (at_of_specifiers ss)) (SizeofNode c.shape)) y g in
-        parts_found (unevaluated (named_type ss d)) h (λ c k. measured (size_in k.env.types c.shape)) i.0 i.1
+    exp_is (SizeofType at t) h y g =
+        let i = stepped {A = CType} (unevaluated (named_type t) h.env) (λ (c : CType). at_node (by_sized at (at_first (first_type_name t))) (SizeofNode c.shape)) y g in
+        parts_found (unevaluated (named_type t)) h (λ c k. measured (size_in k.env.types c.shape)) i.0 i.1
         ∙ measured_is _ (SizeofNode i.0.0.shape) i.0.1 y h.arrays (size_in i.0.1.types i.0.0.shape) i.2 refl
-    exp_is (AlignofType at ss d) h y g =
-        let i = stepped {A = CType} (unevaluated (named_type ss d) h.env) (λ (c : CType). at_node (by_sized at (at_of_specifiers ss)) (AlignofNode c.shape)) y g in
-        parts_found (unevaluated (named_type ss d)) h (λ c k. measured (alignment_in k.env.types c.shape)) i.0 i.1
+    exp_is (AlignofType at t) h y g =
+        let i = stepped {A = CType} (unevaluated (named_type t) h.env) (λ (c : CType). at_node (by_sized at (at_first (first_type_name t))) (AlignofNode c.shape)) y g in
+        parts_found (unevaluated (named_type t)) h (λ c k. measured (alignment_in k.env.types c.shape)) i.0 i.1
         ∙ measured_is _ (AlignofNode i.0.0.shape) i.0.1 y h.arrays (alignment_in i.0.1.types i.0.0.shape) i.2 refl
-    exp_is (Cast at ss d e) h y g =
-        let i = stepped {A = CType} (named_type ss d h.env) (λ c. expr e >>= (λ x. at_node (by_node at) (CastNode c x))) y g in
+    exp_is (Cast at t e) h y g =
+        let i = stepped {A = CType} (named_type t h.env) (λ c. expr e >>= (λ x. at_node (by_node at) (CastNode c x))) y g in
         let j = stepped {A = Operand} (expr e i.0.1) (λ x. at_node (by_node at) (CastNode i.0.0 x)) y i.2 in
         let w = node_given (by_node at) (CastNode i.0.0 j.0.0) j.0.1 y j.2 in
         let k : Here = here_behind none h i.0 in
-        parts_found (named_type ss d) h (λ c k. with_operand (expr e) k (λ x j. syntax.of_cast a c.shape x (c_exp a enter e k))) i.0 i.1
+        parts_found (named_type t) h (λ c k. with_operand (expr e) k (λ x j. syntax.of_cast a c.shape x (c_exp a enter e k))) i.0 i.1
         ∙ (operand_found (expr e) k (λ x j. syntax.of_cast a i.0.0.shape x (c_exp a enter e k)) j.0 j.1
         ∙ (ap (syntax.of_cast a i.0.0.shape j.0.0) (exp_is e k j.0 j.1)
         ∙ (ap (λ n. syntax.of_cast a i.0.0.shape j.0.0 (t_exp a enter j.0.0.typed n)) (add-zero h.arrays)
@@ -557,7 +558,7 @@ module _ (a : Activation) (enter : Enter) where
         ∙ (ap₂ (syntax.of_conditional a m.0.1.types i.0.0 j.0.0 m.0.0 (t_exp a enter i.0.0.typed h.arrays)) (exp_is l k j.0 j.1) (exp_is r n m.0 m.1)
         ∙ (conditional m.0.1.types i.0.0 j.0.0 m.0.0 h.arrays w.0
         ∙ walked (ConditionalNode i.0.0 j.0.0 m.0.0) m.0.1 y h.arrays w.1)))))
-    exp_is (Assign at op l r) h y e = two l r (exp_is l) (exp_is r) (by_operand at (at_of l)) (assign_node op) (λ t x z. syntax.of_assign a t op x z) (λ t x z k f. assign t op x z k f) h y e
+    exp_is (Assign at op l r) h y e = two l r (exp_is l) (exp_is r) (by_operand at (first_expr l)) (assign_node op) (λ t x z. syntax.of_assign a t op x z) (λ t x z k f. assign t op x z k f) h y e
     exp_is (Comma at l r) h y e = two l r (exp_is l) (exp_is r) (by_node at) CommaNode (λ t x z. syntax.of_comma a x z) (λ t x z k f. comma_is a enter x z k) h y e
 
     arguments_are : (es : ExprTrees) (h : Here) (ys : List Operand × Env) → exprs es h.env ≡ Good ys → (t : Types) (ps : Shapes) → c_arguments a enter t ps es h ≡ t_arguments a enter (passed t ps ys.0) h.arrays
@@ -576,17 +577,17 @@ module _ (a : Activation) (enter : Enter) where
 
     -- an initialiser, an item, and the items of a brace list
     pub init_is : (i : InitTree) (o : Object) (p : Part) (f : Filling) (from : Env) (y : Filling × Env) → initialise false p f i from ≡ Good y → Fills o (c_init a enter o i) f.steps y.0.steps from y.1
-    init_is (Lone e) o p f from y g = object_is e (exp_is e) o (at_of e) p f from y (literal_in e) g
+    init_is (Lone e) o p f from y g = object_is e (exp_is e) o (first_expr e) p f from y (literal_in e) g
     init_is (Braces at is comma) o p f from y g = braces_are is (items_are is) at o p f from y (alone is) refl g
 
     item_means : (i : InitTree) (o : Object) (first : ℕ) (d : Option (Part × List Frame)) (f : Filling) (from : Env) (y : Filling × Env) → item false first d f i from ≡ Good y → Fills o (c_init a enter o i) f.steps y.0.steps from y.1
-    item_means (Lone e) o first d f from y g = item_is e (exp_is e) o first (at_of e) d f from y (literal_in e) g
+    item_means (Lone e) o first d f from y g = item_is e (exp_is e) o first (first_expr e) d f from y (literal_in e) g
     item_means (Braces at is comma) o first d f from y g = item_braces is (items_are is) at o first d f from y g
 
     items_are : (is : ItemTrees) → FillsItems is
     items_are NoItems o f from y g = subst (λ (z : Filling × Env). Fills o (c_init_items a enter o NoItems) f.steps z.0.steps from z.1) (sym (good (f, from) y g)) (none_fills o f.steps from)
     items_are (MoreItems (Item ds i) is) o f from y g =
-        let first : ℕ = item_at ds i in
+        let first : ℕ = first_item (Item ds i) in
         let d = stepped {A = Option (Part × List Frame)} (designation f ds from) (λ z. item false first z f i >>= (λ k. items_in false is k)) y g in
         let k = stepped {A = Filling} (item false first d.0.0 f i d.0.1) (λ k. items_in false is k) y d.2 in
         two_items ds i is o from d.0.1 (designation_here f ds from d.0 d.1) f.steps k.0.0.steps y.0.steps k.0.1 y.1 (item_means i o first d.0.0 f d.0.1 k.0 k.1) (items_are is o k.0.0 k.0.1 y k.2)

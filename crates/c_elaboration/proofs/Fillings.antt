@@ -8,9 +8,9 @@ use Rattle.cil_base.specs.declared.faults.Code.TheVariants as code
 use Rattle.cil_base.specs.declared.faults.Feature.TheVariants as feature
 use Rattle.typed_tree.specs.Tree.{Init, Zero, Scalar, Aggregate, Bytes}
 use Rattle.c_tree.specs.Syntax.{DesignatorTrees, NoDesignators, MoreDesignators, AtIndex, AtMember}
+use Rattle.c_tree.specs.Places.{first_expr}
 use Rattle.c_typing.specs.Types.{Types, is_scalar}
 use Rattle.c_typing.specs.Conversions.{Operand, value_of as value_node, value_as}
-use Rattle.c_typing.specs.Declarators.{at_of}
 use Rattle.c_typing.specs.Evaluation.{integer_value}
 use Rattle.c_typing.specs.Initialisers.{Path, Part, Frame, Filling, Given, takes_whole, AValue, next_part, down_to, nesting_of, with_whole, with_zero, with_bytes, fitting, has_room, bound_of_array}
 use Rattle.c_typing.specs.Nodes.{ConvertNode}
@@ -59,12 +59,12 @@ designators_here (MoreDesignators (AtMember at m) ds) x env y h =
     subst (λ (v : Env). walked_designators ds v ≡ Good (tt, y.1)) there (designators_here ds i.0.0 i.0.1 y i.2)
 designators_here (MoreDesignators (AtIndex at e) ds) x env y h =
     let i = stepped {A = Option (Part × List Frame)} (designator x (AtIndex at e) env) (λ z. designators z ds) y h in
-    let k = stepped {A = Operand} (expr e env) (λ v. known_integer (at_of e) v >>= (λ n w. (required (option_and_then (designated_index w.types n) x) code.Initialiser at >>= (λ z. pure (Some z))) w)) i.0 i.1 in
-    let l = stepped {A = ℤ} (known_integer (at_of e) k.0.0 k.0.1) (λ n w. (required (option_and_then (designated_index w.types n) x) code.Initialiser at >>= (λ z. pure (Some z))) w) i.0 k.2 in
+    let k = stepped {A = Operand} (expr e env) (λ v. known_integer (first_expr e) v >>= (λ n w. (required (option_and_then (designated_index w.types n) x) code.Initialiser at >>= (λ z. pure (Some z))) w)) i.0 i.1 in
+    let l = stepped {A = ℤ} (known_integer (first_expr e) k.0.0 k.0.1) (λ n w. (required (option_and_then (designated_index w.types n) x) code.Initialiser at >>= (λ z. pure (Some z))) w) i.0 k.2 in
     let m = stepped {A = Part × List Frame} (required (option_and_then (designated_index l.0.1.types l.0.0) x) code.Initialiser at l.0.1) (λ z. pure (Some z)) i.0 l.2 in
     let there : i.0.1 ≡ k.0.1 =
     ap (λ (z : Option (Part × List Frame) × Env). z.1) (good (Some m.0.0, m.0.1) i.0 m.2)
-    ∙ (required_here (option_and_then (designated_index l.0.1.types l.0.0) x) code.Initialiser at l.0.1 m.0 m.1 ∙ integer_here (at_of e) k.0.0 k.0.1 l.0 l.1) in
+    ∙ (required_here (option_and_then (designated_index l.0.1.types l.0.0) x) code.Initialiser at l.0.1 m.0 m.1 ∙ integer_here (first_expr e) k.0.0 k.0.1 l.0 l.1) in
     ap (λ (r : Found (Operand × Env)). following (λ u. walked_designators ds) r) k.1
     ∙ subst (λ (v : Env). walked_designators ds v ≡ Good (tt, y.1)) there (designators_here ds i.0.0 i.0.1 y i.2)
 

@@ -5,9 +5,9 @@ use Rattle.execution.specs.Data.{Datum}
 use Rattle.execution.specs.Calls.{Enter}
 use Rattle.typed_tree.specs.Tree.{Typed}
 use Rattle.c_tree.specs.Syntax.{ExprTree, InitTree}
+use Rattle.c_tree.specs.Places.{first_expr}
 use Rattle.c_typing.specs.Types.{CType}
 use Rattle.c_typing.specs.Conversions.{Operand, shape_of, promoted_shape, value_as}
-use Rattle.c_typing.specs.Declarators.{at_of}
 use Rattle.c_typing.specs.Initialisers.{Filling, inits, beginning, whole_part}
 use Rattle.c_typing.specs.Nodes.{Node, TestNode, SwitchNode, ValueNode, typed_node}
 use Rattle.c_typing.specs.Scopes.{Env, Good, ◌>>=◌, pure}
@@ -30,12 +30,12 @@ use Rattle.c_elaboration.proofs.Fillings.{good}
 use Rattle.c_elaboration.proofs.Expressions.{operand_found, exp_is, init_is, steps_are}
 
 -- a node that stands in a statement
-node_in : (e : ExprTree) (n : Operand → Node) (env : Env) (y : Typed × Env) → (expr e >>= (λ x. at_node (by_node (at_of e)) (n x) >>= (λ z. pure z.typed))) env ≡ Good y
+node_in : (e : ExprTree) (n : Operand → Node) (env : Env) (y : Typed × Env) → (expr e >>= (λ x. at_node (by_node (first_expr e)) (n x) >>= (λ z. pure z.typed))) env ≡ Good y
     → (i : Operand × Env) × (expr e env ≡ Good i) × (y.0 ≡ (typed_node i.1.types (n i.0)).typed)
 node_in e n env y g =
-    let i = stepped {A = Operand} (expr e env) (λ x. at_node (by_node (at_of e)) (n x) >>= (λ (z : Operand). pure z.typed)) y g in
-    let j = stepped {A = Operand} (at_node (by_node (at_of e)) (n i.0.0) i.0.1) (λ (z : Operand). pure z.typed) y i.2 in
-    (i.0, i.1, ap (λ (w : Typed × Env). w.0) (good (j.0.0.typed, j.0.1) y j.2) ∙ ap (λ (w : Operand × Env). w.0.typed) (node_given (by_node (at_of e)) (n i.0.0) i.0.1 j.0 j.1).1)
+    let i = stepped {A = Operand} (expr e env) (λ x. at_node (by_node (first_expr e)) (n x) >>= (λ (z : Operand). pure z.typed)) y g in
+    let j = stepped {A = Operand} (at_node (by_node (first_expr e)) (n i.0.0) i.0.1) (λ (z : Operand). pure z.typed) y i.2 in
+    (i.0, i.1, ap (λ (w : Typed × Env). w.0) (good (j.0.0.typed, j.0.1) y j.2) ∙ ap (λ (w : Operand × Env). w.0.typed) (node_given (by_node (first_expr e)) (n i.0.0) i.0.1 j.0 j.1).1)
 
 module _ (a : Activation) (enter : Enter) where
   effect_is : (e : ExprTree) (h : Here) (y : Typed × Env) → effect e h.env ≡ Good y → t_effect a enter y.0 h.arrays ≡ c_effect a enter e h

@@ -12,19 +12,19 @@ use Rattle.typed_tree.specs.Tree.{Typed, Convert, Literal as LiteralObject, Enti
 use Rattle.c_tree.specs.declared.words.UnaryOp.{UnaryOp}
 use Rattle.c_tree.specs.declared.words.UnaryOp.TheVariants.{Address, Indirection, Plus, Minus, Complement, Not as Negation}
 use Rattle.c_tree.specs.Syntax.{ExprTree, Name, Integer, Character, Literals, Parentheses, Index, Call, Member, Arrow, Postfix, CompoundLiteral, Prefix, Unary, SizeofExpr, SizeofType, AlignofType, Cast, Binary, Logical, Conditional, Assign, Comma}
+use Rattle.c_tree.specs.Places.{first_expr, first_type_name}
 use Rattle.c_typing.specs.Types.{CType, Types, Hop, is_void, pointee, member_path, size_in, alignment_in}
 use Rattle.c_typing.specs.Conversions.{Operand, operand, same_shape, same_effect, shape_of, promoted_shape, value_of as value_node}
 use Rattle.c_typing.specs.Constants.{integer_constant, character_constant, string_literal}
-use Rattle.c_typing.specs.Specifiers.{NoStorage}
 use Rattle.c_typing.specs.Scopes.{Env, Denotes, TypedefName, EnumerationConstant, Automatic, Static, Good, ◌>>=◌, pure, unevaluated, refuses_if, visible_name}
 use Rattle.c_typing.specs.Nodes as node
 use Rattle.c_typing.specs.Operators.{binary_sides, subscript_sides, compound_sides, step_shape, branch_shape}
 use Rattle.c_typing.specs.Constraints.{wrong_argument}
-use Rattle.c_typing.specs.Nodes.{Node, NameNode, ConstantNode, IndexNode, CallNode, MemberNode, ArrowNode, StepNode, BinaryNode, LogicalNode, ConditionalNode, CommaNode, CastNode, SizeofNode, AlignofNode, given, place, along, indirect, callee_of, constant_operand, integer_operand, size_shape, typed_node, cast_to}
-use Rattle.c_typing.specs.Declarators.{at_of, at_of_specifiers}
+use Rattle.c_typing.specs.Nodes.{Node, NameNode, ConstantNode, IndexNode, CallNode, StepNode, BinaryNode, LogicalNode, ConditionalNode, CommaNode, CastNode, SizeofNode, AlignofNode, given, place, along, indirect, callee_of, constant_operand, integer_operand, size_shape, typed_node, cast_to}
+use Rattle.c_typing.specs.Declarators.{at_first}
 use Rattle.c_typing.specs.Initialisers.{Filling, inits, beginning, whole_part}
-use Rattle.c_typing.specs.Steps.{at_node, by_node, by_operand, by_sized, by_argument, number_at, at_call, uses_name, designates, made_entity, nameless, literal_type, literal_of, logic_of, postfix_form, prefix_form, unary_node, assign_node, member_node, arrow_node, ats_of, base_with, type_with}
-use Rattle.c_typing.specs.Walk.{brace_at, is_static_here, may_be_initialised, alone, braces_for, number_of_literal, literal_object, filled, compound_literal, expr, exprs, named, derived, items_in}
+use Rattle.c_typing.specs.Steps.{at_node, by_node, by_operand, by_sized, by_argument, number_at, at_call, uses_name, designates, made_entity, nameless, literal_type, literal_of, logic_of, postfix_form, prefix_form, unary_node, assign_node, member_node, arrow_node, ats_of}
+use Rattle.c_typing.specs.Walk.{brace_at, is_static_here, may_be_initialised, alone, braces_for, number_of_literal, literal_object, filled, compound_literal, expr, exprs, items_in}
 use Rattle.c_elaboration.proofs.Unviolated.{stepped, node_given}
 use Rattle.c_elaboration.proofs.Forms.{OfRecords, value_records, as_records}
 use Rattle.c_elaboration.proofs.Members.{along_records, found_path}
@@ -120,10 +120,10 @@ recorded (Arrow at e x) env y h =
     node_records (by_node at) (arrow_node i.0.1.types x i.0.0) i.0.1 y i.2
     (given_records (node.of_arrow i.0.0) (option_and_then (λ (c : CType). member_path i.0.1.types x c.shape) (pointee (shape_of i.0.0))) (λ hops f. arrows i.0.0 hops (pointee (shape_of i.0.0))))
 recorded (Postfix at e op) env y h =
-    let i = stepped {A = Operand} (expr e env) (λ a. at_node (by_operand at (at_of e)) (StepNode (postfix_form op) a)) y h in
-    node_records (by_operand at (at_of e)) (StepNode (postfix_form op) i.0.0) i.0.1 y i.2 (given_records (node.of_step (postfix_form op) i.0.0) (step_shape i.0.1.types i.0.0) (λ s f. tt))
-recorded (CompoundLiteral at ss d items comma) env y e =
-    let i = stepped {A = CType} (type_with ss d (base_with NoStorage ss (named false ss)) (derived false d) env) (λ c v. (refuses_if (not (may_be_initialised v.types c)) code.Incomplete at >>= (λ u.
+    let i = stepped {A = Operand} (expr e env) (λ a. at_node (by_operand at (first_expr e)) (StepNode (postfix_form op) a)) y h in
+    node_records (by_operand at (first_expr e)) (StepNode (postfix_form op) i.0.0) i.0.1 y i.2 (given_records (node.of_step (postfix_form op) i.0.0) (step_shape i.0.1.types i.0.0) (λ s f. tt))
+recorded (CompoundLiteral at t items comma) env y e =
+    let i = stepped {A = CType} (named_type t env) (λ c v. (refuses_if (not (may_be_initialised v.types c)) code.Incomplete at >>= (λ u.
     braces_for (is_static_here v) (whole_part c) (beginning c) (alone items) (λ g. items_in (is_static_here v) items g) >>= (λ f. compound_literal (is_static_here v) at (brace_at items) c f))) v) y e in
     let j = stepped {A = Unit {0}} (refuses_if (not (may_be_initialised i.0.1.types i.0.0)) code.Incomplete at i.0.1) (λ u.
     braces_for (is_static_here i.0.1) (whole_part i.0.0) (beginning i.0.0) (alone items) (λ g. items_in (is_static_here i.0.1) items g) >>= (λ f. compound_literal (is_static_here i.0.1) at (brace_at items) i.0.0 f)) y i.2 in
@@ -131,22 +131,22 @@ recorded (CompoundLiteral at ss d items comma) env y e =
     let l = stepped {A = CType} (filled at (brace_at items) i.0.0 k.0.0 k.0.1) (λ c. literal_object (is_static_here i.0.1) at c k.0.0) y k.2 in
     object_records (is_static_here i.0.1) at l.0.0 k.0.0 l.0.1 y l.2
 recorded (Prefix at op e) env y h =
-    let i = stepped {A = Operand} (expr e env) (λ a. at_node (by_operand at (at_of e)) (StepNode (prefix_form op) a)) y h in
-    node_records (by_operand at (at_of e)) (StepNode (prefix_form op) i.0.0) i.0.1 y i.2 (given_records (node.of_step (prefix_form op) i.0.0) (step_shape i.0.1.types i.0.0) (λ s f. tt))
+    let i = stepped {A = Operand} (expr e env) (λ a. at_node (by_operand at (first_expr e)) (StepNode (prefix_form op) a)) y h in
+    node_records (by_operand at (first_expr e)) (StepNode (prefix_form op) i.0.0) i.0.1 y i.2 (given_records (node.of_step (prefix_form op) i.0.0) (step_shape i.0.1.types i.0.0) (λ s f. tt))
 recorded (Unary at op e) env y h =
-    let i = stepped {A = Operand} (expr e env) (λ a. at_node (by_operand at (at_of e)) (unary_node op a)) y h in
-    node_records (by_operand at (at_of e)) (unary_node op i.0.0) i.0.1 y i.2 (unary_records op i.0.1.types i.0.0 (recorded e env i.0 i.1))
+    let i = stepped {A = Operand} (expr e env) (λ a. at_node (by_operand at (first_expr e)) (unary_node op a)) y h in
+    node_records (by_operand at (first_expr e)) (unary_node op i.0.0) i.0.1 y i.2 (unary_records op i.0.1.types i.0.0 (recorded e env i.0 i.1))
 recorded (SizeofExpr at e) env y h =
-    let i = stepped {A = Operand} (unevaluated (expr e) env) (λ a. at_node (by_sized at (at_of e)) (SizeofNode (shape_in a.typed))) y h in
-    node_records (by_sized at (at_of e)) (SizeofNode (shape_in i.0.0.typed)) i.0.1 y i.2 (given_records (λ n. integer_operand i.0.1.types (size_shape i.0.1.types) (pos n)) (size_in i.0.1.types (shape_in i.0.0.typed)) (λ n f. tt))
-recorded (SizeofType at ss d) env y h =
-    let i = stepped {A = CType} (unevaluated (type_with ss d (base_with NoStorage ss (named false ss)) (derived false d)) env) (λ (c : CType). at_node (by_sized at (at_of_specifiers ss)) (SizeofNode c.shape)) y h in
-    node_records (by_sized at (at_of_specifiers ss)) (SizeofNode i.0.0.shape) i.0.1 y i.2 (given_records (λ n. integer_operand i.0.1.types (size_shape i.0.1.types) (pos n)) (size_in i.0.1.types i.0.0.shape) (λ n f. tt))
-recorded (AlignofType at ss d) env y h =
-    let i = stepped {A = CType} (unevaluated (type_with ss d (base_with NoStorage ss (named false ss)) (derived false d)) env) (λ (c : CType). at_node (by_sized at (at_of_specifiers ss)) (AlignofNode c.shape)) y h in
-    node_records (by_sized at (at_of_specifiers ss)) (AlignofNode i.0.0.shape) i.0.1 y i.2 (given_records (λ n. integer_operand i.0.1.types (size_shape i.0.1.types) (pos n)) (alignment_in i.0.1.types i.0.0.shape) (λ n f. tt))
-recorded (Cast at ss d e) env y h =
-    let i = stepped {A = CType} (type_with ss d (base_with NoStorage ss (named false ss)) (derived false d) env) (λ c. expr e >>= (λ a. at_node (by_node at) (CastNode c a))) y h in
+    let i = stepped {A = Operand} (unevaluated (expr e) env) (λ a. at_node (by_sized at (first_expr e)) (SizeofNode (shape_in a.typed))) y h in
+    node_records (by_sized at (first_expr e)) (SizeofNode (shape_in i.0.0.typed)) i.0.1 y i.2 (given_records (λ n. integer_operand i.0.1.types (size_shape i.0.1.types) (pos n)) (size_in i.0.1.types (shape_in i.0.0.typed)) (λ n f. tt))
+recorded (SizeofType at t) env y h =
+    let i = stepped {A = CType} (unevaluated (named_type t) env) (λ (c : CType). at_node (by_sized at (at_first (first_type_name t))) (SizeofNode c.shape)) y h in
+    node_records (by_sized at (at_first (first_type_name t))) (SizeofNode i.0.0.shape) i.0.1 y i.2 (given_records (λ n. integer_operand i.0.1.types (size_shape i.0.1.types) (pos n)) (size_in i.0.1.types i.0.0.shape) (λ n f. tt))
+recorded (AlignofType at t) env y h =
+    let i = stepped {A = CType} (unevaluated (named_type t) env) (λ (c : CType). at_node (by_sized at (at_first (first_type_name t))) (AlignofNode c.shape)) y h in
+    node_records (by_sized at (at_first (first_type_name t))) (AlignofNode i.0.0.shape) i.0.1 y i.2 (given_records (λ n. integer_operand i.0.1.types (size_shape i.0.1.types) (pos n)) (alignment_in i.0.1.types i.0.0.shape) (λ n f. tt))
+recorded (Cast at t e) env y h =
+    let i = stepped {A = CType} (named_type t env) (λ c. expr e >>= (λ a. at_node (by_node at) (CastNode c a))) y h in
     let j = stepped {A = Operand} (expr e i.0.1) (λ a. at_node (by_node at) (CastNode i.0.0 a)) y i.2 in
     node_records (by_node at) (CastNode i.0.0 j.0.0) j.0.1 y j.2 (cast_records i.0.0.shape (value_node j.0.0.typed) (value_records j.0.0.typed (recorded e i.0.1 j.0 j.1)))
 recorded (Binary at op l r) env y e =
@@ -163,9 +163,9 @@ recorded (Conditional at c l r) env y e =
     let k = stepped {A = Operand} (expr r j.0.1) (λ b. at_node (by_node at) (ConditionalNode i.0.0 j.0.0 b)) y j.2 in
     node_records (by_node at) (ConditionalNode i.0.0 j.0.0 k.0.0) k.0.1 y k.2 (given_records (node.of_conditional k.0.1.types i.0.0 j.0.0 k.0.0) (branch_shape k.0.1.types j.0.0 k.0.0) (λ s f. tt))
 recorded (Assign at op l r) env y e =
-    let i = stepped {A = Operand} (expr l env) (λ a. expr r >>= (λ b. at_node (by_operand at (at_of l)) (assign_node op a b))) y e in
-    let j = stepped {A = Operand} (expr r i.0.1) (λ b. at_node (by_operand at (at_of l)) (assign_node op i.0.0 b)) y i.2 in
-    node_records (by_operand at (at_of l)) (assign_node op i.0.0 j.0.0) j.0.1 y j.2 (assign_records op j.0.1.types i.0.0 j.0.0)
+    let i = stepped {A = Operand} (expr l env) (λ a. expr r >>= (λ b. at_node (by_operand at (first_expr l)) (assign_node op a b))) y e in
+    let j = stepped {A = Operand} (expr r i.0.1) (λ b. at_node (by_operand at (first_expr l)) (assign_node op i.0.0 b)) y i.2 in
+    node_records (by_operand at (first_expr l)) (assign_node op i.0.0 j.0.0) j.0.1 y j.2 (assign_records op j.0.1.types i.0.0 j.0.0)
 recorded (Comma at l r) env y e =
     let i = stepped {A = Operand} (expr l env) (λ a. expr r >>= (λ b. at_node (by_node at) (CommaNode a b))) y e in
     let j = stepped {A = Operand} (expr r i.0.1) (λ b. at_node (by_node at) (CommaNode i.0.0 b)) y i.2 in

@@ -412,7 +412,7 @@ module _ (h : ℕ) (sub : Subs) (parts : LawfulSubs (Below h) sub) where
       size_by (Character k t) o base c = size_plain (Character k t) c (λ tail. refl)
       size_by (Literals k ts) o base c = size_plain (Literals k ts) c (λ tail. literals_no_star ts tail c.good.levelled)
       size_by (Parentheses k i) o base c = size_plain (Parentheses k i) c (λ tail. refl)
-      size_by (CompoundLiteral k ss d items comma) o base c = size_plain (CompoundLiteral k ss d items comma) c (λ tail. refl)
+      size_by (CompoundLiteral k t items comma) o base c = size_plain (CompoundLiteral k t items comma) c (λ tail. refl)
       size_by (Prefix k op i) o base c = size_plain (Prefix k op i) c (λ tail. step_no_star op)
       size_by (Unary k Indirection i) o base c = size_starred k i base c
       size_by (Unary k Address i) o base c = size_plain (Unary k Address i) c (λ tail. refl)
@@ -421,9 +421,9 @@ module _ (h : ℕ) (sub : Subs) (parts : LawfulSubs (Below h) sub) where
       size_by (Unary k Complement i) o base c = size_plain (Unary k Complement i) c (λ tail. refl)
       size_by (Unary k Not i) o base c = size_plain (Unary k Not i) c (λ tail. refl)
       size_by (SizeofExpr k i) o base c = size_plain (SizeofExpr k i) c (λ tail. refl)
-      size_by (SizeofType k ss d) o base c = size_plain (SizeofType k ss d) c (λ tail. refl)
-      size_by (AlignofType k ss d) o base c = size_plain (AlignofType k ss d) c (λ tail. refl)
-      size_by (Cast k ss d i) o base c = size_plain (Cast k ss d i) c (λ tail. refl)
+      size_by (SizeofType k t) o base c = size_plain (SizeofType k t) c (λ tail. refl)
+      size_by (AlignofType k t) o base c = size_plain (AlignofType k t) c (λ tail. refl)
+      size_by (Cast k t i) o base c = size_plain (Cast k t i) c (λ tail. refl)
       size_by _ o base c = absurd (true≢false (sym o))
 
       size_open : OpenBound named b qs ds (Size b qs e, after) (n + length (spell_qualifiers qs)) (spell_expr e)

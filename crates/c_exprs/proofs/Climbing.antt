@@ -140,11 +140,11 @@ cast_ends level (Some u) e = cast_kind level u.kind e
 -- what goes on behind an expression as it stands, before the level of what is asked counts
 abbrev pub goes_after : ExprTree → Option Lexeme → Bool
 goes_after (Literals at texts) o = next_is is_literal o
-goes_after (SizeofType at ss d) o = next_is (is_sign LeftBrace) o
+goes_after (SizeofType at t) o = next_is (is_sign LeftBrace) o
 goes_after (Prefix at op e) o = goes_on_expr UnaryLevel o
 goes_after (SizeofExpr at e) o = goes_on_expr UnaryLevel o
 goes_after (Unary at op e) o = goes_on_expr CastLevel o
-goes_after (Cast at ss d e) o = goes_on_expr CastLevel o
+goes_after (Cast at t e) o = goes_on_expr CastLevel o
 goes_after (Binary at op l r) o = goes_on_expr (tighter (binary_level op)) o
 goes_after (Logical at op l r) o = goes_on_expr (tighter (logical_level op)) o
 goes_after (Conditional at c a b) o = goes_on_expr ConditionalLevel o
@@ -154,11 +154,11 @@ goes_after _ o = false
 
 pub ends_after : (e : ExprTree) (level : Level) (o : Option Lexeme) → is_within level e ≡ true → goes_on_expr level o ≡ false → goes_after e o ≡ false
 ends_after (Literals at texts) level o w g = no_literal level o g
-ends_after (SizeofType at ss d) level o w g = no_brace level o g
+ends_after (SizeofType at t) level o w g = no_brace level o g
 ends_after (Prefix at op e) level o w g = goes_less UnaryLevel level o (le_true 2 (rank level) w) g
 ends_after (SizeofExpr at e) level o w g = goes_less UnaryLevel level o (le_true 2 (rank level) w) g
 ends_after (Unary at op e) level o w g = cast_ends level o g
-ends_after (Cast at ss d e) level o w g = cast_ends level o g
+ends_after (Cast at t e) level o w g = cast_ends level o g
 ends_after (Binary at op l r) level o w g = goes_less (tighter (binary_level op)) level o (omega (arith, tighter_binary op, le_true (rank (binary_level op)) (rank level) w)) g
 ends_after (Logical at op l r) level o w g = goes_less (tighter (logical_level op)) level o (omega (arith, tighter_logical op, le_true (rank (logical_level op)) (rank level) w)) g
 ends_after (Conditional at c a b) level o w g = goes_less ConditionalLevel level o (le_true 14 (rank level) w) g
@@ -180,11 +180,11 @@ not_going l p op e between less = rw (brace_off p op e, e, false_le (rank (opera
 
 pub fits_after : (e : ExprTree) (p : Punctuator) (op : Operator) → operator_sign p ≡ Some op → is_within (operator_left op) e ≡ true → goes_after e (Some (sign p)) ≡ false
 fits_after (Literals at texts) p op k w = refl
-fits_after (SizeofType at ss d) p op k w = brace_off p op k
+fits_after (SizeofType at t) p op k w = brace_off p op k
 fits_after (Prefix at o e) p op k w = let r = ranks op in not_going UnaryLevel p op k (omega (arith, r.between (le_true 2 (rank (operator_left op)) w))) (omega (arith, r.between (le_true 2 (rank (operator_left op)) w)))
 fits_after (SizeofExpr at e) p op k w = let r = ranks op in not_going UnaryLevel p op k (omega (arith, r.between (le_true 2 (rank (operator_left op)) w))) (omega (arith, r.between (le_true 2 (rank (operator_left op)) w)))
 fits_after (Unary at o e) p op k w = let r = ranks op in not_going CastLevel p op k (omega (arith, r.between (le_true 2 (rank (operator_left op)) w))) (omega (arith, r.between (le_true 2 (rank (operator_left op)) w)))
-fits_after (Cast at ss d e) p op k w =
+fits_after (Cast at t e) p op k w =
     let some : 2 ≤ rank (operator_left op) = omega (arith, le_true 3 (rank (operator_left op)) w) in
     let r = ranks op in not_going CastLevel p op k (omega (arith, r.between some)) (omega (arith, r.between some))
 fits_after (Binary at o l r) p op k w =
@@ -501,13 +501,13 @@ module _ (h : ℕ) (level : Level) (ds : List Scope) (at : ℕ) where
   climb_to (Character a text) g w = climb_here (Character a text) g w
   climb_to (Literals a texts) g w = climb_here (Literals a texts) g w
   climb_to (Parentheses a e) g w = climb_here (Parentheses a e) g w
-  climb_to (CompoundLiteral a ss d items comma) g w = climb_here (CompoundLiteral a ss d items comma) g w
+  climb_to (CompoundLiteral a t items comma) g w = climb_here (CompoundLiteral a t items comma) g w
   climb_to (Prefix a op e) g w = climb_here (Prefix a op e) g w
   climb_to (Unary a op e) g w = climb_here (Unary a op e) g w
   climb_to (SizeofExpr a e) g w = climb_here (SizeofExpr a e) g w
-  climb_to (SizeofType a ss d) g w = climb_here (SizeofType a ss d) g w
-  climb_to (AlignofType a ss d) g w = climb_here (AlignofType a ss d) g w
-  climb_to (Cast a ss d e) g w = climb_here (Cast a ss d e) g w
+  climb_to (SizeofType a t) g w = climb_here (SizeofType a t) g w
+  climb_to (AlignofType a t) g w = climb_here (AlignofType a t) g w
+  climb_to (Cast a t e) g w = climb_here (Cast a t e) g w
   climb_to (Index a e i) g w =
       let l = both _ _ g.levelled in let m = both _ _ l.1 in let p = both _ _ g.placed in let q = both _ _ p.1 in let s = both _ _ g.scoped in
       let left = left_part ToIndex e m.0 q.0 s.0 (omega (arith, g.low)) l.0 (le_true 1 (rank level) w) in
@@ -601,13 +601,13 @@ spelled_by_base (Integer a text) = ([], sym (append-nil (spell_expr (Integer a t
 spelled_by_base (Character a text) = ([], sym (append-nil (spell_expr (Character a text))))
 spelled_by_base (Literals a texts) = ([], sym (append-nil (spell_expr (Literals a texts))))
 spelled_by_base (Parentheses a e) = ([], sym (append-nil (spell_expr (Parentheses a e))))
-spelled_by_base (CompoundLiteral a ss d items comma) = ([], sym (append-nil (spell_expr (CompoundLiteral a ss d items comma))))
+spelled_by_base (CompoundLiteral a t items comma) = ([], sym (append-nil (spell_expr (CompoundLiteral a t items comma))))
 spelled_by_base (Prefix a op e) = ([], sym (append-nil (spell_expr (Prefix a op e))))
 spelled_by_base (Unary a op e) = ([], sym (append-nil (spell_expr (Unary a op e))))
 spelled_by_base (SizeofExpr a e) = ([], sym (append-nil (spell_expr (SizeofExpr a e))))
-spelled_by_base (SizeofType a ss d) = ([], sym (append-nil (spell_expr (SizeofType a ss d))))
-spelled_by_base (AlignofType a ss d) = ([], sym (append-nil (spell_expr (AlignofType a ss d))))
-spelled_by_base (Cast a ss d e) = ([], sym (append-nil (spell_expr (Cast a ss d e))))
+spelled_by_base (SizeofType a t) = ([], sym (append-nil (spell_expr (SizeofType a t))))
+spelled_by_base (AlignofType a t) = ([], sym (append-nil (spell_expr (AlignofType a t))))
+spelled_by_base (Cast a t e) = ([], sym (append-nil (spell_expr (Cast a t e))))
 spelled_by_base (Index a e i) = by_left (spell_expr e) (spell_expr (base_of e)) _ (spelled_by_base e)
 spelled_by_base (Call a e es) = by_left (spell_expr e) (spell_expr (base_of e)) _ (spelled_by_base e)
 spelled_by_base (Member a e n) = by_left (spell_expr e) (spell_expr (base_of e)) _ (spelled_by_base e)
@@ -625,13 +625,13 @@ base_levelled (Integer a text) l = l
 base_levelled (Character a text) l = l
 base_levelled (Literals a texts) l = l
 base_levelled (Parentheses a e) l = l
-base_levelled (CompoundLiteral a ss d items comma) l = l
+base_levelled (CompoundLiteral a t items comma) l = l
 base_levelled (Prefix a op e) l = l
 base_levelled (Unary a op e) l = l
 base_levelled (SizeofExpr a e) l = l
-base_levelled (SizeofType a ss d) l = l
-base_levelled (AlignofType a ss d) l = l
-base_levelled (Cast a ss d e) l = l
+base_levelled (SizeofType a t) l = l
+base_levelled (AlignofType a t) l = l
+base_levelled (Cast a t e) l = l
 base_levelled (Index a e i) l = base_levelled e ((both _ _ (both _ _ l).1).0)
 base_levelled (Call a e es) l = base_levelled e ((both _ _ (both _ _ l).1).0)
 base_levelled (Member a e n) l = base_levelled e ((both _ _ l).1)
@@ -649,13 +649,13 @@ base_scoped ds (Integer a text) s = s
 base_scoped ds (Character a text) s = s
 base_scoped ds (Literals a texts) s = s
 base_scoped ds (Parentheses a e) s = s
-base_scoped ds (CompoundLiteral a ss d items comma) s = s
+base_scoped ds (CompoundLiteral a t items comma) s = s
 base_scoped ds (Prefix a op e) s = s
 base_scoped ds (Unary a op e) s = s
 base_scoped ds (SizeofExpr a e) s = s
-base_scoped ds (SizeofType a ss d) s = s
-base_scoped ds (AlignofType a ss d) s = s
-base_scoped ds (Cast a ss d e) s = s
+base_scoped ds (SizeofType a t) s = s
+base_scoped ds (AlignofType a t) s = s
+base_scoped ds (Cast a t e) s = s
 base_scoped ds (Index a e i) s = base_scoped ds e (both _ _ s).0
 base_scoped ds (Call a e es) s = base_scoped ds e (both _ _ s).0
 base_scoped ds (Member a e n) s = base_scoped ds e s

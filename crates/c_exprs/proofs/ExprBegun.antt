@@ -6,7 +6,7 @@ use Rattle.typedef_scopes.specs.Scopes.{Scope}
 use Rattle.c_tree.specs.declared.words.UnaryOp.TheVariants.{Indirection}
 use Rattle.c_tree.specs.declared.level.Level.{Level}
 use Rattle.c_tree.specs.declared.level.Level.TheVariants.{Unary as UnaryLevel, Cast as CastLevel, Assignment, Comma as CommaLevel}
-use Rattle.c_tree.specs.Syntax.{ExprTree, Parentheses, CompoundLiteral, Unary, SpecifierTrees, DeclaratorTree, ItemTrees}
+use Rattle.c_tree.specs.Syntax.{ExprTree, Parentheses, CompoundLiteral, Unary, TypeName, SpecifierTrees, DeclaratorTree, ItemTrees}
 use Rattle.c_tree.specs.Spelling.{Lexeme, sign, in_parens, in_braces, with_commas, last_comma, spell_expr, spell_specifiers, spell_declarator, spell_items}
 use Rattle.c_tree.specs.Height.{expr_height, specifiers_height, declarator_height, items_height}
 use Rattle.c_tree.specs.Levels.{is_within, levelled, levelled_specifiers, levelled_declarator, levelled_items, has_item, is_type_name}
@@ -138,7 +138,7 @@ module _ (h : ℕ) (sub : Subs) (parts : LawfulSubs (Below h) sub) where
 
   module _ (at : ℕ) (ds : List Scope) (t : In (SpecifierTrees × DeclaratorTree)) (good : GoodType Unbounded ds (at + 1) t) where
     abbrev IsLiteral : ExprTree → Type 0
-    IsLiteral b = (items : ItemTrees) × (comma : Bool) × (b ≡ CompoundLiteral at t.0.0 t.0.1 items comma)
+    IsLiteral b = (items : ItemTrees) × (comma : Bool) × (b ≡ CompoundLiteral at (TypeName t.0.0 t.0.1) items comma)
 
     abbrev Pre : List Lexeme
     Pre = in_parens (type_text t.0)
@@ -154,30 +154,29 @@ module _ (h : ℕ) (sub : Subs) (parts : LawfulSubs (Below h) sub) where
         let o = compound_from h sub parts UnaryLevel ds at t x front u (omega arith) p (subst (λ m. CompoundIs h sub parts at t x m u) place i) in
         record { good = o.good; within = o.within; base = (i.value.0.0, i.value.0.1, o.base ∙ ap (λ w. w.0) i.is); spelled = o.spelled }
 
-    literal_by : (items : ItemTrees) (comma : Bool) → GoodExpr (Below (suc h)) ds at (CompoundLiteral at t.0.0 t.0.1 items comma, after_items (after_type_name ds t.0.0 t.0.1) items) → BackOf ds Pre (CompoundIs h sub parts at t) (at + length Pre) (CompoundLiteral at t.0.0 t.0.1 items comma)
+    literal_by : (items : ItemTrees) (comma : Bool) → GoodExpr (Below (suc h)) ds at (CompoundLiteral at (TypeName t.0.0 t.0.1) items comma, after_items (after_type_name ds (TypeName t.0.0 t.0.1)) items) → BackOf ds Pre (CompoundIs h sub parts at t) (at + length Pre) (CompoundLiteral at (TypeName t.0.0 t.0.1) items comma)
     literal_by items comma g =
         let l = both (is_type_name t.0.0 t.0.1 && (levelled_specifiers t.0.0 && levelled_declarator t.0.1)) (has_item items && levelled_items items) g.levelled in let li = both (has_item items) (levelled_items items) l.1 in
         let place_items : ℕ = at + 3 + length (spell_specifiers t.0.0) + length (spell_declarator t.0.1) in
-        let p = both (nat_eq at at) (placed_specifiers (at + 1) t.0.0 && (placed_declarator (at + 1 + length (spell_specifiers t.0.0)) t.0.1 && placed_items place_items items)) g.placed in
-        let p1 = both (placed_specifiers (at + 1) t.0.0) (placed_declarator (at + 1 + length (spell_specifiers t.0.0)) t.0.1 && placed_items place_items items) p.1 in
-        let p2 = both (placed_declarator (at + 1 + length (spell_specifiers t.0.0)) t.0.1) (placed_items place_items items) p1.1 in
-        let s = both (scoped_type_name ds t.0.0 t.0.1) (scoped_items (after_type_name ds t.0.0 t.0.1) items) g.scoped in
+        let p = both (nat_eq at at) ((placed_specifiers (at + 1) t.0.0 && placed_declarator (at + 1 + length (spell_specifiers t.0.0)) t.0.1) && placed_items place_items items) g.placed in
+        let p1 = both (placed_specifiers (at + 1) t.0.0 && placed_declarator (at + 1 + length (spell_specifiers t.0.0)) t.0.1) (placed_items place_items items) p.1 in
+        let s = both (scoped_type_name ds (TypeName t.0.0 t.0.1)) (scoped_items (after_type_name ds (TypeName t.0.0 t.0.1)) items) g.scoped in
         let place : at + 3 + length (spell_specifiers t.0.0) + length (spell_declarator t.0.1) ≡ at + length Pre + 1 = omega (arith, length-append (type_text t.0) (bare (IsPunctuator RightParen) ∷ []), length-append (spell_specifiers t.0.0) (spell_declarator t.0.1)) in
         record {
           text = in_braces (with_commas (spell_items items) ++ last_comma comma);
           spelled = refl;
           holds = record {
-            value = ((items, comma), after_items (after_type_name ds t.0.0 t.0.1) items);
+            value = ((items, comma), after_items (after_type_name ds (TypeName t.0.0 t.0.1)) items);
             is = refl;
             holds = record {
               back = (with_commas (spell_items items) ++ last_comma comma) ++ bare (IsPunctuator RightBrace) ∷ [];
               parts = refl;
               holds = record {
-                value = ((items, comma), after_items (after_type_name ds t.0.0 t.0.1) items);
+                value = ((items, comma), after_items (after_type_name ds (TypeName t.0.0 t.0.1)) items);
                 front = with_commas (spell_items items) ++ last_comma comma;
                 is = refl;
                 parts = refl;
-                holds = record { some = li.0; levelled = li.1; placed = subst (λ k. placed_items k items ≡ true) place p2.1; scoped = rw good.after s.1; low = omega (arith, g.low); after = rw good.after refl; spelled = refl };
+                holds = record { some = li.0; levelled = li.1; placed = subst (λ k. placed_items k items ≡ true) place p1.1; scoped = rw good.after s.1; low = omega (arith, g.low); after = rw good.after refl; spelled = refl };
               };
             };
           };

@@ -9,7 +9,7 @@ use Rattle.c_tree.specs.declared.words.StepOp.{StepOp}
 use Rattle.c_tree.specs.declared.words.UnaryOp.{UnaryOp}
 use Rattle.c_tree.specs.declared.level.Level.{Level}
 use Rattle.c_tree.specs.declared.level.Level.TheVariants.{Unary as UnaryLevel, Cast as CastLevel, Conditional as ConditionalLevel, Assignment, Comma as CommaLevel}
-use Rattle.c_tree.specs.Syntax.{ExprTree, Name, Integer, Character, Literals, Parentheses, CompoundLiteral, Prefix, Unary, SizeofExpr, SizeofType, AlignofType, Cast, Conditional, SpecifierTrees, DeclaratorTree, ItemTrees, Index, Call, Member, Arrow, Postfix, Absent}
+use Rattle.c_tree.specs.Syntax.{ExprTree, Name, Integer, Character, Literals, Parentheses, CompoundLiteral, Prefix, Unary, SizeofExpr, SizeofType, AlignofType, Cast, Conditional, TypeName, SpecifierTrees, DeclaratorTree, ItemTrees, Index, Call, Member, Arrow, Postfix, Absent}
 use Rattle.c_tree.specs.Spelling.{Lexeme, sign, in_parens, in_braces, with_commas, last_comma, spell_expr, spell_items, spell_specifiers, spell_declarator}
 use Rattle.c_tree.specs.Levels.{rank, levelled, declares, has_names, has_specifier, are_specifier_qualifiers}
 use Rattle.c_tree.specs.Scoped.{scoped_expr, has_type_specifier, scoped_specifiers, scoped_declarator, after_declarator, after_specifiers}
@@ -160,16 +160,16 @@ module _ (h : ℕ) (sub : Subs) (parts : LawfulSubs (Below h) sub) where
   in_parentheses_lawful at ds = ended (λ x n t o i s. tt) (λ x n t o i s. rw i.is refl) (before_lawful (λ e. (Parentheses at e.0, e.1)) (sign_tells RightParen) (λ e n t i. refl) (parts.expr CommaLevel ds))
 
   abbrev pub CompoundIs : ℕ → In (SpecifierTrees × DeclaratorTree) → In ExprTree → ℕ → List Lexeme → Type 0
-  CompoundIs at t = Mapped (λ (x : In (ItemTrees × Bool)). (CompoundLiteral at t.0.0 t.0.1 x.0.0 x.0.1, x.1)) (BracedIs t.1)
+  CompoundIs at t = Mapped (λ (x : In (ItemTrees × Bool)). (CompoundLiteral at (TypeName t.0.0 t.0.1) x.0.0 x.0.1, x.1)) (BracedIs t.1)
 
   pub compound_lawful : {P : ℕ → Option Lexeme → Type 0} (at : ℕ) (t : In (SpecifierTrees × DeclaratorTree)) → Lawful P (compound sub at t) (CompoundIs at t) After
-  compound_lawful at t = mapped_lawful (λ x. (CompoundLiteral at t.0.0 t.0.1 x.0.0 x.0.1, x.1)) (λ x o s. tt) (λ x o s. refl) (braced_lawful t.1)
+  compound_lawful at t = mapped_lawful (λ x. (CompoundLiteral at (TypeName t.0.0 t.0.1) x.0.0 x.0.1, x.1)) (λ x o s. tt) (λ x o s. refl) (braced_lawful t.1)
 
   abbrev pub CastIs : ℕ → In (SpecifierTrees × DeclaratorTree) → In ExprTree → ℕ → List Lexeme → Type 0
-  CastIs at t = Mapped (λ (e : In ExprTree). (Cast at t.0.0 t.0.1 e.0, e.1)) (ExprIs (Below h) CastLevel t.1)
+  CastIs at t = Mapped (λ (e : In ExprTree). (Cast at (TypeName t.0.0 t.0.1) e.0, e.1)) (ExprIs (Below h) CastLevel t.1)
 
   cast_lawful : (at : ℕ) (t : In (SpecifierTrees × DeclaratorTree)) → Lawful Any (cast sub at t) (CastIs at t) After
-  cast_lawful at t = mapped_lawful (λ e. (Cast at t.0.0 t.0.1 e.0, e.1)) (λ e o s. s) (λ e o s. s) (parts.expr CastLevel t.1)
+  cast_lawful at t = mapped_lawful (λ e. (Cast at (TypeName t.0.0 t.0.1) e.0, e.1)) (λ e o s. s) (λ e o s. s) (parts.expr CastLevel t.1)
 
   abbrev pub BehindType : ℕ → Level → In (SpecifierTrees × DeclaratorTree) → In ExprTree → ℕ → List Lexeme → Type 0
   BehindType at level t = Either (CompoundIs at t) (Under (nat_le 3 (rank level)) (CastIs at t))
@@ -246,7 +246,7 @@ module _ (h : ℕ) (sub : Subs) (parts : LawfulSubs (Below h) sub) where
   -- behind `sizeof`; the number of the token behind it is known
 
   abbrev pub SizeofTyped : ℕ → In (SpecifierTrees × DeclaratorTree) → List Scope → In ExprTree → ℕ → List Lexeme → Type 0
-  SizeofTyped at t ds = Either (Mapped (λ (e : In ExprTree). (SizeofExpr at e.0, e.1)) (LiteralIs (Below h) (at + 1) ds t)) (Gives (SizeofType at t.0.0 t.0.1, t.1))
+  SizeofTyped at t ds = Either (Mapped (λ (e : In ExprTree). (SizeofExpr at e.0, e.1)) (LiteralIs (Below h) (at + 1) ds t)) (Gives (SizeofType at (TypeName t.0.0 t.0.1), t.1))
 
   literal_begins : (at : ℕ) (ds : List Scope) (t : In (SpecifierTrees × DeclaratorTree)) (x : In ExprTree) (n : ℕ) (u rest : List Lexeme) → LiteralIs (Below h) at ds t x n u → next_is (is_sign LeftBrace) (head (u ++ rest)) ≡ true
   literal_begins at ds t x n u rest l =
@@ -259,7 +259,7 @@ module _ (h : ℕ) (sub : Subs) (parts : LawfulSubs (Below h) sub) where
   sizeof_typed_lawful : (at : ℕ) (t : In (SpecifierTrees × DeclaratorTree)) (ds : List Scope) → GoodType Unbounded ds (at + 1 + 1) t → Lawful (At (at + 1 + length (in_parens (type_text t.0)))) (sizeof_typed sub at t) (SizeofTyped at t ds) After
   sizeof_typed_lawful at t ds good = when_lawful (next_is (is_sign LeftBrace))
       (mapped_lawful (λ e. (SizeofExpr at e.0, e.1)) (λ e o s. s) (λ e o s. s) (known (λ n o p. p.0) (parts.literal (at + 1) ds t good)))
-      (pure_lawful (SizeofType at t.0.0 t.0.1, t.1) (λ n o p. p.1))
+      (pure_lawful (SizeofType at (TypeName t.0.0 t.0.1), t.1) (λ n o p. p.1))
       (λ x n u rest i s. literal_begins (at + 1) ds t i.value n u rest i.holds)
       (λ x n u rest i s. rw i.nothing (subst (λ w. After w (head rest)) i.value s))
 
@@ -332,10 +332,10 @@ module _ (h : ℕ) (sub : Subs) (parts : LawfulSubs (Below h) sub) where
       (λ x n u rest i s. headed_begins (next_is (is_sign LeftParen)) false x n u rest (expr_some UnaryLevel ds i.holds.value n u i.holds.holds) i)
 
   abbrev pub AlignofIs : ℕ → List Scope → In ExprTree → ℕ → List Lexeme → Type 0
-  AlignofIs at ds = Behind (IsPunctuator LeftParen) (Mapped (λ (t : In (SpecifierTrees × DeclaratorTree)). (AlignofType at t.0.0 t.0.1, t.1)) (ClosedType ds))
+  AlignofIs at ds = Behind (IsPunctuator LeftParen) (Mapped (λ (t : In (SpecifierTrees × DeclaratorTree)). (AlignofType at (TypeName t.0.0 t.0.1), t.1)) (ClosedType ds))
 
   alignof_lawful : {P : ℕ → Option Lexeme → Type 0} (at : ℕ) (ds : List Scope) → Lawful P (alignof_operand sub at ds) (AlignofIs at ds) After
-  alignof_lawful at ds = behind_lawful (sign_tells LeftParen) (mapped_lawful (λ t. (AlignofType at t.0.0 t.0.1, t.1)) (λ t o s. tt) (λ t o s. refl) (closed_lawful ds))
+  alignof_lawful at ds = behind_lawful (sign_tells LeftParen) (mapped_lawful (λ t. (AlignofType at (TypeName t.0.0 t.0.1), t.1)) (λ t o s. tt) (λ t o s. refl) (closed_lawful ds))
 
   -- operands
 

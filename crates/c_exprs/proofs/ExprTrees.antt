@@ -10,7 +10,7 @@ use Rattle.c_tree.specs.declared.words.UnaryOp.{UnaryOp}
 use Rattle.c_tree.specs.declared.words.UnaryOp.TheVariants.{Address}
 use Rattle.c_tree.specs.declared.level.Level.{Level}
 use Rattle.c_tree.specs.declared.level.Level.TheVariants.{Unary as UnaryLevel, Cast as CastLevel, Comma as CommaLevel}
-use Rattle.c_tree.specs.Syntax.{ExprTree, Name, Integer, Character, Literals, Parentheses, Index, Call, Member, Arrow, Postfix, CompoundLiteral, Prefix, Unary, SizeofExpr, SizeofType, AlignofType, Cast, Binary, Logical, Conditional, Assign, Comma, SpecifierTrees, DeclaratorTree, Declared, ItemTrees}
+use Rattle.c_tree.specs.Syntax.{ExprTree, Name, Integer, Character, Literals, Parentheses, Index, Call, Member, Arrow, Postfix, CompoundLiteral, Prefix, Unary, SizeofExpr, SizeofType, AlignofType, Cast, Binary, Logical, Conditional, Assign, Comma, TypeName, SpecifierTrees, DeclaratorTree, Declared, ItemTrees}
 use Rattle.c_tree.specs.Spelling.{Lexeme, word, sign, literal, in_parens, in_braces, with_commas, last_comma, spell_literals, step_sign, unary_sign, spell_expr, spell_specifiers, spell_declarator, spell_items}
 use Rattle.c_tree.specs.Height.{expr_height, specifiers_height, declarator_height}
 use Rattle.c_tree.specs.Levels.{rank, level_of, is_within, has_some, levelled, levelled_specifiers, levelled_declarator, levelled_items, has_item, is_type_name}
@@ -142,7 +142,7 @@ module _ (h : ℕ) (sub : Subs) (parts : LawfulSubs (Below h) sub) (level : Leve
       let y : In (ItemTrees × Bool) = b.value in
       let placed : placed_items (at + 3 + length (spell_specifiers t.0.0) + length (spell_declarator t.0.1)) y.0.0 ≡ true = subst (λ k. placed_items k y.0.0 ≡ true) place i.placed in
       let same : c.value ≡ y = b.is in
-      subst (λ w. Operand h level ds at ParenthesisStart [] w (front ++ back)) (sym (c.is ∙ ap (λ v. (CompoundLiteral at t.0.0 t.0.1 v.0.0 v.0.1, v.1)) same)) (record {
+      subst (λ w. Operand h level ds at ParenthesisStart [] w (front ++ back)) (sym (c.is ∙ ap (λ v. (CompoundLiteral at (TypeName t.0.0 t.0.1) v.0.0 v.0.1, v.1)) same)) (record {
         good = record {
           levelled = rw (g.type_name, g.specifiers, g.declarator, i.some, i.levelled) refl;
           placed = rw (true_eq at, g.specifiers_placed, g.declarator_placed, placed) refl;
@@ -209,7 +209,7 @@ module _ (h : ℕ) (sub : Subs) (parts : LawfulSubs (Below h) sub) (level : Leve
     spelled = rw i.spelled refl;
   }
 
-  sizeof_type_from : (t : In (SpecifierTrees × DeclaratorTree)) (u : List Lexeme) → 2 ≤ rank level → TypePart (at + 1) t u → Operand h level ds at SizeofStart [] (SizeofType at t.0.0 t.0.1, t.1) (sign LeftParen ∷ u)
+  sizeof_type_from : (t : In (SpecifierTrees × DeclaratorTree)) (u : List Lexeme) → 2 ≤ rank level → TypePart (at + 1) t u → Operand h level ds at SizeofStart [] (SizeofType at (TypeName t.0.0 t.0.1), t.1) (sign LeftParen ∷ u)
   sizeof_type_from t u lv p =
       let g = p.good in
       let two : at + 1 + 1 ≡ at + 2 = omega arith in
@@ -222,7 +222,7 @@ module _ (h : ℕ) (sub : Subs) (parts : LawfulSubs (Below h) sub) (level : Leve
         spelled = rw p.spelled refl;
       }
 
-  alignof_type_from : (t : In (SpecifierTrees × DeclaratorTree)) (u : List Lexeme) → 2 ≤ rank level → TypePart (at + 1) t u → Operand h level ds at AlignofStart [] (AlignofType at t.0.0 t.0.1, t.1) (sign LeftParen ∷ u)
+  alignof_type_from : (t : In (SpecifierTrees × DeclaratorTree)) (u : List Lexeme) → 2 ≤ rank level → TypePart (at + 1) t u → Operand h level ds at AlignofStart [] (AlignofType at (TypeName t.0.0 t.0.1), t.1) (sign LeftParen ∷ u)
   alignof_type_from t u lv p =
       let g = p.good in
       let two : at + 1 + 1 ≡ at + 2 = omega arith in
@@ -308,11 +308,11 @@ module _ (h : ℕ) (sub : Subs) (parts : LawfulSubs (Below h) sub) (level : Leve
   part_is l es n e lv p s low w = record { good = record { levelled = lv; placed = p; scoped = s; low = low; after = refl }; within = w; spelled = refl }
 
   type_is : (n : ℕ) (ss : SpecifierTrees) (d : DeclaratorTree) → (is_type_name ss d && (levelled_specifiers ss && levelled_declarator d)) ≡ true → placed_specifiers n ss ≡ true → placed_declarator (n + length (spell_specifiers ss)) d ≡ true →
-      scoped_type_name ds ss d ≡ true → max (specifiers_height ss) (declarator_height d) < h → ClosedType h sub parts ds ((ss, d), after_type_name ds ss d) n (type_text (ss, d) ++ bare (IsPunctuator RightParen) ∷ [])
+      scoped_type_name ds (TypeName ss d) ≡ true → max (specifiers_height ss) (declarator_height d) < h → ClosedType h sub parts ds ((ss, d), after_type_name ds (TypeName ss d)) n (type_text (ss, d) ++ bare (IsPunctuator RightParen) ∷ [])
   type_is n ss d l p q s low =
       let a = both (is_type_name ss d) (levelled_specifiers ss && levelled_declarator d) l in let b = both (levelled_specifiers ss) (levelled_declarator d) a.1 in
       record {
-        value = ((ss, d), after_type_name ds ss d);
+        value = ((ss, d), after_type_name ds (TypeName ss d));
         front = type_text (ss, d);
         is = refl;
         parts = refl;
@@ -363,12 +363,12 @@ module _ (h : ℕ) (sub : Subs) (parts : LawfulSubs (Below h) sub) (level : Leve
           });
         }
 
-    sizeof_literal_of : (k : ℕ) (ss : SpecifierTrees) (d : DeclaratorTree) (items : ItemTrees) (comma : Bool) → base_of e ≡ CompoundLiteral k ss d items comma → Climb (h - 1) UnaryLevel ds (at + 1) (CompoundLiteral k ss d items comma) e → OperandOf (SizeofExpr at e)
+    sizeof_literal_of : (k : ℕ) (ss : SpecifierTrees) (d : DeclaratorTree) (items : ItemTrees) (comma : Bool) → base_of e ≡ CompoundLiteral k (TypeName ss d) items comma → Climb (h - 1) UnaryLevel ds (at + 1) (CompoundLiteral k (TypeName ss d) items comma) e → OperandOf (SizeofExpr at e)
     sizeof_literal_of k ss d items comma base c =
         let g = c.good in
         let l = both (is_type_name ss d && (levelled_specifiers ss && levelled_declarator d)) (has_item items && levelled_items items) g.levelled in
-        let p = both _ _ g.placed in let p1 = both _ _ p.1 in let p2 = both _ _ p1.1 in
-        let s = both (scoped_type_name ds ss d) (scoped_items (after_type_name ds ss d) items) g.scoped in
+        let p = both _ _ g.placed in let p1 = both _ _ p.1 in let p2 = both _ _ p1.0 in
+        let s = both (scoped_type_name ds (TypeName ss d)) (scoped_items (after_type_name ds (TypeName ss d)) items) g.scoped in
         let at_one : k ≡ at + 1 = eq_true k (at + 1) p.0 in
         let front : List Lexeme = type_text (ss, d) ++ bare (IsPunctuator RightParen) ∷ [] in
         let u : List Lexeme = in_braces (with_commas (spell_items items) ++ last_comma comma) ++ c.tail in
@@ -386,18 +386,18 @@ module _ (h : ℕ) (sub : Subs) (parts : LawfulSubs (Below h) sub) (level : Leve
               back = front ++ u;
               parts = refl;
               holds = Met (record {
-                value = ((ss, d), after_type_name ds ss d);
+                value = ((ss, d), after_type_name ds (TypeName ss d));
                 front = front;
                 back = u;
                 parts = refl;
-                first = record { number = refl; holds = type_is (at + 1 + 1) ss d l.0 p1.0 p2.0 s.0 (omega (arith, g.low, low)) };
+                first = record { number = refl; holds = type_is (at + 1 + 1) ss d l.0 p2.0 p2.1 s.0 (omega (arith, g.low, low)) };
                 second = Met (record {
                   value = (e, after_expr ds e);
                   is = refl;
                   holds = record {
                     items = items;
                     comma = comma;
-                    base = base ∙ ap (λ j. CompoundLiteral j ss d items comma) at_one;
+                    base = base ∙ ap (λ j. CompoundLiteral j (TypeName ss d) items comma) at_one;
                     number = omega arith;
                     whole = record { good = whole.good; within = whole.within; spelled = text };
                   };
@@ -413,13 +413,13 @@ module _ (h : ℕ) (sub : Subs) (parts : LawfulSubs (Below h) sub) (level : Leve
     sizeof_by (Character k t) o base c = sizeof_plain_of (Character k t) c (λ tail. refl)
     sizeof_by (Literals k ts) o base c = sizeof_plain_of (Literals k ts) c (λ tail. literals_no_parens ts tail c.good.levelled)
     sizeof_by (Parentheses k inner) o base c = sizeof_parens_of k inner base c
-    sizeof_by (CompoundLiteral k ss d items comma) o base c = sizeof_literal_of k ss d items comma base c
+    sizeof_by (CompoundLiteral k (TypeName ss d) items comma) o base c = sizeof_literal_of k ss d items comma base c
     sizeof_by (Prefix k op b) o base c = sizeof_plain_of (Prefix k op b) c (λ tail. step_no_parens op)
     sizeof_by (Unary k op b) o base c = sizeof_plain_of (Unary k op b) c (λ tail. unary_no_parens op)
     sizeof_by (SizeofExpr k b) o base c = sizeof_plain_of (SizeofExpr k b) c (λ tail. refl)
-    sizeof_by (SizeofType k ss d) o base c = sizeof_plain_of (SizeofType k ss d) c (λ tail. refl)
-    sizeof_by (AlignofType k ss d) o base c = sizeof_plain_of (AlignofType k ss d) c (λ tail. refl)
-    sizeof_by (Cast k ss d b) o base c = absurd (true≢false (sym c.within))
+    sizeof_by (SizeofType k t) o base c = sizeof_plain_of (SizeofType k t) c (λ tail. refl)
+    sizeof_by (AlignofType k t) o base c = sizeof_plain_of (AlignofType k t) c (λ tail. refl)
+    sizeof_by (Cast k t b) o base c = absurd (true≢false (sym c.within))
     sizeof_by _ o base c = absurd (true≢false (sym o))
 
   sizeof_of : (a : ℕ) (e : ExprTree) → GoodExpr (Below (suc h)) ds at (SizeofExpr a e, after_expr ds (SizeofExpr a e)) → is_within level (SizeofExpr a e) ≡ true → OperandOf (SizeofExpr a e)
@@ -455,10 +455,10 @@ module _ (h : ℕ) (sub : Subs) (parts : LawfulSubs (Below h) sub) (level : Leve
         spelled = refl;
         operand = Unmet (record { value = (e, after_expr ds e); front = spell_expr e; holds = part_is CommaLevel ds (at + 1) e g.levelled p.1 g.scoped (omega (arith, g.low)) (at_most e); is = ap (λ k. (Parentheses k e, after_expr ds e)) (eq_true a at p.0); parts = refl });
       }
-  operand_of (CompoundLiteral a ss d items comma) o g w =
+  operand_of (CompoundLiteral a (TypeName ss d) items comma) o g w =
       let l = both (is_type_name ss d && (levelled_specifiers ss && levelled_declarator d)) (has_item items && levelled_items items) g.levelled in let li = both (has_item items) (levelled_items items) l.1 in
-      let p = both _ _ g.placed in let p1 = both _ _ p.1 in let p2 = both _ _ p1.1 in
-      let s = both (scoped_type_name ds ss d) (scoped_items (after_type_name ds ss d) items) g.scoped in
+      let p = both _ _ g.placed in let p1 = both _ _ p.1 in let p2 = both _ _ p1.0 in
+      let s = both (scoped_type_name ds (TypeName ss d)) (scoped_items (after_type_name ds (TypeName ss d)) items) g.scoped in
       let front : List Lexeme = type_text (ss, d) ++ bare (IsPunctuator RightParen) ∷ [] in
       let place : at + 3 + length (spell_specifiers ss) + length (spell_declarator d) ≡ at + 1 + length front + 1 = omega (arith, length-append (type_text (ss, d)) (bare (IsPunctuator RightParen) ∷ []), length-append (spell_specifiers ss) (spell_declarator d)) in
       record {
@@ -471,23 +471,23 @@ module _ (h : ℕ) (sub : Subs) (parts : LawfulSubs (Below h) sub) (level : Leve
         operand = Met (record {
           met = w;
           holds = record {
-            value = ((ss, d), after_type_name ds ss d);
+            value = ((ss, d), after_type_name ds (TypeName ss d));
             front = front;
             back = in_braces (with_commas (spell_items items) ++ last_comma comma);
             parts = refl;
-            first = type_is (at + 1) ss d l.0 p1.0 p2.0 s.0 (omega (arith, g.low));
+            first = type_is (at + 1) ss d l.0 p2.0 p2.1 s.0 (omega (arith, g.low));
             second = Met (record {
-              value = ((items, comma), after_items (after_type_name ds ss d) items);
-              is = ap (λ k. (CompoundLiteral k ss d items comma, after_items (after_type_name ds ss d) items)) (eq_true a at p.0);
+              value = ((items, comma), after_items (after_type_name ds (TypeName ss d)) items);
+              is = ap (λ k. (CompoundLiteral k (TypeName ss d) items comma, after_items (after_type_name ds (TypeName ss d)) items)) (eq_true a at p.0);
               holds = record {
                 back = (with_commas (spell_items items) ++ last_comma comma) ++ bare (IsPunctuator RightBrace) ∷ [];
                 parts = refl;
                 holds = record {
-                  value = ((items, comma), after_items (after_type_name ds ss d) items);
+                  value = ((items, comma), after_items (after_type_name ds (TypeName ss d)) items);
                   front = with_commas (spell_items items) ++ last_comma comma;
                   is = refl;
                   parts = refl;
-                  holds = record { some = li.0; levelled = li.1; placed = subst (λ k. placed_items k items ≡ true) place p2.1; scoped = s.1; low = omega (arith, g.low); after = refl; spelled = refl };
+                  holds = record { some = li.0; levelled = li.1; placed = subst (λ k. placed_items k items ≡ true) place p1.1; scoped = s.1; low = omega (arith, g.low); after = refl; spelled = refl };
                 };
               };
             });
@@ -517,7 +517,7 @@ module _ (h : ℕ) (sub : Subs) (parts : LawfulSubs (Below h) sub) (level : Leve
         operand = record { value = (e, after_expr ds e); holds = part_is CastLevel ds (at + 1) e l.1 p.1 g.scoped (omega (arith, g.low)) l.0; is = ap (λ k. (Unary k op e, after_expr ds e)) (eq_true a at p.0) };
       }
   operand_of (SizeofExpr a e) o g w = sizeof_of a e g w
-  operand_of (SizeofType a ss d) o g w =
+  operand_of (SizeofType a (TypeName ss d)) o g w =
       let p = both _ _ g.placed in let p1 = both _ _ p.1 in
       let front : List Lexeme = type_text (ss, d) ++ bare (IsPunctuator RightParen) ∷ [] in
       let two : at + 2 ≡ at + 1 + 1 = omega arith in
@@ -534,17 +534,17 @@ module _ (h : ℕ) (sub : Subs) (parts : LawfulSubs (Below h) sub) (level : Leve
             back = front;
             parts = refl;
             holds = Met (record {
-              value = ((ss, d), after_type_name ds ss d);
+              value = ((ss, d), after_type_name ds (TypeName ss d));
               front = front;
               back = [];
               parts = sym (append-nil front);
               first = record { number = refl; holds = type_is (at + 1 + 1) ss d g.levelled (subst (λ k. placed_specifiers k ss ≡ true) two p1.0) (subst (λ k. placed_declarator (k + length (spell_specifiers ss)) d ≡ true) two p1.1) g.scoped (omega (arith, g.low)) };
-              second = Unmet (record { value = ap (λ k. (SizeofType k ss d, after_type_name ds ss d)) (eq_true a at p.0); nothing = refl });
+              second = Unmet (record { value = ap (λ k. (SizeofType k (TypeName ss d), after_type_name ds (TypeName ss d))) (eq_true a at p.0); nothing = refl });
             });
           };
         });
       }
-  operand_of (AlignofType a ss d) o g w =
+  operand_of (AlignofType a (TypeName ss d)) o g w =
       let p = both _ _ g.placed in let p1 = both _ _ p.1 in
       let front : List Lexeme = type_text (ss, d) ++ bare (IsPunctuator RightParen) ∷ [] in
       let two : at + 2 ≡ at + 1 + 1 = omega arith in
@@ -559,16 +559,16 @@ module _ (h : ℕ) (sub : Subs) (parts : LawfulSubs (Below h) sub) (level : Leve
           back = front;
           parts = refl;
           holds = record {
-            value = ((ss, d), after_type_name ds ss d);
-            is = ap (λ k. (AlignofType k ss d, after_type_name ds ss d)) (eq_true a at p.0);
+            value = ((ss, d), after_type_name ds (TypeName ss d));
+            is = ap (λ k. (AlignofType k (TypeName ss d), after_type_name ds (TypeName ss d))) (eq_true a at p.0);
             holds = type_is (at + 1 + 1) ss d g.levelled (subst (λ k. placed_specifiers k ss ≡ true) two p1.0) (subst (λ k. placed_declarator (k + length (spell_specifiers ss)) d ≡ true) two p1.1) g.scoped (omega (arith, g.low));
           };
         };
       }
-  operand_of (Cast a ss d e) o g w =
+  operand_of (Cast a (TypeName ss d) e) o g w =
       let l = both (is_type_name ss d && (levelled_specifiers ss && levelled_declarator d)) (is_within CastLevel e && levelled e) g.levelled in let le = both (is_within CastLevel e) (levelled e) l.1 in
-      let p = both _ _ g.placed in let p1 = both _ _ p.1 in let p2 = both _ _ p1.1 in
-      let s = both (scoped_type_name ds ss d) (scoped_expr (after_type_name ds ss d) e) g.scoped in
+      let p = both _ _ g.placed in let p1 = both _ _ p.1 in let p2 = both _ _ p1.0 in
+      let s = both (scoped_type_name ds (TypeName ss d)) (scoped_expr (after_type_name ds (TypeName ss d)) e) g.scoped in
       let front : List Lexeme = type_text (ss, d) ++ bare (IsPunctuator RightParen) ∷ [] in
       let place : at + 2 + length (spell_specifiers ss) + length (spell_declarator d) ≡ at + 1 + length front = omega (arith, length-append (type_text (ss, d)) (bare (IsPunctuator RightParen) ∷ []), length-append (spell_specifiers ss) (spell_declarator d)) in
       let three : 3 ≤ rank level = le_true 3 (rank level) w in
@@ -582,17 +582,17 @@ module _ (h : ℕ) (sub : Subs) (parts : LawfulSubs (Below h) sub) (level : Leve
         operand = Met (record {
           met = true_le 1 (rank level) (omega (arith, three));
           holds = record {
-            value = ((ss, d), after_type_name ds ss d);
+            value = ((ss, d), after_type_name ds (TypeName ss d));
             front = front;
             back = spell_expr e;
             parts = refl;
-            first = type_is (at + 1) ss d l.0 p1.0 p2.0 s.0 (omega (arith, g.low));
+            first = type_is (at + 1) ss d l.0 p2.0 p2.1 s.0 (omega (arith, g.low));
             second = Unmet (record {
               met = w;
               holds = record {
-                value = (e, after_expr (after_type_name ds ss d) e);
-                is = ap (λ k. (Cast k ss d e, after_expr (after_type_name ds ss d) e)) (eq_true a at p.0);
-                holds = part_is CastLevel (after_type_name ds ss d) (at + 1 + length front) e le.1 (subst (λ k. placed_expr k e ≡ true) place p2.1) s.1 (omega (arith, g.low)) le.0;
+                value = (e, after_expr (after_type_name ds (TypeName ss d)) e);
+                is = ap (λ k. (Cast k (TypeName ss d) e, after_expr (after_type_name ds (TypeName ss d)) e)) (eq_true a at p.0);
+                holds = part_is CastLevel (after_type_name ds (TypeName ss d)) (at + 1 + length front) e le.1 (subst (λ k. placed_expr k e ≡ true) place p1.1) s.1 (omega (arith, g.low)) le.0;
               };
             });
           };

@@ -2,7 +2,7 @@
 use Rattle.std.proofs.Common.{◌≡◌, refl, sym, ap, ◌∙◌, ℕ, suc, ◌+◌, max, length, Bool, true, false, not, ◌&&◌, ◌||◌, nat_le, List, [], ◌∷◌, ◌++◌, Option, None, Ok, Err, append-nil, arith}
 use Rattle.typedef_scopes.specs.Scopes.{Scope}
 use Rattle.c_tree.specs.declared.level.Level.{Level}
-use Rattle.c_tree.specs.Syntax.{ExprTree, SpecifierTrees, DeclaratorTree, Declared, Absent, Grouped, Pointer, Array, Function, Unprototyped, InitTree}
+use Rattle.c_tree.specs.Syntax.{ExprTree, TypeName, SpecifierTrees, DeclaratorTree, Declared, Absent, Grouped, Pointer, Array, Function, Unprototyped, InitTree}
 use Rattle.c_tree.specs.Spelling.{Lexeme, spell_specifiers}
 use Rattle.c_tree.specs.Height.{expr_height, specifiers_height, declarator_height, init_height}
 use Rattle.c_tree.specs.Levels.{has_some, is_within, is_type_name, has_specifier, declares, has_names, has_other_names, is_underived, levelled, levelled_specifiers, levelled_declarator, levelled_init}
@@ -71,9 +71,9 @@ type_to : (ds : List Scope) (h : ℕ) (x : In (SpecifierTrees × DeclaratorTree)
 type_to ds h x n t i =
     let m : ℕ = n + length (spell_specifiers x.0.0) in
     let low : ℕ = max (specifiers_height x.0.0) (declarator_height x.0.1) in
-    let a = both (is_type_name x.0.0 x.0.1 && (levelled_specifiers x.0.0 && levelled_declarator x.0.1)) ((placed_specifiers n x.0.0 && placed_declarator m x.0.1) && (scoped_type_name ds x.0.0 x.0.1 && nat_le low h)) i.grammatical in
+    let a = both (is_type_name x.0.0 x.0.1 && (levelled_specifiers x.0.0 && levelled_declarator x.0.1)) ((placed_specifiers n x.0.0 && placed_declarator m x.0.1) && (scoped_type_name ds (TypeName x.0.0 x.0.1) && nat_le low h)) i.grammatical in
     let b = both (is_type_name x.0.0 x.0.1) (levelled_specifiers x.0.0 && levelled_declarator x.0.1) a.0 in let c = both (levelled_specifiers x.0.0) (levelled_declarator x.0.1) b.1 in
-    let d = both (placed_specifiers n x.0.0 && placed_declarator m x.0.1) (scoped_type_name ds x.0.0 x.0.1 && nat_le low h) a.1 in let e = both (placed_specifiers n x.0.0) (placed_declarator m x.0.1) d.0 in let f = both (scoped_type_name ds x.0.0 x.0.1) (nat_le low h) d.1 in
+    let d = both (placed_specifiers n x.0.0 && placed_declarator m x.0.1) (scoped_type_name ds (TypeName x.0.0 x.0.1) && nat_le low h) a.1 in let e = both (placed_specifiers n x.0.0) (placed_declarator m x.0.1) d.0 in let f = both (scoped_type_name ds (TypeName x.0.0 x.0.1)) (nat_le low h) d.1 in
     record { good = record { type_name = b.0; specifiers = c.0; declarator = c.1; specifiers_placed = e.0; declarator_placed = e.1; scoped = f.0; low = omega (arith, le_true low h f.1); after = i.after }; spelled = i.spelled }
 
 type_from : (ds : List Scope) (h : ℕ) (x : In (SpecifierTrees × DeclaratorTree)) (n : ℕ) (t : List Lexeme) → TypeIs (Below (suc h)) ds x n t → IsTypeName ds h x n t

@@ -5,7 +5,7 @@ use Rattle.typedef_scopes.specs.Scopes.{Scope}
 use Rattle.c_tree.specs.declared.level.Level.{Level}
 use Rattle.c_tree.specs.declared.level.Level.TheVariants.{Unary as UnaryLevel, Assignment}
 use Rattle.c_tree.specs.declared.words.UnaryOp.TheVariants.{Indirection}
-use Rattle.c_tree.specs.Syntax.{ExprTree, Parentheses, Index, Call, Member, Arrow, Postfix, CompoundLiteral, Unary, Binary, Logical, Conditional, Assign, Comma, SpecifierTrees, DeclaratorTree, ItemTrees}
+use Rattle.c_tree.specs.Syntax.{ExprTree, Parentheses, Index, Call, Member, Arrow, Postfix, CompoundLiteral, Unary, Binary, Logical, Conditional, Assign, Comma, TypeName, SpecifierTrees, DeclaratorTree, ItemTrees}
 use Rattle.c_tree.specs.Spelling.{Lexeme, sign, in_parens, with_commas, last_comma, spell_expr, spell_specifiers, spell_declarator, spell_items}
 use Rattle.c_tree.specs.Height.{expr_height, specifiers_height, declarator_height, items_height}
 use Rattle.c_tree.specs.Levels.{is_within, levelled, levelled_specifiers, levelled_declarator, levelled_items, has_specifier, has_item, are_specifier_qualifiers, is_type_name, declares, has_names, has_other_names}
@@ -65,9 +65,9 @@ pub record GoodType (Low : ℕ → Type 0) (ds : List Scope) (n : ℕ) (t : In (
   pub declarator : levelled_declarator t.0.1 ≡ true
   pub specifiers_placed : placed_specifiers n t.0.0 ≡ true
   pub declarator_placed : placed_declarator (n + length (spell_specifiers t.0.0)) t.0.1 ≡ true
-  pub scoped : scoped_type_name ds t.0.0 t.0.1 ≡ true
+  pub scoped : scoped_type_name ds (TypeName t.0.0 t.0.1) ≡ true
   pub low : Low (max (specifiers_height t.0.0) (declarator_height t.0.1))
-  pub after : t.1 ≡ after_type_name ds t.0.0 t.0.1
+  pub after : t.1 ≡ after_type_name ds (TypeName t.0.0 t.0.1)
 
 abbrev pub type_text : SpecifierTrees × DeclaratorTree → List Lexeme
 type_text t = spell_specifiers t.0 ++ spell_declarator t.1
@@ -146,7 +146,7 @@ pub record StarredIs (Low : ℕ → Type 0) (at : ℕ) (ds : List Scope) (x : In
 pub record LiteralIs (Low : ℕ → Type 0) (at : ℕ) (ds : List Scope) (t : In (SpecifierTrees × DeclaratorTree)) (x : In ExprTree) (n : ℕ) (text : List Lexeme) : Type 0 where
   pub items : ItemTrees
   pub comma : Bool
-  pub base : base_of x.0 ≡ CompoundLiteral at t.0.0 t.0.1 items comma
+  pub base : base_of x.0 ≡ CompoundLiteral at (TypeName t.0.0 t.0.1) items comma
   pub number : n ≡ at + length (in_parens (type_text t.0))
   pub whole : ExprIs Low UnaryLevel ds x at (in_parens (type_text t.0) ++ text)
 

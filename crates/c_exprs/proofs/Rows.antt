@@ -27,14 +27,14 @@ with_type = ((name 0, true) ∷ []) ∷ []
 -- `( T ) { 1 } ;` behind sizeof is a compound literal, `( T ) * p` a product
 sizeof_literal : (below 9).expr CommaLevel with_type (input 5 (word SizeofWord ∷ sign LeftParen ∷ named (name 0) ∷ sign RightParen ∷ sign LeftBrace ∷ integer (codes "1") ∷ sign RightBrace ∷ sign Semicolon ∷ []))
     ≡ Ok (
-      (t.SizeofExpr 5 (t.CompoundLiteral 6 (t.MoreSpecifiers (t.TypedefName 7 (name 0)) t.NoSpecifiers) (t.Absent 8) (t.MoreItems (t.Item t.NoDesignators (t.Single (t.Integer 10 (codes "1")))) t.NoItems) false), with_type),
+      (t.SizeofExpr 5 (t.CompoundLiteral 6 (t.TypeName (t.MoreSpecifiers (t.TypedefName 7 (name 0)) t.NoSpecifiers) (t.Absent 8)) (t.MoreItems (t.Item t.NoDesignators (t.Single (t.Integer 10 (codes "1")))) t.NoItems) false), with_type),
       input 12 (sign Semicolon ∷ []),
     )
 unfolding below
 sizeof_literal = refl
 
 sizeof_product : (below 9).expr CommaLevel with_type (input 5 (word SizeofWord ∷ sign LeftParen ∷ named (name 0) ∷ sign RightParen ∷ sign StarSign ∷ named (name 1) ∷ sign Semicolon ∷ []))
-    ≡ Ok ((t.Binary 5 Mul (t.SizeofType 5 (t.MoreSpecifiers (t.TypedefName 7 (name 0)) t.NoSpecifiers) (t.Absent 8)) (t.Name 10 (name 1)), with_type), input 11 (sign Semicolon ∷ []))
+    ≡ Ok ((t.Binary 5 Mul (t.SizeofType 5 (t.TypeName (t.MoreSpecifiers (t.TypedefName 7 (name 0)) t.NoSpecifiers) (t.Absent 8))) (t.Name 10 (name 1)), with_type), input 11 (sign Semicolon ∷ []))
 unfolding below
 sizeof_product = refl
 
@@ -45,7 +45,7 @@ sum_assigned = refl
 
 -- an enumerator is declared behind its value
 enumerated : (below 9).expr CommaLevel one_scope (input 0 (word SizeofWord ∷ sign LeftParen ∷ word EnumWord ∷ sign LeftBrace ∷ named (name 4) ∷ sign RightBrace ∷ sign RightParen ∷ []))
-    ≡ Ok ((t.SizeofType 0 (t.MoreSpecifiers (t.EnumBody 2 None (t.MoreEnumerators (t.Enumerates 4 (name 4) t.NoExpr) t.NoEnumerators) false) t.NoSpecifiers) (t.Absent 6), ((name 4, false) ∷ []) ∷ []), input 7 [])
+    ≡ Ok ((t.SizeofType 0 (t.TypeName (t.MoreSpecifiers (t.EnumBody 2 None (t.MoreEnumerators (t.Enumerates 4 (name 4) t.NoExpr) t.NoEnumerators) false) t.NoSpecifiers) (t.Absent 6)), ((name 4, false) ∷ []) ∷ []), input 7 [])
 unfolding below
 enumerated = refl
 

@@ -2,7 +2,7 @@
 use Rattle.std.proofs.Common.{◌≡◌, refl, sym, ap, ◌∙◌, Bool, false, List, [], ◌∷◌, ◌++◌, Option, Some, None}
 use Rattle.cil_base.specs.declared.numbers.NameId.{NameId}
 use Rattle.typedef_scopes.specs.Scopes.{Scope, declared}
-use Rattle.c_tree.specs.Syntax.{ExprTree, Name, Integer, Character, Literals, Parentheses, Index, Call, Member, Arrow, Postfix, CompoundLiteral, Prefix, Unary, SizeofExpr, SizeofType, AlignofType, Cast, Binary, Logical, Conditional, Assign, Comma, ExprTrees, NoExprs, MoreExprs, SpecifierTree, Storage, Basic, Qualified, Functional, TypedefName, Tag, StructBody, EnumBody, SpecifierTrees, NoSpecifiers, MoreSpecifiers, MemberTree, MemberLine, MemberAssert, MemberTrees, NoMembers, MoreMembers, MemberDeclaratorTree, Plain, BitField, MemberDeclaratorTrees, NoMemberDeclarators, MoreMemberDeclarators, EnumeratorTree, Enumerates, EnumeratorTrees, NoEnumerators, MoreEnumerators, MaybeExpr, NoExpr, SomeExpr, DeclaratorTree, Declared, Absent, Grouped, Pointer, Array, Function, Unprototyped, BoundTree, Unspecified, Star, Size, StaticSize, SizeStatic, ParameterTree, Parameter, ParameterTrees, NoParameters, MoreParameters, InitTree, Single, Braces, ItemTree, Item, ItemTrees, NoItems, MoreItems, DesignatorTree, AtIndex, AtMember, DesignatorTrees, NoDesignators, MoreDesignators}
+use Rattle.c_tree.specs.Syntax.{ExprTree, Name, Integer, Character, Literals, Parentheses, Index, Call, Member, Arrow, Postfix, CompoundLiteral, Prefix, Unary, SizeofExpr, SizeofType, AlignofType, Cast, Binary, Logical, Conditional, Assign, Comma, ExprTrees, NoExprs, MoreExprs, SpecifierTree, Storage, Basic, Qualified, Functional, TypedefName, Tag, StructBody, EnumBody, TypeNameTree, TypeName, SpecifierTrees, NoSpecifiers, MoreSpecifiers, MemberTree, MemberLine, MemberAssert, MemberTrees, NoMembers, MoreMembers, MemberDeclaratorTree, Plain, BitField, MemberDeclaratorTrees, NoMemberDeclarators, MoreMemberDeclarators, EnumeratorTree, Enumerates, EnumeratorTrees, NoEnumerators, MoreEnumerators, MaybeExpr, NoExpr, SomeExpr, DeclaratorTree, Declared, Absent, Grouped, Pointer, Array, Function, Unprototyped, BoundTree, Unspecified, Star, Size, StaticSize, SizeStatic, ParameterTree, Parameter, ParameterTrees, NoParameters, MoreParameters, InitTree, Single, Braces, ItemTree, Item, ItemTrees, NoItems, MoreItems, DesignatorTree, AtIndex, AtMember, DesignatorTrees, NoDesignators, MoreDesignators}
 use Rattle.c_tree.specs.Scoped.{after_expr, after_exprs, after_type_name, after_specifier, after_specifiers, after_member, after_members, after_member_declarator, after_member_declarators, after_enumerator, after_enumerators, after_value, after_declarator, after_bound, after_parameter, after_parameters, after_init, after_item, after_items, after_designator, after_designators, declared_if, name_of, has_typedef, entered}
 use Rattle.c_exprs.specs.DeclaratorReading.{outer_of}
 
@@ -36,13 +36,13 @@ mutual
   outer_expr ds (Member at e n) = outer_expr ds e
   outer_expr ds (Arrow at e n) = outer_expr ds e
   outer_expr ds (Postfix at e op) = outer_expr ds e
-  outer_expr ds (CompoundLiteral at ss d items comma) = outer_items (after_type_name ds ss d) items ∙ (outer_declarator (after_specifiers ds ss) d ∙ outer_specifiers ds ss)
+  outer_expr ds (CompoundLiteral at t items comma) = outer_items (after_type_name ds t) items ∙ outer_type_name ds t
   outer_expr ds (Prefix at op e) = outer_expr ds e
   outer_expr ds (Unary at op e) = outer_expr ds e
   outer_expr ds (SizeofExpr at e) = outer_expr ds e
-  outer_expr ds (SizeofType at ss d) = outer_declarator (after_specifiers ds ss) d ∙ outer_specifiers ds ss
-  outer_expr ds (AlignofType at ss d) = outer_declarator (after_specifiers ds ss) d ∙ outer_specifiers ds ss
-  outer_expr ds (Cast at ss d e) = outer_expr (after_type_name ds ss d) e ∙ (outer_declarator (after_specifiers ds ss) d ∙ outer_specifiers ds ss)
+  outer_expr ds (SizeofType at t) = outer_type_name ds t
+  outer_expr ds (AlignofType at t) = outer_type_name ds t
+  outer_expr ds (Cast at t e) = outer_expr (after_type_name ds t) e ∙ outer_type_name ds t
   outer_expr ds (Binary at op l r) = outer_expr (after_expr ds l) r ∙ outer_expr ds l
   outer_expr ds (Logical at op l r) = outer_expr (after_expr ds l) r ∙ outer_expr ds l
   outer_expr ds (Conditional at c a b) = outer_expr (after_expr (after_expr ds c) a) b ∙ (outer_expr (after_expr ds c) a ∙ outer_expr ds c)
@@ -52,6 +52,9 @@ mutual
   outer_exprs : (ds : List Scope) (es : ExprTrees) → outer_of (after_exprs ds es) ≡ outer_of ds
   outer_exprs ds NoExprs = refl
   outer_exprs ds (MoreExprs e es) = outer_exprs (after_expr ds e) es ∙ outer_expr ds e
+
+  outer_type_name : (ds : List Scope) (t : TypeNameTree) → outer_of (after_type_name ds t) ≡ outer_of ds
+  outer_type_name ds (TypeName ss d) = outer_declarator (after_specifiers ds ss) d ∙ outer_specifiers ds ss
 
   outer_specifier : (ds : List Scope) (s : SpecifierTree) → outer_of (after_specifier ds s) ≡ outer_of ds
   outer_specifier ds (Storage at w) = refl

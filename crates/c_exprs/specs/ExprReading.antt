@@ -7,7 +7,7 @@ use Rattle.c_tree.specs.declared.words.UnaryOp.{UnaryOp}
 use Rattle.c_tree.specs.declared.words.UnaryOp.TheVariants.{Indirection}
 use Rattle.c_tree.specs.declared.level.Level.{Level}
 use Rattle.c_tree.specs.declared.level.Level.TheVariants.{Unary as UnaryLevel, Cast as CastLevel, Conditional as ConditionalLevel, Assignment, Comma as CommaLevel}
-use Rattle.c_tree.specs.Syntax.{ExprTree, Name, Integer, Character, Literals, Parentheses, Index, Call, Member, Arrow, Postfix, CompoundLiteral, Prefix, Unary, SizeofExpr, SizeofType, AlignofType, Cast, Conditional, ExprTrees, NoExprs, MoreExprs, SpecifierTrees, DeclaratorTree, ItemTrees}
+use Rattle.c_tree.specs.Syntax.{ExprTree, Name, Integer, Character, Literals, Parentheses, Index, Call, Member, Arrow, Postfix, CompoundLiteral, Prefix, Unary, SizeofExpr, SizeofType, AlignofType, Cast, Conditional, ExprTrees, NoExprs, MoreExprs, TypeName, SpecifierTrees, DeclaratorTree, ItemTrees}
 use Rattle.c_tree.specs.Spelling.{Lexeme}
 use Rattle.c_tree.specs.Levels.{rank}
 use Rattle.c_tree.specs.Height.{specifiers_height, declarator_height}
@@ -52,10 +52,10 @@ in_parentheses sub at ds = bind (sub.expr CommaLevel ds) (λ e. bind (take (is_s
 
 -- behind `( type-name )`
 abbrev pub compound : Subs → ℕ → In (SpecifierTrees × DeclaratorTree) → Reader (In ExprTree)
-compound sub at t = bind (braced sub t.1) (λ x. pure (CompoundLiteral at t.0.0 t.0.1 x.0.0 x.0.1, x.1))
+compound sub at t = bind (braced sub t.1) (λ x. pure (CompoundLiteral at (TypeName t.0.0 t.0.1) x.0.0 x.0.1, x.1))
 
 abbrev pub cast : Subs → ℕ → In (SpecifierTrees × DeclaratorTree) → Reader (In ExprTree)
-cast sub at t = bind (sub.expr CastLevel t.1) (λ e. pure (Cast at t.0.0 t.0.1 e.0, e.1))
+cast sub at t = bind (sub.expr CastLevel t.1) (λ e. pure (Cast at (TypeName t.0.0 t.0.1) e.0, e.1))
 
 abbrev pub behind_type_name : Subs → ℕ → Level → In (SpecifierTrees × DeclaratorTree) → Reader (In ExprTree)
 behind_type_name sub at level t = when (next_is (is_sign LeftBrace)) (compound sub at t) (guard (nat_le 3 (rank level)) (cast sub at t))
@@ -76,7 +76,7 @@ signed sub at op ds = bind (sub.expr CastLevel ds) (λ e. pure (Unary at op e.0,
 -- behind `sizeof`, and behind `sizeof (`
 
 abbrev pub sizeof_typed : Subs → ℕ → In (SpecifierTrees × DeclaratorTree) → Reader (In ExprTree)
-sizeof_typed sub at t = when (next_is (is_sign LeftBrace)) (bind (sub.literal (at + 1) t) (λ e. pure (SizeofExpr at e.0, e.1))) (pure (SizeofType at t.0.0 t.0.1, t.1))
+sizeof_typed sub at t = when (next_is (is_sign LeftBrace)) (bind (sub.literal (at + 1) t) (λ e. pure (SizeofExpr at e.0, e.1))) (pure (SizeofType at (TypeName t.0.0 t.0.1), t.1))
 
 abbrev pub sizeof_type : Subs → ℕ → List Scope → Reader (In ExprTree)
 sizeof_type sub at ds = bind (type_name_closed sub ds) (λ t. sizeof_typed sub at t)
@@ -95,7 +95,7 @@ sizeof_operand sub at ds = when (next_is (is_sign LeftParen)) (sizeof_behind sub
 
 -- behind `_Alignof`
 abbrev pub alignof_operand : Subs → ℕ → List Scope → Reader (In ExprTree)
-alignof_operand sub at ds = bind (take (is_sign LeftParen)) (λ c. bind (type_name_closed sub ds) (λ t. pure (AlignofType at t.0.0 t.0.1, t.1)))
+alignof_operand sub at ds = bind (take (is_sign LeftParen)) (λ c. bind (type_name_closed sub ds) (λ t. pure (AlignofType at (TypeName t.0.0 t.0.1), t.1)))
 
 abbrev pub literals_from : ℕ → List ℕ → List Scope → Reader (In ExprTree)
 literals_from at text ds = bind (more_literals (text ∷ [])) (λ texts. pure (Literals at texts, ds))

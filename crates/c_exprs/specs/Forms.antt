@@ -1,10 +1,10 @@
 -- Definition: the trees of each form that a call reads, with the scopes behind them and the tokens that they spell; and what goes on behind each.
-use Rattle.std.specs.Prelude.{◌≡◌, ℕ, Bool, true, false, List, ◌++◌, Option}
+use Rattle.std.specs.Prelude.{◌≡◌, ℕ, Bool, true, false, List, Option}
 use Rattle.typedef_scopes.specs.Scopes.{Scope}
 use Rattle.c_tree.specs.declared.level.Level.{Level}
 use Rattle.c_tree.specs.declared.level.Level.TheVariants.{Assignment}
-use Rattle.c_tree.specs.Syntax.{ExprTree, SpecifierTrees, DeclaratorTree, InitTree}
-use Rattle.c_tree.specs.Spelling.{Lexeme, spell_expr, spell_specifiers, spell_declarator, spell_init}
+use Rattle.c_tree.specs.Syntax.{ExprTree, TypeName, SpecifierTrees, DeclaratorTree, InitTree}
+use Rattle.c_tree.specs.Spelling.{Lexeme, spell_expr, spell_type_name, spell_specifiers, spell_declarator, spell_init}
 use Rattle.c_tree.specs.Levels.{has_names}
 use Rattle.c_tree.specs.Scoped.{after_expr, after_specifiers, after_declarator, after_type_name, after_init, has_type_specifier}
 use Rattle.c_tree.specs.Grammatical.{grammatical_expr, grammatical_type_name, grammatical_specifiers, grammatical_declarator, grammatical_init}
@@ -23,9 +23,9 @@ expr_goes level x o = goes_on_expr level o
 
 -- a type name (6.7.7)
 pub record IsTypeName (scopes : List Scope) (height : ℕ) (x : In (SpecifierTrees × DeclaratorTree)) (n : ℕ) (text : List Lexeme) : Type 0 where
-  pub grammatical : grammatical_type_name scopes height n x.0.0 x.0.1 ≡ true
-  pub after : x.1 ≡ after_type_name scopes x.0.0 x.0.1
-  pub spelled : text ≡ spell_specifiers x.0.0 ++ spell_declarator x.0.1
+  pub grammatical : grammatical_type_name scopes height n (TypeName x.0.0 x.0.1) ≡ true
+  pub after : x.1 ≡ after_type_name scopes (TypeName x.0.0 x.0.1)
+  pub spelled : text ≡ spell_type_name (TypeName x.0.0 x.0.1)
 
 abbrev pub type_name_goes : In (SpecifierTrees × DeclaratorTree) → Option Lexeme → Bool
 type_name_goes x o = goes_on_type_name (has_type_specifier x.0.0) x.1 o

@@ -81,7 +81,7 @@ pub fn compound_of(
     items: ItemList,
     comma: bool,
 ) -> Result<ExprNode, Memory>
-    ensures { IfOk result (λ x. expr_of x ≡ plain.CompoundLiteral at (specifiers_of t.specifiers.items) (declarator_of t.declarator) (items_of items) comma) }
+    ensures { IfOk result (λ x. expr_of x ≡ plain.CompoundLiteral at (plain.TypeName (specifiers_of t.specifiers.items) (declarator_of t.declarator)) (items_of items) comma) }
 {
     let height = above(t.height.max(items.height))?;
     ExprNode::boxed(
@@ -94,7 +94,7 @@ pub fn compound_of(
 /// `sizeof ( type-name )`
 #[tactic(auto, using(c_tree::proofs::Views::held_specifiers))]
 pub fn sizeof_type_of(alloc: Global, at: u32, t: TypeNameNode) -> Result<ExprNode, Memory>
-    ensures { IfOk result (λ x. expr_of x ≡ plain.SizeofType at (specifiers_of t.specifiers.items) (declarator_of t.declarator)) }
+    ensures { IfOk result (λ x. expr_of x ≡ plain.SizeofType at (plain.TypeName (specifiers_of t.specifiers.items) (declarator_of t.declarator))) }
 {
     let height = above(t.height)?;
     ExprNode::boxed(alloc, Expr::SizeofType(at, t.tree), height)
@@ -103,7 +103,7 @@ pub fn sizeof_type_of(alloc: Global, at: u32, t: TypeNameNode) -> Result<ExprNod
 /// `_Alignof ( type-name )`
 #[tactic(auto, using(c_tree::proofs::Views::held_specifiers))]
 pub fn alignof_of(alloc: Global, at: u32, t: TypeNameNode) -> Result<ExprNode, Memory>
-    ensures { IfOk result (λ x. expr_of x ≡ plain.AlignofType at (specifiers_of t.specifiers.items) (declarator_of t.declarator)) }
+    ensures { IfOk result (λ x. expr_of x ≡ plain.AlignofType at (plain.TypeName (specifiers_of t.specifiers.items) (declarator_of t.declarator))) }
 {
     let height = above(t.height)?;
     ExprNode::boxed(alloc, Expr::AlignofType(at, t.tree), height)
@@ -112,7 +112,7 @@ pub fn alignof_of(alloc: Global, at: u32, t: TypeNameNode) -> Result<ExprNode, M
 /// `( type-name ) e`
 #[tactic(auto, using(c_tree::proofs::Views::held_specifiers))]
 pub fn cast_of(alloc: Global, at: u32, t: TypeNameNode, e: ExprNode) -> Result<ExprNode, Memory>
-    ensures { IfOk result (λ x. expr_of x ≡ plain.Cast at (specifiers_of t.specifiers.items) (declarator_of t.declarator) (expr_of e)) }
+    ensures { IfOk result (λ x. expr_of x ≡ plain.Cast at (plain.TypeName (specifiers_of t.specifiers.items) (declarator_of t.declarator)) (expr_of e)) }
 {
     let height = above(t.height.max(e.height))?;
     ExprNode::boxed(alloc, Expr::Cast(at, t.tree, e.tree), height)

@@ -1,4 +1,5 @@
 ghost use Rattle.std.specs.Prelude.{◌≡◌, OnOk};
+ghost use Rattle.c_tree.specs.Syntax as plain;
 ghost use Rattle.c_tree.specs.View.{expr_of, specifier_of, specifiers_of, member_of, member_declarator_of, enumerator_of, declarator_of, bound_of, parameter_of, init_of, item_of, designator_of, exprs_of, members_of, member_declarators_of, enumerators_of, parameters_of, items_of, designators_of};
 ghost use Rattle.c_tree.specs.Scoped.{declared_if, declared_all, after_expr, after_exprs, after_type_name, after_specifier, after_specifiers, after_member, after_members, after_member_declarator, after_member_declarators, after_enumerator, after_enumerators, after_declarator, after_bound, after_parameter, after_parameters, after_init, after_item, after_items, after_designator, after_designators, after_own_list};
 
@@ -72,7 +73,7 @@ fn declare_expr(x: &Expr, s: &mut Scopes) -> Result<(), Memory>
 /// The enumerators of a type name.
 #[cycle(once_more)]
 fn declare_type(x: &TypeName, s: &mut Scopes) -> Result<(), Memory>
-    ensures { OnOk result (s.new ≡ after_type_name s.old (specifiers_of x.now.specifiers.items) (declarator_of x.now.declarator)) }
+    ensures { OnOk result (s.new ≡ after_type_name s.old (plain.TypeName (specifiers_of x.now.specifiers.items) (declarator_of x.now.declarator))) }
 {
     declare_specifiers(&x.specifiers, s)?;
     declare_declarator(&x.declarator, s)

@@ -3,14 +3,14 @@ use Rattle.std.proofs.Common.{◌≡◌, ℕ, suc, ◌+◌, ◌<◌, ◌≤◌, 
 use Rattle.std.proofs.lemmas.List.{length-map}
 use Rattle.cil_base.specs.declared.operators.BinOp.{BinOp}
 use Rattle.cil_base.specs.declared.operators.BinOp.TheVariants.{Mul, Div, Rem, Add, Sub, Shl, Shr, Lt, Gt, Le, Ge, Eq, Ne, And, Xor, Or}
-use Rattle.c_tree.specs.Syntax.{ExprTree, Name, Integer, Character, Literals, Parentheses, Index, Call, Member, Arrow, Postfix, CompoundLiteral, Prefix, Unary, SizeofExpr, SizeofType, AlignofType, Cast, Binary, Logical, Conditional, Assign, Comma, ExprTrees, NoExprs, MoreExprs, SpecifierTree, Storage, Basic, Qualified, Functional, TypedefName, Tag, StructBody, EnumBody, SpecifierTrees, NoSpecifiers, MoreSpecifiers, MemberTree, MemberLine, MemberAssert, MemberTrees, NoMembers, MoreMembers, MemberDeclaratorTree, Plain, BitField, MemberDeclaratorTrees, NoMemberDeclarators, MoreMemberDeclarators, EnumeratorTree, Enumerates, EnumeratorTrees, NoEnumerators, MoreEnumerators, MaybeExpr, NoExpr, SomeExpr, DeclaratorTree, Declared, Absent, Grouped, Pointer, Array, Function, Unprototyped, BoundTree, Unspecified, Star, Size, StaticSize, SizeStatic, ParameterTree, Parameter, ParameterTrees, NoParameters, MoreParameters, InitTree, Single, Braces, ItemTree, Item, ItemTrees, NoItems, MoreItems, DesignatorTree, AtIndex, AtMember, DesignatorTrees, NoDesignators, MoreDesignators}
+use Rattle.c_tree.specs.Syntax.{ExprTree, Name, Integer, Character, Literals, Parentheses, Index, Call, Member, Arrow, Postfix, CompoundLiteral, Prefix, Unary, SizeofExpr, SizeofType, AlignofType, Cast, Binary, Logical, Conditional, Assign, Comma, ExprTrees, NoExprs, MoreExprs, TypeNameTree, TypeName, SpecifierTree, Storage, Basic, Qualified, Functional, TypedefName, Tag, StructBody, EnumBody, SpecifierTrees, NoSpecifiers, MoreSpecifiers, MemberTree, MemberLine, MemberAssert, MemberTrees, NoMembers, MoreMembers, MemberDeclaratorTree, Plain, BitField, MemberDeclaratorTrees, NoMemberDeclarators, MoreMemberDeclarators, EnumeratorTree, Enumerates, EnumeratorTrees, NoEnumerators, MoreEnumerators, MaybeExpr, NoExpr, SomeExpr, DeclaratorTree, Declared, Absent, Grouped, Pointer, Array, Function, Unprototyped, BoundTree, Unspecified, Star, Size, StaticSize, SizeStatic, ParameterTree, Parameter, ParameterTrees, NoParameters, MoreParameters, InitTree, Single, Braces, ItemTree, Item, ItemTrees, NoItems, MoreItems, DesignatorTree, AtIndex, AtMember, DesignatorTrees, NoDesignators, MoreDesignators}
 use Rattle.c_tree.specs.Units.{DeclarationTree, Declares, Asserts, ForStart, StartExpr, StartDeclaration, StmtTree, Labelled, Case, Default, Compound, Expression, If, IfElse, Switch, While, Do, For, Goto, Continue, Break, Return, BlockItem, Declaring, Doing, BlockItems, NoItems as NoStatements, MoreItems as MoreStatements, ExternalTree, Definition, External, UnitTree}
 use Rattle.c_tree.specs.declared.level.Level.TheVariants.{Postfix as PostfixLevel, Unary as UnaryLevel, Cast as CastLevel, LogicalOr, Conditional as ConditionalLevel, Assignment}
-use Rattle.c_tree.specs.Levels.{are_specifier_qualifiers, binary_level, declares, has_enumerator, has_item, has_member, has_names, has_parameter, has_some, has_specifier, is_absent, is_assign_op, is_bound_of, is_defined_by, is_direct, is_type_name, is_within, logical_level, takes_else, tighter, levelled, levelled_arguments, levelled_block, levelled_block_item, levelled_bound, levelled_declaration, levelled_declarations, levelled_declarator, levelled_designator, levelled_designators, levelled_enumerator, levelled_enumerators, levelled_external, levelled_externals, levelled_init, levelled_init_declarator, levelled_init_declarators, levelled_item, levelled_items, levelled_maybe, levelled_maybe_init, levelled_member, levelled_member_declarator, levelled_member_declarators, levelled_members, levelled_parameter, levelled_parameters, levelled_specifier, levelled_specifiers, levelled_start, levelled_stmt, levelled_value}
-use Rattle.c_tree.specs.Placed.{placed_block, placed_block_item, placed_bound, placed_declaration, placed_declarations, placed_declarator, placed_designator, placed_designators, placed_enumerator, placed_enumerators, placed_expr, placed_exprs, placed_external, placed_init, placed_init_declarators, placed_item, placed_items, placed_maybe, placed_maybe_init, placed_member, placed_member_declarator, placed_member_declarators, placed_members, placed_parameter, placed_parameters, placed_specifier, placed_specifiers, placed_start, placed_stmt, placed_unit, placed_value}
-use Rattle.c_tree.specs.Spelling.{assign_sign, spell_assign, in_brackets, with_commas, spell_bound, spell_declarator, spell_designation, spell_designator, spell_designators, spell_enumerator, spell_enumerators, spell_expr, spell_exprs, spell_init, spell_item, spell_items, spell_member, spell_member_declarator, spell_member_declarators, spell_members, spell_parameter, spell_parameters, spell_specifier, spell_specifiers, spell_tag, spell_value}
+use Rattle.c_tree.specs.Levels.{are_specifier_qualifiers, binary_level, declares, has_enumerator, has_item, has_member, has_names, has_parameter, has_some, has_specifier, is_absent, is_assign_op, is_bound_of, is_defined_by, is_direct, is_type_name, is_within, logical_level, takes_else, tighter, levelled, levelled_arguments, levelled_block, levelled_block_item, levelled_bound, levelled_declaration, levelled_declarations, levelled_declarator, levelled_designator, levelled_designators, levelled_enumerator, levelled_enumerators, levelled_external, levelled_externals, levelled_init, levelled_init_declarator, levelled_init_declarators, levelled_item, levelled_items, levelled_maybe, levelled_maybe_init, levelled_member, levelled_member_declarator, levelled_member_declarators, levelled_members, levelled_parameter, levelled_parameters, levelled_specifier, levelled_specifiers, levelled_start, levelled_stmt, levelled_value, levelled_type_name}
+use Rattle.c_tree.specs.Placed.{behind_type_name, placed_block, placed_block_item, placed_bound, placed_declaration, placed_declarations, placed_declarator, placed_designator, placed_designators, placed_enumerator, placed_enumerators, placed_expr, placed_exprs, placed_external, placed_init, placed_init_declarators, placed_item, placed_items, placed_maybe, placed_maybe_init, placed_member, placed_member_declarator, placed_member_declarators, placed_members, placed_parameter, placed_parameters, placed_specifier, placed_specifiers, placed_start, placed_stmt, placed_type_name, placed_unit, placed_value}
+use Rattle.c_tree.specs.Spelling.{assign_sign, spell_assign, in_brackets, with_commas, spell_bound, spell_declarator, spell_designation, spell_designator, spell_designators, spell_enumerator, spell_enumerators, spell_expr, spell_exprs, spell_init, spell_item, spell_items, spell_member, spell_member_declarator, spell_member_declarators, spell_members, spell_parameter, spell_parameters, spell_specifier, spell_specifiers, spell_tag, spell_value, spell_type_name}
 use Rattle.c_tree.specs.UnitSpelling.{spell_block, spell_block_item, spell_declaration, spell_declarations, spell_external, spell_init_declarator, spell_maybe, spell_maybe_init, spell_start, spell_stmt, spell_unit}
-use Rattle.c_places.specs.Below.{BlockBelow, BlockItemBelow, BoundBelow, DeclarationBelow, DeclarationsBelow, DeclaratorBelow, DesignatorBelow, DesignatorsBelow, EnumeratorBelow, EnumeratorsBelow, ExprBelow, ExprsBelow, ExternalBelow, InitBelow, InitDeclaratorsBelow, ItemBelow, ItemsBelow, MaybeBelow, MaybeInitBelow, MemberBelow, MemberDeclaratorBelow, MemberDeclaratorsBelow, MembersBelow, ParameterBelow, ParametersBelow, SpecifierBelow, SpecifiersBelow, StartBelow, StmtBelow, UnitBelow, ValueBelow}
+use Rattle.c_places.specs.Below.{BlockBelow, BlockItemBelow, BoundBelow, DeclarationBelow, DeclarationsBelow, DeclaratorBelow, DesignatorBelow, DesignatorsBelow, EnumeratorBelow, EnumeratorsBelow, ExprBelow, ExprsBelow, ExternalBelow, InitBelow, InitDeclaratorsBelow, ItemBelow, ItemsBelow, MaybeBelow, MaybeInitBelow, MemberBelow, MemberDeclaratorBelow, MemberDeclaratorsBelow, MembersBelow, ParameterBelow, ParametersBelow, TypeNameBelow, SpecifierBelow, SpecifiersBelow, StartBelow, StmtBelow, UnitBelow, ValueBelow}
 
 pub both : (p q : Bool) → p && q ≡ true → (p ≡ true) × (q ≡ true)
 both true q h = (refl, h)
@@ -39,6 +39,9 @@ assigned (Some Ge) h = cc
 assigned (Some Eq) h = cc
 assigned (Some Ne) h = cc
 
+behind_is : (n : ℕ) (t : TypeNameTree) → behind_type_name n t ≡ n + length (spell_type_name t)
+behind_is n (TypeName ss d) = grind (arith, length-append)
+
 mutual
   below_expr : (count n : ℕ) (t : ExprTree) → placed_expr n t ≡ true → levelled t ≡ true → n + length (spell_expr t) < count → ExprBelow count t
   below_expr count n (Name at x) hp hl lt = at_below count at n hp (grind (arith, length-append, length-map))
@@ -51,13 +54,19 @@ mutual
   below_expr count n (Member at e x) hp hl lt = (at_below count at n (both (nat_eq at n) (placed_expr n e) hp).0 (grind (arith, length-append, length-map)), below_expr count n e (both (nat_eq at n) (placed_expr n e) hp).1 (both (is_within PostfixLevel e) (levelled e) hl).1 (grind (arith, length-append, length-map)))
   below_expr count n (Arrow at e x) hp hl lt = (at_below count at n (both (nat_eq at n) (placed_expr n e) hp).0 (grind (arith, length-append, length-map)), below_expr count n e (both (nat_eq at n) (placed_expr n e) hp).1 (both (is_within PostfixLevel e) (levelled e) hl).1 (grind (arith, length-append, length-map)))
   below_expr count n (Postfix at e op) hp hl lt = (at_below count at n (both (nat_eq at n) (placed_expr n e) hp).0 (grind (arith, length-append, length-map)), below_expr count n e (both (nat_eq at n) (placed_expr n e) hp).1 (both (is_within PostfixLevel e) (levelled e) hl).1 (grind (arith, length-append, length-map)))
-  below_expr count n (CompoundLiteral at ss d items comma) hp hl lt = (at_below count at n (both (nat_eq at n) ((placed_specifiers (n + 1) ss) && ((placed_declarator (n + 1 + length (spell_specifiers ss)) d) && (placed_items (n + 3 + length (spell_specifiers ss) + length (spell_declarator d)) items))) hp).0 (grind (arith, length-append, length-map)), below_specifiers count (n + 1) ss (both (placed_specifiers (n + 1) ss) ((placed_declarator (n + 1 + length (spell_specifiers ss)) d) && (placed_items (n + 3 + length (spell_specifiers ss) + length (spell_declarator d)) items)) (both (nat_eq at n) ((placed_specifiers (n + 1) ss) && ((placed_declarator (n + 1 + length (spell_specifiers ss)) d) && (placed_items (n + 3 + length (spell_specifiers ss) + length (spell_declarator d)) items))) hp).1).0 (both (levelled_specifiers ss) (levelled_declarator d) (both (is_type_name ss d) ((levelled_specifiers ss) && (levelled_declarator d)) (both ((is_type_name ss d) && ((levelled_specifiers ss) && (levelled_declarator d))) ((has_item items) && (levelled_items items)) hl).0).1).0 (grind (arith, length-append, length-map)), below_declarator count (n + 1 + length (spell_specifiers ss)) d (both (placed_declarator (n + 1 + length (spell_specifiers ss)) d) (placed_items (n + 3 + length (spell_specifiers ss) + length (spell_declarator d)) items) (both (placed_specifiers (n + 1) ss) ((placed_declarator (n + 1 + length (spell_specifiers ss)) d) && (placed_items (n + 3 + length (spell_specifiers ss) + length (spell_declarator d)) items)) (both (nat_eq at n) ((placed_specifiers (n + 1) ss) && ((placed_declarator (n + 1 + length (spell_specifiers ss)) d) && (placed_items (n + 3 + length (spell_specifiers ss) + length (spell_declarator d)) items))) hp).1).1).0 (both (levelled_specifiers ss) (levelled_declarator d) (both (is_type_name ss d) ((levelled_specifiers ss) && (levelled_declarator d)) (both ((is_type_name ss d) && ((levelled_specifiers ss) && (levelled_declarator d))) ((has_item items) && (levelled_items items)) hl).0).1).1 (grind (arith, length-append, length-map)), below_items count (n + 3 + length (spell_specifiers ss) + length (spell_declarator d)) items (both (placed_declarator (n + 1 + length (spell_specifiers ss)) d) (placed_items (n + 3 + length (spell_specifiers ss) + length (spell_declarator d)) items) (both (placed_specifiers (n + 1) ss) ((placed_declarator (n + 1 + length (spell_specifiers ss)) d) && (placed_items (n + 3 + length (spell_specifiers ss) + length (spell_declarator d)) items)) (both (nat_eq at n) ((placed_specifiers (n + 1) ss) && ((placed_declarator (n + 1 + length (spell_specifiers ss)) d) && (placed_items (n + 3 + length (spell_specifiers ss) + length (spell_declarator d)) items))) hp).1).1).1 (both (has_item items) (levelled_items items) (both ((is_type_name ss d) && ((levelled_specifiers ss) && (levelled_declarator d))) ((has_item items) && (levelled_items items)) hl).1).1 (grind (arith, length-append, length-map)))
+  below_expr count n (CompoundLiteral at t items comma) hp hl lt =
+      let p = both (nat_eq at n) (placed_type_name (n + 1) t && placed_items (behind_type_name (n + 3) t) items) hp in let q = both (placed_type_name (n + 1) t) (placed_items (behind_type_name (n + 3) t) items) p.1 in
+      let l = both (levelled_type_name t) (has_item items && levelled_items items) hl in
+      (at_below count at n p.0 (grind (arith, length-append, length-map)), below_type_name count (n + 1) t q.0 l.0 (grind (arith, length-append, length-map)), below_items count (behind_type_name (n + 3) t) items q.1 (both (has_item items) (levelled_items items) l.1).1 (grind (arith, length-append, length-map, behind_is (n + 3) t)))
   below_expr count n (Prefix at op e) hp hl lt = (at_below count at n (both (nat_eq at n) (placed_expr (n + 1) e) hp).0 (grind (arith, length-append, length-map)), below_expr count (n + 1) e (both (nat_eq at n) (placed_expr (n + 1) e) hp).1 (both (is_within UnaryLevel e) (levelled e) hl).1 (grind (arith, length-append, length-map)))
   below_expr count n (Unary at op e) hp hl lt = (at_below count at n (both (nat_eq at n) (placed_expr (n + 1) e) hp).0 (grind (arith, length-append, length-map)), below_expr count (n + 1) e (both (nat_eq at n) (placed_expr (n + 1) e) hp).1 (both (is_within CastLevel e) (levelled e) hl).1 (grind (arith, length-append, length-map)))
   below_expr count n (SizeofExpr at e) hp hl lt = (at_below count at n (both (nat_eq at n) (placed_expr (n + 1) e) hp).0 (grind (arith, length-append, length-map)), below_expr count (n + 1) e (both (nat_eq at n) (placed_expr (n + 1) e) hp).1 (both (is_within UnaryLevel e) (levelled e) hl).1 (grind (arith, length-append, length-map)))
-  below_expr count n (SizeofType at ss d) hp hl lt = (at_below count at n (both (nat_eq at n) ((placed_specifiers (n + 2) ss) && (placed_declarator (n + 2 + length (spell_specifiers ss)) d)) hp).0 (grind (arith, length-append, length-map)), below_specifiers count (n + 2) ss (both (placed_specifiers (n + 2) ss) (placed_declarator (n + 2 + length (spell_specifiers ss)) d) (both (nat_eq at n) ((placed_specifiers (n + 2) ss) && (placed_declarator (n + 2 + length (spell_specifiers ss)) d)) hp).1).0 (both (levelled_specifiers ss) (levelled_declarator d) (both (is_type_name ss d) ((levelled_specifiers ss) && (levelled_declarator d)) hl).1).0 (grind (arith, length-append, length-map)), below_declarator count (n + 2 + length (spell_specifiers ss)) d (both (placed_specifiers (n + 2) ss) (placed_declarator (n + 2 + length (spell_specifiers ss)) d) (both (nat_eq at n) ((placed_specifiers (n + 2) ss) && (placed_declarator (n + 2 + length (spell_specifiers ss)) d)) hp).1).1 (both (levelled_specifiers ss) (levelled_declarator d) (both (is_type_name ss d) ((levelled_specifiers ss) && (levelled_declarator d)) hl).1).1 (grind (arith, length-append, length-map)))
-  below_expr count n (AlignofType at ss d) hp hl lt = (at_below count at n (both (nat_eq at n) ((placed_specifiers (n + 2) ss) && (placed_declarator (n + 2 + length (spell_specifiers ss)) d)) hp).0 (grind (arith, length-append, length-map)), below_specifiers count (n + 2) ss (both (placed_specifiers (n + 2) ss) (placed_declarator (n + 2 + length (spell_specifiers ss)) d) (both (nat_eq at n) ((placed_specifiers (n + 2) ss) && (placed_declarator (n + 2 + length (spell_specifiers ss)) d)) hp).1).0 (both (levelled_specifiers ss) (levelled_declarator d) (both (is_type_name ss d) ((levelled_specifiers ss) && (levelled_declarator d)) hl).1).0 (grind (arith, length-append, length-map)), below_declarator count (n + 2 + length (spell_specifiers ss)) d (both (placed_specifiers (n + 2) ss) (placed_declarator (n + 2 + length (spell_specifiers ss)) d) (both (nat_eq at n) ((placed_specifiers (n + 2) ss) && (placed_declarator (n + 2 + length (spell_specifiers ss)) d)) hp).1).1 (both (levelled_specifiers ss) (levelled_declarator d) (both (is_type_name ss d) ((levelled_specifiers ss) && (levelled_declarator d)) hl).1).1 (grind (arith, length-append, length-map)))
-  below_expr count n (Cast at ss d e) hp hl lt = (at_below count at n (both (nat_eq at n) ((placed_specifiers (n + 1) ss) && ((placed_declarator (n + 1 + length (spell_specifiers ss)) d) && (placed_expr (n + 2 + length (spell_specifiers ss) + length (spell_declarator d)) e))) hp).0 (grind (arith, length-append, length-map)), below_specifiers count (n + 1) ss (both (placed_specifiers (n + 1) ss) ((placed_declarator (n + 1 + length (spell_specifiers ss)) d) && (placed_expr (n + 2 + length (spell_specifiers ss) + length (spell_declarator d)) e)) (both (nat_eq at n) ((placed_specifiers (n + 1) ss) && ((placed_declarator (n + 1 + length (spell_specifiers ss)) d) && (placed_expr (n + 2 + length (spell_specifiers ss) + length (spell_declarator d)) e))) hp).1).0 (both (levelled_specifiers ss) (levelled_declarator d) (both (is_type_name ss d) ((levelled_specifiers ss) && (levelled_declarator d)) (both ((is_type_name ss d) && ((levelled_specifiers ss) && (levelled_declarator d))) ((is_within CastLevel e) && (levelled e)) hl).0).1).0 (grind (arith, length-append, length-map)), below_declarator count (n + 1 + length (spell_specifiers ss)) d (both (placed_declarator (n + 1 + length (spell_specifiers ss)) d) (placed_expr (n + 2 + length (spell_specifiers ss) + length (spell_declarator d)) e) (both (placed_specifiers (n + 1) ss) ((placed_declarator (n + 1 + length (spell_specifiers ss)) d) && (placed_expr (n + 2 + length (spell_specifiers ss) + length (spell_declarator d)) e)) (both (nat_eq at n) ((placed_specifiers (n + 1) ss) && ((placed_declarator (n + 1 + length (spell_specifiers ss)) d) && (placed_expr (n + 2 + length (spell_specifiers ss) + length (spell_declarator d)) e))) hp).1).1).0 (both (levelled_specifiers ss) (levelled_declarator d) (both (is_type_name ss d) ((levelled_specifiers ss) && (levelled_declarator d)) (both ((is_type_name ss d) && ((levelled_specifiers ss) && (levelled_declarator d))) ((is_within CastLevel e) && (levelled e)) hl).0).1).1 (grind (arith, length-append, length-map)), below_expr count (n + 2 + length (spell_specifiers ss) + length (spell_declarator d)) e (both (placed_declarator (n + 1 + length (spell_specifiers ss)) d) (placed_expr (n + 2 + length (spell_specifiers ss) + length (spell_declarator d)) e) (both (placed_specifiers (n + 1) ss) ((placed_declarator (n + 1 + length (spell_specifiers ss)) d) && (placed_expr (n + 2 + length (spell_specifiers ss) + length (spell_declarator d)) e)) (both (nat_eq at n) ((placed_specifiers (n + 1) ss) && ((placed_declarator (n + 1 + length (spell_specifiers ss)) d) && (placed_expr (n + 2 + length (spell_specifiers ss) + length (spell_declarator d)) e))) hp).1).1).1 (both (is_within CastLevel e) (levelled e) (both ((is_type_name ss d) && ((levelled_specifiers ss) && (levelled_declarator d))) ((is_within CastLevel e) && (levelled e)) hl).1).1 (grind (arith, length-append, length-map)))
+  below_expr count n (SizeofType at t) hp hl lt = let p = both (nat_eq at n) (placed_type_name (n + 2) t) hp in (at_below count at n p.0 (grind (arith, length-append, length-map)), below_type_name count (n + 2) t p.1 hl (grind (arith, length-append, length-map)))
+  below_expr count n (AlignofType at t) hp hl lt = let p = both (nat_eq at n) (placed_type_name (n + 2) t) hp in (at_below count at n p.0 (grind (arith, length-append, length-map)), below_type_name count (n + 2) t p.1 hl (grind (arith, length-append, length-map)))
+  below_expr count n (Cast at t e) hp hl lt =
+      let p = both (nat_eq at n) (placed_type_name (n + 1) t && placed_expr (behind_type_name (n + 2) t) e) hp in let q = both (placed_type_name (n + 1) t) (placed_expr (behind_type_name (n + 2) t) e) p.1 in
+      let l = both (levelled_type_name t) (is_within CastLevel e && levelled e) hl in
+      (at_below count at n p.0 (grind (arith, length-append, length-map)), below_type_name count (n + 1) t q.0 l.0 (grind (arith, length-append, length-map)), below_expr count (behind_type_name (n + 2) t) e q.1 (both (is_within CastLevel e) (levelled e) l.1).1 (grind (arith, length-append, length-map, behind_is (n + 2) t)))
   below_expr count n (Binary at op l r) hp hl lt = (at_below count at n (both (nat_eq at n) ((placed_expr n l) && (placed_expr (n + length (spell_expr l) + 1) r)) hp).0 (grind (arith, length-append, length-map)), below_expr count n l (both (placed_expr n l) (placed_expr (n + length (spell_expr l) + 1) r) (both (nat_eq at n) ((placed_expr n l) && (placed_expr (n + length (spell_expr l) + 1) r)) hp).1).0 (both (is_within (binary_level op) l) (levelled l) (both ((is_within (binary_level op) l) && (levelled l)) ((is_within (tighter (binary_level op)) r) && (levelled r)) hl).0).1 (grind (arith, length-append, length-map)), below_expr count (n + length (spell_expr l) + 1) r (both (placed_expr n l) (placed_expr (n + length (spell_expr l) + 1) r) (both (nat_eq at n) ((placed_expr n l) && (placed_expr (n + length (spell_expr l) + 1) r)) hp).1).1 (both (is_within (tighter (binary_level op)) r) (levelled r) (both ((is_within (binary_level op) l) && (levelled l)) ((is_within (tighter (binary_level op)) r) && (levelled r)) hl).1).1 (grind (arith, length-append, length-map)))
   below_expr count n (Logical at op l r) hp hl lt = (at_below count at n (both (nat_eq at n) ((placed_expr n l) && (placed_expr (n + length (spell_expr l) + 1) r)) hp).0 (grind (arith, length-append, length-map)), below_expr count n l (both (placed_expr n l) (placed_expr (n + length (spell_expr l) + 1) r) (both (nat_eq at n) ((placed_expr n l) && (placed_expr (n + length (spell_expr l) + 1) r)) hp).1).0 (both (is_within (logical_level op) l) (levelled l) (both ((is_within (logical_level op) l) && (levelled l)) ((is_within (tighter (logical_level op)) r) && (levelled r)) hl).0).1 (grind (arith, length-append, length-map)), below_expr count (n + length (spell_expr l) + 1) r (both (placed_expr n l) (placed_expr (n + length (spell_expr l) + 1) r) (both (nat_eq at n) ((placed_expr n l) && (placed_expr (n + length (spell_expr l) + 1) r)) hp).1).1 (both (is_within (tighter (logical_level op)) r) (levelled r) (both ((is_within (logical_level op) l) && (levelled l)) ((is_within (tighter (logical_level op)) r) && (levelled r)) hl).1).1 (grind (arith, length-append, length-map)))
   below_expr count n (Conditional at c a b) hp hl lt = (at_below count at n (both (nat_eq at n) ((placed_expr n c) && ((placed_expr (n + length (spell_expr c) + 1) a) && (placed_expr (n + length (spell_expr c) + length (spell_expr a) + 2) b))) hp).0 (grind (arith, length-append, length-map)), below_expr count n c (both (placed_expr n c) ((placed_expr (n + length (spell_expr c) + 1) a) && (placed_expr (n + length (spell_expr c) + length (spell_expr a) + 2) b)) (both (nat_eq at n) ((placed_expr n c) && ((placed_expr (n + length (spell_expr c) + 1) a) && (placed_expr (n + length (spell_expr c) + length (spell_expr a) + 2) b))) hp).1).0 (both (is_within LogicalOr c) (levelled c) (both ((is_within LogicalOr c) && (levelled c)) ((levelled a) && ((is_within ConditionalLevel b) && (levelled b))) hl).0).1 (grind (arith, length-append, length-map)), below_expr count (n + length (spell_expr c) + 1) a (both (placed_expr (n + length (spell_expr c) + 1) a) (placed_expr (n + length (spell_expr c) + length (spell_expr a) + 2) b) (both (placed_expr n c) ((placed_expr (n + length (spell_expr c) + 1) a) && (placed_expr (n + length (spell_expr c) + length (spell_expr a) + 2) b)) (both (nat_eq at n) ((placed_expr n c) && ((placed_expr (n + length (spell_expr c) + 1) a) && (placed_expr (n + length (spell_expr c) + length (spell_expr a) + 2) b))) hp).1).1).0 (both (levelled a) ((is_within ConditionalLevel b) && (levelled b)) (both ((is_within LogicalOr c) && (levelled c)) ((levelled a) && ((is_within ConditionalLevel b) && (levelled b))) hl).1).0 (grind (arith, length-append, length-map)), below_expr count (n + length (spell_expr c) + length (spell_expr a) + 2) b (both (placed_expr (n + length (spell_expr c) + 1) a) (placed_expr (n + length (spell_expr c) + length (spell_expr a) + 2) b) (both (placed_expr n c) ((placed_expr (n + length (spell_expr c) + 1) a) && (placed_expr (n + length (spell_expr c) + length (spell_expr a) + 2) b)) (both (nat_eq at n) ((placed_expr n c) && ((placed_expr (n + length (spell_expr c) + 1) a) && (placed_expr (n + length (spell_expr c) + length (spell_expr a) + 2) b))) hp).1).1).1 (both (is_within ConditionalLevel b) (levelled b) (both (levelled a) ((is_within ConditionalLevel b) && (levelled b)) (both ((is_within LogicalOr c) && (levelled c)) ((levelled a) && ((is_within ConditionalLevel b) && (levelled b))) hl).1).1).1 (grind (arith, length-append, length-map)))
@@ -68,6 +77,11 @@ mutual
   below_exprs count n NoExprs hp hl lt = tt
   below_exprs count n (MoreExprs e NoExprs) hp hl lt = (below_expr count n e (both _ _ hp).0 (both (is_within Assignment e) (levelled e) (both ((is_within Assignment e) && (levelled e)) (levelled_arguments NoExprs) hl).0).1 (grind (arith, length-append, length-map)), tt)
   below_exprs count n (MoreExprs e (MoreExprs y ys)) hp hl lt = (below_expr count n e (both _ _ hp).0 (both (is_within Assignment e) (levelled e) (both ((is_within Assignment e) && (levelled e)) (levelled_arguments (MoreExprs y ys)) hl).0).1 (grind (arith, length-append, length-map)), below_exprs count (n + length (spell_expr e) + 1) (MoreExprs y ys) (both _ _ hp).1 (both ((is_within Assignment e) && (levelled e)) (levelled_arguments (MoreExprs y ys)) hl).1 (grind (arith, length-append, length-map)))
+
+  below_type_name : (count n : ℕ) (t : TypeNameTree) → placed_type_name n t ≡ true → levelled_type_name t ≡ true → n + length (spell_type_name t) < count → TypeNameBelow count t
+  below_type_name count n (TypeName ss d) hp hl lt =
+      let p = both (placed_specifiers n ss) (placed_declarator (n + length (spell_specifiers ss)) d) hp in let l = both (levelled_specifiers ss) (levelled_declarator d) (both (is_type_name ss d) (levelled_specifiers ss && levelled_declarator d) hl).1 in
+      (below_specifiers count n ss p.0 l.0 (grind (arith, length-append, length-map)), below_declarator count (n + length (spell_specifiers ss)) d p.1 l.1 (grind (arith, length-append, length-map)))
 
   below_specifier : (count n : ℕ) (t : SpecifierTree) → placed_specifier n t ≡ true → levelled_specifier t ≡ true → n + length (spell_specifier t) < count → SpecifierBelow count t
   below_specifier count n (Storage at w) hp hl lt = at_below count at n hp (grind (arith, length-append, length-map))

@@ -1,3 +1,2 @@
 pub mod BelowLaws
-pub mod FirstLaws
 pub mod ReadLaws

@@ -1,6 +1,6 @@
 -- Definition: each number of a token in a syntax tree is below a number: where that is how many tokens there are, each token is there.
 use Rattle.std.specs.Prelude.{ℕ, ◌<◌, List, [], ◌∷◌, Option, Some, None}
-use Rattle.c_tree.specs.Syntax.{ExprTree, Name, Integer, Character, Literals, Parentheses, Index, Call, Member, Arrow, Postfix, CompoundLiteral, Prefix, Unary, SizeofExpr, SizeofType, AlignofType, Cast, Binary, Logical, Conditional, Assign, Comma, ExprTrees, NoExprs, MoreExprs, SpecifierTree, Storage, Basic, Qualified, Functional, TypedefName, Tag, StructBody, EnumBody, SpecifierTrees, NoSpecifiers, MoreSpecifiers, MemberTree, MemberLine, MemberAssert, MemberTrees, NoMembers, MoreMembers, MemberDeclaratorTree, Plain, BitField, MemberDeclaratorTrees, NoMemberDeclarators, MoreMemberDeclarators, EnumeratorTree, Enumerates, EnumeratorTrees, NoEnumerators, MoreEnumerators, MaybeExpr, NoExpr, SomeExpr, DeclaratorTree, Declared, Absent, Grouped, Pointer, Array, Function, Unprototyped, BoundTree, Unspecified, Star, Size, StaticSize, SizeStatic, ParameterTree, Parameter, ParameterTrees, NoParameters, MoreParameters, InitTree, Single, Braces, ItemTree, Item, ItemTrees, NoItems, MoreItems, DesignatorTree, AtIndex, AtMember, DesignatorTrees, NoDesignators, MoreDesignators}
+use Rattle.c_tree.specs.Syntax.{ExprTree, Name, Integer, Character, Literals, Parentheses, Index, Call, Member, Arrow, Postfix, CompoundLiteral, Prefix, Unary, SizeofExpr, SizeofType, AlignofType, Cast, Binary, Logical, Conditional, Assign, Comma, ExprTrees, NoExprs, MoreExprs, TypeNameTree, TypeName, SpecifierTree, Storage, Basic, Qualified, Functional, TypedefName, Tag, StructBody, EnumBody, SpecifierTrees, NoSpecifiers, MoreSpecifiers, MemberTree, MemberLine, MemberAssert, MemberTrees, NoMembers, MoreMembers, MemberDeclaratorTree, Plain, BitField, MemberDeclaratorTrees, NoMemberDeclarators, MoreMemberDeclarators, EnumeratorTree, Enumerates, EnumeratorTrees, NoEnumerators, MoreEnumerators, MaybeExpr, NoExpr, SomeExpr, DeclaratorTree, Declared, Absent, Grouped, Pointer, Array, Function, Unprototyped, BoundTree, Unspecified, Star, Size, StaticSize, SizeStatic, ParameterTree, Parameter, ParameterTrees, NoParameters, MoreParameters, InitTree, Single, Braces, ItemTree, Item, ItemTrees, NoItems, MoreItems, DesignatorTree, AtIndex, AtMember, DesignatorTrees, NoDesignators, MoreDesignators}
 use Rattle.c_tree.specs.Units.{DeclarationTree, Declares, Asserts, ForStart, StartExpr, StartDeclaration, StmtTree, Labelled, Case, Default, Compound, Expression, If, IfElse, Switch, While, Do, For, Goto, Continue, Break, Return, BlockItem, Declaring, Doing, BlockItems, NoItems as NoStatements, MoreItems as MoreStatements, ExternalTree, Definition, External, UnitTree}
 
 abbrev mutual
@@ -15,13 +15,13 @@ abbrev mutual
   ExprBelow count (Member at e x) = (at < count) × ExprBelow count e
   ExprBelow count (Arrow at e x) = (at < count) × ExprBelow count e
   ExprBelow count (Postfix at e op) = (at < count) × ExprBelow count e
-  ExprBelow count (CompoundLiteral at ss d items comma) = (at < count) × SpecifiersBelow count ss × DeclaratorBelow count d × ItemsBelow count items
+  ExprBelow count (CompoundLiteral at t items comma) = (at < count) × TypeNameBelow count t × ItemsBelow count items
   ExprBelow count (Prefix at op e) = (at < count) × ExprBelow count e
   ExprBelow count (Unary at op e) = (at < count) × ExprBelow count e
   ExprBelow count (SizeofExpr at e) = (at < count) × ExprBelow count e
-  ExprBelow count (SizeofType at ss d) = (at < count) × SpecifiersBelow count ss × DeclaratorBelow count d
-  ExprBelow count (AlignofType at ss d) = (at < count) × SpecifiersBelow count ss × DeclaratorBelow count d
-  ExprBelow count (Cast at ss d e) = (at < count) × SpecifiersBelow count ss × DeclaratorBelow count d × ExprBelow count e
+  ExprBelow count (SizeofType at t) = (at < count) × TypeNameBelow count t
+  ExprBelow count (AlignofType at t) = (at < count) × TypeNameBelow count t
+  ExprBelow count (Cast at t e) = (at < count) × TypeNameBelow count t × ExprBelow count e
   ExprBelow count (Binary at op l r) = (at < count) × ExprBelow count l × ExprBelow count r
   ExprBelow count (Logical at op l r) = (at < count) × ExprBelow count l × ExprBelow count r
   ExprBelow count (Conditional at c a b) = (at < count) × ExprBelow count c × ExprBelow count a × ExprBelow count b
@@ -31,6 +31,9 @@ abbrev mutual
   pub ExprsBelow : ℕ → ExprTrees → Type 0
   ExprsBelow count NoExprs = Unit {0}
   ExprsBelow count (MoreExprs e es) = ExprBelow count e × ExprsBelow count es
+
+  pub TypeNameBelow : ℕ → TypeNameTree → Type 0
+  TypeNameBelow count (TypeName ss d) = SpecifiersBelow count ss × DeclaratorBelow count d
 
   pub SpecifierBelow : ℕ → SpecifierTree → Type 0
   SpecifierBelow count (Storage at w) = at < count

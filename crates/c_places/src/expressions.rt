@@ -1,6 +1,7 @@
 ghost use Rattle.std.specs.Prelude.{◌≡◌};
+ghost use Rattle.c_tree.specs.Syntax as plain;
 ghost use Rattle.c_tree.specs.View.{expr_of, specifier_of, specifiers_of, member_of, member_declarator_of, enumerator_of, declarator_of, bound_of, parameter_of, init_of, item_of, designator_of};
-ghost use Rattle.c_places.specs.First.{first_expr, first_specifier, first_specifiers, first_member, first_member_declarator, first_enumerator, first_declarator, first_bound, first_parameter, first_init, first_item, first_designator};
+ghost use Rattle.c_tree.specs.Places.{first_expr, first_specifier, first_specifiers, first_type_name, first_member, first_member_declarator, first_enumerator, first_declarator, first_bound, first_parameter, first_init, first_item, first_designator};
 
 use c_tree::{
     ArrayBound, Declarator, Designator, Enumerator, Expr, Init, InitItem, MemberDeclaration,
@@ -65,7 +66,7 @@ pub fn specifiers_at(ss: &[Specifier]) -> Option<u32>
 
 /// The number of the first token of a type name, none where it has no specifiers.
 pub fn type_name_at(t: &TypeName) -> Option<u32>
-    ensures { result ≡ first_specifiers (specifiers_of t.now.specifiers.items) }
+    ensures { result ≡ first_type_name (plain.TypeName (specifiers_of t.now.specifiers.items) (declarator_of t.now.declarator)) }
 {
     specifiers_at(&t.specifiers)
 }

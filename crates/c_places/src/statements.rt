@@ -1,6 +1,6 @@
 ghost use Rattle.std.specs.Prelude.{◌≡◌};
 ghost use Rattle.c_tree.specs.UnitView.{block_item_of, declaration_of, external_of, stmt_of};
-ghost use Rattle.c_places.specs.First.{first_block_item, first_declaration, first_external, first_stmt};
+ghost use Rattle.c_tree.specs.Places.{first_block_item, first_declaration, first_external, first_stmt};
 
 use c_tree::{BlockItem, Declaration, ExtDecl, Stmt};
 

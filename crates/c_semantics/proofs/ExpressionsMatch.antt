@@ -13,9 +13,9 @@ use Rattle.c_typing.specs.Conversions.{Operand}
 use Rattle.c_typing.specs.Constants.{integer_constant, character_constant}
 use Rattle.c_typing.specs.Scopes.{Env, Found, Good, Bad, Walk, unevaluated, visible_name}
 use Rattle.c_typing.specs.Steps.{logic_of, postfix_form, prefix_form}
-use Rattle.c_typing.specs.Walk.{expr, exprs}
+use Rattle.c_typing.specs.Walk.{expr, exprs, named_type}
 use Rattle.c_semantics.specs.Places.{Activation, Here, here_behind, found, none, undefined, arrays_in, arrays_in_operands, arrays_in_maybe, arrays_in_list, with_parts, with_operand, with_operands, with_typed, with_maybe, with_stmts}
-use Rattle.c_semantics.specs.Walks.{named_type, designators}
+use Rattle.c_semantics.specs.Walks.{designators}
 use Rattle.c_semantics.specs.Operations.{Object, Rest}
 use Rattle.c_semantics.specs.Expressions.{passed_shape, parameters_behind, dot_path, arrow_path, c_exp, c_arguments, c_init, c_init_items}
 use Rattle.c_semantics.proofs.Matched.{Matched, Ready, gives_matched, undefined_matched}
@@ -57,13 +57,13 @@ mutual
   exp_m a r (Member at e m) h = operand_m (expr e) h (λ x k. of_member_m a k.arrays (dot_path k.env.types m x) x (exp_m a r e h))
   exp_m a r (Arrow at e m) h = operand_m (expr e) h (λ x k. of_arrow_m a k.arrays (arrow_path k.env.types m x) x (exp_m a r e h))
   exp_m a r (Postfix at e op) h = operand_m (expr e) h (λ x k. of_step_m a k.env.types (postfix_form op) x (exp_m a r e h))
-  exp_m a r (CompoundLiteral at ss d items comma) h = parts_m (named_type ss d) h (λ c k. operand_m (expr (CompoundLiteral at ss d items comma)) h (λ x j. of_literal_m a x.typed k (λ o q. items_m a r o items q)))
+  exp_m a r (CompoundLiteral at t items comma) h = parts_m (named_type t) h (λ c k. operand_m (expr (CompoundLiteral at t items comma)) h (λ x j. of_literal_m a x.typed k (λ o q. items_m a r o items q)))
   exp_m a r (Prefix at op e) h = operand_m (expr e) h (λ x k. of_step_m a k.env.types (prefix_form op) x (exp_m a r e h))
   exp_m a r (Unary at op e) h = operand_m (expr e) h (λ x k. of_unary_m a k.env.types op x (exp_m a r e h))
   exp_m a r (SizeofExpr at e) h = operand_m (unevaluated (expr e)) h (λ x k. measured_m (size_in k.env.types (shape_in x.typed)))
-  exp_m a r (SizeofType at ss d) h = parts_m (unevaluated (named_type ss d)) h (λ c k. measured_m (size_in k.env.types c.shape))
-  exp_m a r (AlignofType at ss d) h = parts_m (unevaluated (named_type ss d)) h (λ c k. measured_m (alignment_in k.env.types c.shape))
-  exp_m a r (Cast at ss d e) h = parts_m (named_type ss d) h (λ c k. operand_m (expr e) k (λ x j. of_cast_m a c.shape x (exp_m a r e k)))
+  exp_m a r (SizeofType at t) h = parts_m (unevaluated (named_type t)) h (λ c k. measured_m (size_in k.env.types c.shape))
+  exp_m a r (AlignofType at t) h = parts_m (unevaluated (named_type t)) h (λ c k. measured_m (alignment_in k.env.types c.shape))
+  exp_m a r (Cast at t e) h = parts_m (named_type t) h (λ c k. operand_m (expr e) k (λ x j. of_cast_m a c.shape x (exp_m a r e k)))
   exp_m a r (Binary at op e f) h = operand_m (expr e) h (λ x k. operand_m (expr f) k (λ y j. of_binary_m a j.env.types op x y (exp_m a r e h) (exp_m a r f k)))
   exp_m a r (Logical at op e f) h = operand_m (expr e) h (λ x k. operand_m (expr f) k (λ y j. logical_m (logic_of op) (tested_m a x (exp_m a r e h)) (tested_m a y (exp_m a r f k))))
   exp_m a r (Conditional at c e f) h = operand_m (expr c) h (λ x k. operand_m (expr e) k (λ y j. operand_m (expr f) j (λ z i. of_conditional_m a i.env.types x y z (exp_m a r c h) (exp_m a r e k) (exp_m a r f j))))

@@ -21,10 +21,10 @@ use Rattle.c_typing.specs.Operators.{binary_sides, subscript_sides, compound_sid
 use Rattle.c_typing.specs.Nodes.{callee_of}
 use Rattle.c_typing.specs.Scopes.{Denotes, TypedefName, EnumerationConstant, Automatic, Static, unevaluated, visible_name}
 use Rattle.c_typing.specs.Steps.{logic_of, postfix_form, prefix_form}
-use Rattle.c_typing.specs.Walk.{expr, exprs}
+use Rattle.c_typing.specs.Walk.{expr, exprs, named_type}
 use Rattle.c_semantics.specs.Values.{kind_of, cast_value}
 use Rattle.c_semantics.specs.Places.{Activation, Here, outer_of, literal_number, array_number, with_parts, with_operand, with_operands}
-use Rattle.c_semantics.specs.Walks.{named_type, designators}
+use Rattle.c_semantics.specs.Walks.{designators}
 use Rattle.c_semantics.specs.Operations.{Action, ◌>>=◌, gives, known, Seen, Is, is_value, is_number, placed, used, taken, pointed, tested, indirect, operated, computed, subscripted, logical, chosen, along, assigned, compound, stepped, called, unit_object, local_object, Object, literal_object, initialised, Rest, zeroes, steps_of, next_step}
 
 -- an identifier is an lvalue, a function or a constant (6.5.1p2, 6.4.4.3)
@@ -232,14 +232,14 @@ abbrev mutual
   c_exp a enter (Member at e m) h s = with_operand (expr e) h (λ x k. of_member a k.arrays (dot_path k.env.types m x) x (c_exp a enter e h)) s
   c_exp a enter (Arrow at e m) h s = with_operand (expr e) h (λ x k. of_arrow a k.arrays (arrow_path k.env.types m x) x (c_exp a enter e h)) s
   c_exp a enter (Postfix at e op) h s = with_operand (expr e) h (λ x k. of_step a k.env.types (postfix_form op) x (c_exp a enter e h)) s
-  c_exp a enter (CompoundLiteral at ss d items comma) h s = with_parts (named_type ss d) h (λ c k. with_operand (expr (CompoundLiteral at ss d items comma)) h (λ x j. of_literal a x.typed k (λ o. c_init_items a enter o items))) s
+  c_exp a enter (CompoundLiteral at t items comma) h s = with_parts (named_type t) h (λ c k. with_operand (expr (CompoundLiteral at t items comma)) h (λ x j. of_literal a x.typed k (λ o. c_init_items a enter o items))) s
   c_exp a enter (Prefix at op e) h s = with_operand (expr e) h (λ x k. of_step a k.env.types (prefix_form op) x (c_exp a enter e h)) s
   c_exp a enter (Unary at op e) h s = with_operand (expr e) h (λ x k. of_unary a k.env.types op x (c_exp a enter e h)) s
   -- the operand is not evaluated (6.5.3.4p2)
   c_exp a enter (SizeofExpr at e) h s = with_operand (unevaluated (expr e)) h (λ x k. measured (size_in k.env.types (shape_in x.typed))) s
-  c_exp a enter (SizeofType at ss d) h s = with_parts (unevaluated (named_type ss d)) h (λ c k. measured (size_in k.env.types c.shape)) s
-  c_exp a enter (AlignofType at ss d) h s = with_parts (unevaluated (named_type ss d)) h (λ c k. measured (alignment_in k.env.types c.shape)) s
-  c_exp a enter (Cast at ss d e) h s = with_parts (named_type ss d) h (λ c k. with_operand (expr e) k (λ x j. of_cast a c.shape x (c_exp a enter e k))) s
+  c_exp a enter (SizeofType at t) h s = with_parts (unevaluated (named_type t)) h (λ c k. measured (size_in k.env.types c.shape)) s
+  c_exp a enter (AlignofType at t) h s = with_parts (unevaluated (named_type t)) h (λ c k. measured (alignment_in k.env.types c.shape)) s
+  c_exp a enter (Cast at t e) h s = with_parts (named_type t) h (λ c k. with_operand (expr e) k (λ x j. of_cast a c.shape x (c_exp a enter e k))) s
   c_exp a enter (Binary at op l r) h s = with_operand (expr l) h (λ x k. with_operand (expr r) k (λ y j. of_binary a j.env.types op x y (c_exp a enter l h) (c_exp a enter r k))) s
   c_exp a enter (Logical at op l r) h s = with_operand (expr l) h (λ x k. with_operand (expr r) k (λ y j. logical (logic_of op) (tested a x (c_exp a enter l h)) (tested a y (c_exp a enter r k)))) s
   c_exp a enter (Conditional at c y n) h s =

@@ -16,13 +16,13 @@ abbrev mutual
   literals_in (Member at e m) = literals_in e
   literals_in (Arrow at e m) = literals_in e
   literals_in (Postfix at e op) = literals_in e
-  literals_in (CompoundLiteral at ss d is comma) = at ∷ literals_in_items is
+  literals_in (CompoundLiteral at t is comma) = at ∷ literals_in_items is
   literals_in (Prefix at op e) = literals_in e
   literals_in (Unary at op e) = literals_in e
   literals_in (SizeofExpr at e) = []
-  literals_in (SizeofType at ss d) = []
-  literals_in (AlignofType at ss d) = []
-  literals_in (Cast at ss d e) = literals_in e
+  literals_in (SizeofType at t) = []
+  literals_in (AlignofType at t) = []
+  literals_in (Cast at t e) = literals_in e
   literals_in (Binary at op l r) = literals_in l ++ literals_in r
   literals_in (Logical at op l r) = literals_in l ++ literals_in r
   literals_in (Conditional at c y n) = literals_in c ++ (literals_in y ++ literals_in n)

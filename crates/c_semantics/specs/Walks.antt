@@ -5,19 +5,16 @@ use Rattle.type_graph.specs.Shapes.{Shape}
 use Rattle.typed_tree.specs.Statements.{Stmt}
 use Rattle.c_tree.specs.Syntax.{ExprTree, SpecifierTrees, DeclaratorTree, DesignatorTrees, NoDesignators, MoreDesignators, AtIndex, AtMember}
 use Rattle.c_tree.specs.Units.{StmtTree, BlockItem, Declaring, Doing}
+use Rattle.c_tree.specs.Places.{first_expr}
 use Rattle.c_typing.specs.Types.{CType}
-use Rattle.c_typing.specs.Specifiers.{InBlock, NoStorage, Defining, class_of, is_inline}
+use Rattle.c_typing.specs.Specifiers.{InBlock, Defining, class_of, is_inline}
 use Rattle.c_typing.specs.Scopes.{Env, Walk, ◌>>=◌, pure, asks, scoped}
-use Rattle.c_typing.specs.Declarators.{Derivation, at_of, declared_in, place_in, built, last_of}
-use Rattle.c_typing.specs.Steps.{Base, base_with, type_with, declares_local}
+use Rattle.c_typing.specs.Declarators.{Derivation, declared_in, place_in, built, last_of}
+use Rattle.c_typing.specs.Steps.{Base, base_with, declares_local}
 use Rattle.c_typing.specs.Walk.{expr, named, derived}
 use Rattle.c_typing.specs.Declare.{AFunction, head_of, links, inherited, function_linkage}
 use Rattle.c_typing.specs.Faults.{enters_function, result_of}
 use Rattle.c_typing.specs.Statements.{Place, declaration, statement, case_value}
-
--- a type name (6.7.7)
-abbrev pub named_type : SpecifierTrees → DeclaratorTree → Walk CType
-named_type ss d = type_with ss d (base_with NoStorage ss (named false ss)) (derived false d)
 
 -- the constant expressions of designators (6.7.9p6)
 abbrev pub designators : DesignatorTrees → Walk (Unit {0})
@@ -51,7 +48,7 @@ substatement p s = scoped (statement p s)
 abbrev pub case_label : ℕ → ExprTree → Walk Stmt
 case_label at e = do
   x ← expr e
-  case_value at (at_of e) x
+  case_value at (first_expr e) x
 
 -- the beginning of a function's body (6.9.1): which of the unit's functions it is, and the type that it returns
 abbrev pub opens_function : SpecifierTrees → DeclaratorTree → Walk (Option (ℕ × Shape))

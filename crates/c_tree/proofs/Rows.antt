@@ -70,17 +70,17 @@ associates = refl
 
 -- `a + b = c`, `( int ) a = b` and `a ? b : c = d` are none; `( a + b ) = c`, `* a = b` and `a ? b , c : d` are; a comparison assigns nothing
 assigns : map levelled
-    (t.Assign 0 None (t.Binary 0 Add (a 0) (a 2)) (a 4) ∷ t.Assign 0 None (t.Cast 0 (int_at 1) (t.Absent 2) (a 3)) (a 5) ∷ t.Assign 0 None (t.Conditional 0 (a 0) (a 2) (a 4)) (a 6)
+    (t.Assign 0 None (t.Binary 0 Add (a 0) (a 2)) (a 4) ∷ t.Assign 0 None (t.Cast 0 (t.TypeName (int_at 1) (t.Absent 2)) (a 3)) (a 5) ∷ t.Assign 0 None (t.Conditional 0 (a 0) (a 2) (a 4)) (a 6)
     ∷ t.Assign 0 None (t.Parentheses 0 (t.Binary 1 Add (a 1) (a 3))) (a 6) ∷ t.Assign 0 None (t.Unary 0 Indirection (a 1)) (a 3) ∷ t.Conditional 0 (a 0) (t.Comma 2 (a 2) (a 4)) (a 6)
     ∷ t.Assign 0 (Some Lt) (a 0) (a 2) ∷ t.Assign 0 (Some Mul) (a 0) (a 2) ∷ [])
     ≡ false ∷ false ∷ false ∷ true ∷ true ∷ true ∷ false ∷ true ∷ []
 assigns = refl
 
 -- `sizeof ( int ) * a` is a product, since a cast is no operand of sizeof
-sizes : map levelled (t.Binary 0 Mul (t.SizeofType 0 (int_at 2) (t.Absent 3)) (a 5) ∷ t.SizeofExpr 0 (t.Cast 1 (int_at 2) (t.Absent 3) (t.Unary 4 Indirection (a 5))) ∷ []) ≡ true ∷ false ∷ []
+sizes : map levelled (t.Binary 0 Mul (t.SizeofType 0 (t.TypeName (int_at 2) (t.Absent 3))) (a 5) ∷ t.SizeofExpr 0 (t.Cast 1 (t.TypeName (int_at 2) (t.Absent 3)) (t.Unary 4 Indirection (a 5))) ∷ []) ≡ true ∷ false ∷ []
 sizes = refl
 
-sizes_spelled : spell_expr (t.Binary 0 Mul (t.SizeofType 0 (int_at 2) (t.Absent 3)) (a 5)) ≡ word SizeofWord ∷ sign LeftParen ∷ word IntWord ∷ sign RightParen ∷ sign StarSign ∷ named (name 1) ∷ []
+sizes_spelled : spell_expr (t.Binary 0 Mul (t.SizeofType 0 (t.TypeName (int_at 2) (t.Absent 3))) (a 5)) ≡ word SizeofWord ∷ sign LeftParen ∷ word IntWord ∷ sign RightParen ∷ sign StarSign ∷ named (name 1) ∷ []
 sizes_spelled = refl
 
 -- an argument is an assignment expression, so `f ( a , b )` has two
@@ -92,7 +92,7 @@ calls_spelled = refl
 
 -- `( int ) { [ 0 ] . a = 1 , }`
 abbrev compound : t.ExprTree
-compound = t.CompoundLiteral 0 (int_at 1) (t.Absent 2)
+compound = t.CompoundLiteral 0 (t.TypeName (int_at 1) (t.Absent 2))
     (t.MoreItems (t.Item (t.MoreDesignators (t.AtIndex 4 (t.Integer 5 (codes "0"))) (t.MoreDesignators (t.AtMember 7 (name 1)) t.NoDesignators)) (t.Single (t.Integer 10 (codes "1")))) t.NoItems) true
 
 compound_spelled : spell_expr compound
@@ -102,7 +102,7 @@ compound_spelled = refl
 compound_numbers : map (λ n. placed_expr n compound) (0 ∷ 1 ∷ []) ≡ true ∷ false ∷ []
 compound_numbers = refl
 
-compound_heights : map expr_height (compound ∷ t.SizeofType 0 (int_at 2) (t.Absent 3) ∷ a 0 ∷ t.Member 0 (t.Member 0 (a 0) (name 2)) (name 3) ∷ []) ≡ 2 ∷ 2 ∷ 1 ∷ 3 ∷ []
+compound_heights : map expr_height (compound ∷ t.SizeofType 0 (t.TypeName (int_at 2) (t.Absent 3)) ∷ a 0 ∷ t.Member 0 (t.Member 0 (a 0) (name 2)) (name 3) ∷ []) ≡ 2 ∷ 2 ∷ 1 ∷ 3 ∷ []
 compound_heights = refl
 
 -- `( * a ) [ const * ]`, and a pointer where a direct declarator is asked; `( )` stands for no declarator in parentheses; `[ const * ]` stands in no abstract declarator
@@ -210,7 +210,7 @@ elsewhere names =
     ∷ defining (t.Unprototyped 1 (pointer 1 0) names) [] (length names + 7)
     ∷ u.Definition 0 (int_at 0) (t.Unprototyped 1 (declared 1 0) []) [] 4 (u.MoreItems (u.Declaring (line 5 (t.Unprototyped 6 (declared 6 5) names))) u.NoItems)
     ∷ alone (t.StructBody 0 Struct None (one_member (int_at 2) (t.BitField (t.Unprototyped 3 (t.Grouped 3 (declared 4 3)) names) (t.Integer (length names + 9) (codes "1")))))
-    ∷ u.External (line 0 (t.Array 1 (declared 1 6) (t.Size 2 [] (t.SizeofType 3 (int_at 5) (t.Unprototyped 6 (t.Grouped 6 (t.Pointer 7 [] (t.Absent 8))) names)))))
+    ∷ u.External (line 0 (t.Array 1 (declared 1 6) (t.Size 2 [] (t.SizeofType 3 (t.TypeName (int_at 5) (t.Unprototyped 6 (t.Grouped 6 (t.Pointer 7 [] (t.Absent 8))) names))))))
     ∷ []
 
 names_elsewhere : levels (elsewhere (name 1 ∷ [])) ≡ false ∷ false ∷ false ∷ false ∷ false ∷ false ∷ false ∷ false ∷ []

@@ -223,14 +223,14 @@ abbrev valued : t.ExprTree → t.ExprTree → u.BlockItem
 valued e o = u.Declaring (u.Declares 10 (one (t.EnumBody 10 None (t.MoreEnumerators (t.Enumerates 12 (name 1) (t.SomeExpr e)) (t.MoreEnumerators (t.Enumerates 19 (name 2) (t.SomeExpr o)) t.NoEnumerators)) false)) [])
 
 abbrev size_T : ℕ → t.ExprTree
-size_T at = t.SizeofType at (type_T (at + 2)) (t.Absent (at + 3))
+size_T at = t.SizeofType at (t.TypeName (type_T (at + 2)) (t.Absent (at + 3)))
 
 own_value : map stands (main_of (valued (size_T 14) (word 21 1) ∷ []) ∷ main_of (valued (size_T 14) (size_T 21) ∷ []) ∷ main_of (valued (t.SizeofExpr 14 (t.Parentheses 15 (word 16 1))) (word 21 1) ∷ []) ∷ [])
     ≡ good ∷ misread ∷ misread ∷ []
 own_value = refl
 
 abbrev enumerates_T : ℕ → t.ExprTree
-enumerates_T at = t.SizeofType at (one (t.EnumBody (at + 2) None (t.MoreEnumerators (t.Enumerates (at + 4) (name 1) t.NoExpr) t.NoEnumerators) false)) (t.Absent (at + 6))
+enumerates_T at = t.SizeofType at (t.TypeName (one (t.EnumBody (at + 2) None (t.MoreEnumerators (t.Enumerates (at + 4) (name 1) t.NoExpr) t.NoEnumerators) false)) (t.Absent (at + 6)))
 
 abbrev branching : u.BlockItem → u.UnitTree
 branching next = main_of (u.Doing (u.If 10 (enumerates_T 12) (u.Expression 20 (Some (word 20 1)))) ∷ next ∷ [])

@@ -93,19 +93,19 @@ pub at_call : (x : Expr) (at : ℕ) (e : Box Expr Global) (v : Vec Expr Global) 
 at_call x at e v xs is same = ap expr_of is ∙ ap (plain.Call at (expr_of e.value)) (held_exprs v ∙ ap exprs_of (sym same))
 
 pub at_compound_literal : (x : Expr) (at : ℕ) (t : Box TypeName Global) (v : Vec InitItem Global) (comma : Bool) (xs : List InitItem) → x ≡ CompoundLiteral at t v comma → xs ≡ v.items →
-    expr_of x ≡ plain.CompoundLiteral at (specifiers_of t.value.specifiers.items) (declarator_of t.value.declarator) (items_of xs) comma
+    expr_of x ≡ plain.CompoundLiteral at (plain.TypeName (specifiers_of t.value.specifiers.items) (declarator_of t.value.declarator)) (items_of xs) comma
 at_compound_literal x at t v comma xs is same =
-    ap expr_of is ∙ ap (λ ss. plain.CompoundLiteral at ss (declarator_of t.value.declarator) (items_row (hidden-the_row-InitItem-4 v)) comma) (held_specifiers t.value.specifiers)
-    ∙ ap (λ is. plain.CompoundLiteral at (specifiers_of t.value.specifiers.items) (declarator_of t.value.declarator) is comma) (held_items v ∙ ap items_of (sym same))
+    ap expr_of is ∙ ap (λ ss. plain.CompoundLiteral at (plain.TypeName ss (declarator_of t.value.declarator)) (items_row (hidden-the_row-InitItem-4 v)) comma) (held_specifiers t.value.specifiers)
+    ∙ ap (λ is. plain.CompoundLiteral at (plain.TypeName (specifiers_of t.value.specifiers.items) (declarator_of t.value.declarator)) is comma) (held_items v ∙ ap items_of (sym same))
 
-pub at_sizeof : (x : Expr) (at : ℕ) (t : Box TypeName Global) → x ≡ SizeofType at t → expr_of x ≡ plain.SizeofType at (specifiers_of t.value.specifiers.items) (declarator_of t.value.declarator)
-at_sizeof x at t is = ap expr_of is ∙ ap (λ ss. plain.SizeofType at ss (declarator_of t.value.declarator)) (held_specifiers t.value.specifiers)
+pub at_sizeof : (x : Expr) (at : ℕ) (t : Box TypeName Global) → x ≡ SizeofType at t → expr_of x ≡ plain.SizeofType at (plain.TypeName (specifiers_of t.value.specifiers.items) (declarator_of t.value.declarator))
+at_sizeof x at t is = ap expr_of is ∙ ap (λ ss. plain.SizeofType at (plain.TypeName ss (declarator_of t.value.declarator))) (held_specifiers t.value.specifiers)
 
-pub at_alignof : (x : Expr) (at : ℕ) (t : Box TypeName Global) → x ≡ AlignofType at t → expr_of x ≡ plain.AlignofType at (specifiers_of t.value.specifiers.items) (declarator_of t.value.declarator)
-at_alignof x at t is = ap expr_of is ∙ ap (λ ss. plain.AlignofType at ss (declarator_of t.value.declarator)) (held_specifiers t.value.specifiers)
+pub at_alignof : (x : Expr) (at : ℕ) (t : Box TypeName Global) → x ≡ AlignofType at t → expr_of x ≡ plain.AlignofType at (plain.TypeName (specifiers_of t.value.specifiers.items) (declarator_of t.value.declarator))
+at_alignof x at t is = ap expr_of is ∙ ap (λ ss. plain.AlignofType at (plain.TypeName ss (declarator_of t.value.declarator))) (held_specifiers t.value.specifiers)
 
-pub at_cast : (x : Expr) (at : ℕ) (t : Box TypeName Global) (e : Box Expr Global) → x ≡ Cast at t e → expr_of x ≡ plain.Cast at (specifiers_of t.value.specifiers.items) (declarator_of t.value.declarator) (expr_of e.value)
-at_cast x at t e is = ap expr_of is ∙ ap (λ ss. plain.Cast at ss (declarator_of t.value.declarator) (expr_of e.value)) (held_specifiers t.value.specifiers)
+pub at_cast : (x : Expr) (at : ℕ) (t : Box TypeName Global) (e : Box Expr Global) → x ≡ Cast at t e → expr_of x ≡ plain.Cast at (plain.TypeName (specifiers_of t.value.specifiers.items) (declarator_of t.value.declarator)) (expr_of e.value)
+at_cast x at t e is = ap expr_of is ∙ ap (λ ss. plain.Cast at (plain.TypeName ss (declarator_of t.value.declarator)) (expr_of e.value)) (held_specifiers t.value.specifiers)
 
 pub at_struct : (x : Specifier) (at : ℕ) (kind : StructKind) (tag : Option NameId) (v : Vec MemberDeclaration Global) (xs : List MemberDeclaration) → x ≡ MembersSpecifier at kind tag v → xs ≡ v.items → specifier_of x ≡ plain.StructBody at kind tag (members_of xs)
 at_struct x at kind tag v xs is same = ap specifier_of is ∙ ap (plain.StructBody at kind tag) (held_members v ∙ ap members_of (sym same))

@@ -1,14 +1,13 @@
 -- Definition: the grammatical trees of C11 6.5 to 6.9: each part is what its production asks, has the number of its first token, is no higher than may be (own), and each identifier may stand where it does.
 -- A unit is grammatical by itself. Any other tree stands between others: `n` is the number of its first token, `scopes` are those in front of it, and `height` is the most that its height may be.
-use Rattle.std.specs.Prelude.{ℕ, ◌+◌, max, Bool, true, false, not, ◌&&◌, nat_le, List, [], ◌∷◌, length}
+use Rattle.std.specs.Prelude.{ℕ, Bool, true, false, not, ◌&&◌, nat_le, List, [], ◌∷◌}
 use Rattle.typedef_scopes.specs.Scopes.{Scope}
 use Rattle.c_tree.specs.declared.level.Level.{Level}
-use Rattle.c_tree.specs.Syntax.{ExprTree, SpecifierTrees, DeclaratorTree, InitTree}
+use Rattle.c_tree.specs.Syntax.{ExprTree, TypeNameTree, SpecifierTrees, DeclaratorTree, InitTree}
 use Rattle.c_tree.specs.Units.{UnitTree}
-use Rattle.c_tree.specs.Spelling.{spell_specifiers}
-use Rattle.c_tree.specs.Height.{expr_height, specifiers_height, declarator_height, init_height, external_height}
-use Rattle.c_tree.specs.Levels.{is_within, is_type_name, has_specifier, declares, has_other_names, levelled, levelled_specifiers, levelled_declarator, levelled_init, levelled_unit}
-use Rattle.c_tree.specs.Placed.{placed_expr, placed_specifiers, placed_declarator, placed_init, placed_unit}
+use Rattle.c_tree.specs.Height.{expr_height, type_name_height, specifiers_height, declarator_height, init_height, external_height}
+use Rattle.c_tree.specs.Levels.{is_within, has_specifier, declares, has_other_names, levelled, levelled_type_name, levelled_specifiers, levelled_declarator, levelled_init, levelled_unit}
+use Rattle.c_tree.specs.Placed.{placed_expr, placed_type_name, placed_specifiers, placed_declarator, placed_init, placed_unit}
 use Rattle.c_tree.specs.Scoped.{scoped_expr, scoped_type_name, scoped_specifiers, scoped_declarator, scoped_init, scoped_unit}
 
 -- an expression that can stand where one of that level is asked
@@ -16,10 +15,8 @@ abbrev pub grammatical_expr : List Scope → Level → ℕ → ℕ → ExprTree 
 grammatical_expr scopes level height n e = (is_within level e && levelled e) && (placed_expr n e && (scoped_expr scopes e && nat_le (expr_height e) height))
 
 -- a type name (6.7.7)
-abbrev pub grammatical_type_name : List Scope → ℕ → ℕ → SpecifierTrees → DeclaratorTree → Bool
-grammatical_type_name scopes height n ss d =
-    (is_type_name ss d && (levelled_specifiers ss && levelled_declarator d)) && ((placed_specifiers n ss && placed_declarator (n + length (spell_specifiers ss)) d)
-    && (scoped_type_name scopes ss d && nat_le (max (specifiers_height ss) (declarator_height d)) height))
+abbrev pub grammatical_type_name : List Scope → ℕ → ℕ → TypeNameTree → Bool
+grammatical_type_name scopes height n t = levelled_type_name t && (placed_type_name n t && (scoped_type_name scopes t && nat_le (type_name_height t) height))
 
 -- the specifiers of a declaration (6.7)
 abbrev pub grammatical_specifiers : List Scope → ℕ → ℕ → SpecifierTrees → Bool

@@ -3,7 +3,7 @@
 -- An identifier, constant or literal has 1, and so have a typedef name, a tag and an absent identifier; a keyword has none. Another node has one more than its highest part.
 use Rattle.std.specs.Prelude.{ℕ, ◌+◌, max, List, [], ◌∷◌, Option, Some, None}
 use Rattle.cil_base.specs.declared.numbers.NameId.{NameId}
-use Rattle.c_tree.specs.Syntax.{ExprTree, Name, Integer, Character, Literals, Parentheses, Index, Call, Member, Arrow, Postfix, CompoundLiteral, Prefix, Unary, SizeofExpr, SizeofType, AlignofType, Cast, Binary, Logical, Conditional, Assign, Comma, ExprTrees, NoExprs, MoreExprs, SpecifierTree, Storage, Basic, Qualified, Functional, TypedefName, Tag, StructBody, EnumBody, SpecifierTrees, NoSpecifiers, MoreSpecifiers, MemberTree, MemberLine, MemberAssert, MemberTrees, NoMembers, MoreMembers, MemberDeclaratorTree, Plain, BitField, MemberDeclaratorTrees, NoMemberDeclarators, MoreMemberDeclarators, EnumeratorTree, Enumerates, EnumeratorTrees, NoEnumerators, MoreEnumerators, MaybeExpr, NoExpr, SomeExpr, DeclaratorTree, Declared, Absent, Grouped, Pointer, Array, Function, Unprototyped, BoundTree, Unspecified, Star, Size, StaticSize, SizeStatic, ParameterTree, Parameter, ParameterTrees, NoParameters, MoreParameters, InitTree, Single, Braces, ItemTree, Item, ItemTrees, NoItems, MoreItems, DesignatorTree, AtIndex, AtMember, DesignatorTrees, NoDesignators, MoreDesignators}
+use Rattle.c_tree.specs.Syntax.{ExprTree, Name, Integer, Character, Literals, Parentheses, Index, Call, Member, Arrow, Postfix, CompoundLiteral, Prefix, Unary, SizeofExpr, SizeofType, AlignofType, Cast, Binary, Logical, Conditional, Assign, Comma, ExprTrees, NoExprs, MoreExprs, TypeNameTree, TypeName, SpecifierTree, Storage, Basic, Qualified, Functional, TypedefName, Tag, StructBody, EnumBody, SpecifierTrees, NoSpecifiers, MoreSpecifiers, MemberTree, MemberLine, MemberAssert, MemberTrees, NoMembers, MoreMembers, MemberDeclaratorTree, Plain, BitField, MemberDeclaratorTrees, NoMemberDeclarators, MoreMemberDeclarators, EnumeratorTree, Enumerates, EnumeratorTrees, NoEnumerators, MoreEnumerators, MaybeExpr, NoExpr, SomeExpr, DeclaratorTree, Declared, Absent, Grouped, Pointer, Array, Function, Unprototyped, BoundTree, Unspecified, Star, Size, StaticSize, SizeStatic, ParameterTree, Parameter, ParameterTrees, NoParameters, MoreParameters, InitTree, Single, Braces, ItemTree, Item, ItemTrees, NoItems, MoreItems, DesignatorTree, AtIndex, AtMember, DesignatorTrees, NoDesignators, MoreDesignators}
 use Rattle.c_tree.specs.Units.{DeclarationTree, Declares, Asserts, ForStart, StartExpr, StartDeclaration, StmtTree, Labelled, Case, Default, Compound, Expression, If, IfElse, Switch, While, Do, For, Goto, Continue, Break, Return, BlockItem, Declaring, Doing, BlockItems, NoItems as NoStatements, MoreItems as MoreStatements, ExternalTree, Definition, External}
 
 -- a tag that may be absent
@@ -23,13 +23,13 @@ abbrev mutual
   expr_height (Member at e n) = 1 + expr_height e
   expr_height (Arrow at e n) = 1 + expr_height e
   expr_height (Postfix at e op) = 1 + expr_height e
-  expr_height (CompoundLiteral at ss d items comma) = 1 + max (max (specifiers_height ss) (declarator_height d)) (items_height items)
+  expr_height (CompoundLiteral at t items comma) = 1 + max (type_name_height t) (items_height items)
   expr_height (Prefix at op e) = 1 + expr_height e
   expr_height (Unary at op e) = 1 + expr_height e
   expr_height (SizeofExpr at e) = 1 + expr_height e
-  expr_height (SizeofType at ss d) = 1 + max (specifiers_height ss) (declarator_height d)
-  expr_height (AlignofType at ss d) = 1 + max (specifiers_height ss) (declarator_height d)
-  expr_height (Cast at ss d e) = 1 + max (max (specifiers_height ss) (declarator_height d)) (expr_height e)
+  expr_height (SizeofType at t) = 1 + type_name_height t
+  expr_height (AlignofType at t) = 1 + type_name_height t
+  expr_height (Cast at t e) = 1 + max (type_name_height t) (expr_height e)
   expr_height (Binary at op l r) = 1 + max (expr_height l) (expr_height r)
   expr_height (Logical at op l r) = 1 + max (expr_height l) (expr_height r)
   expr_height (Conditional at c a b) = 1 + max (max (expr_height c) (expr_height a)) (expr_height b)
@@ -39,6 +39,10 @@ abbrev mutual
   pub exprs_height : ExprTrees → ℕ
   exprs_height NoExprs = 0
   exprs_height (MoreExprs e es) = max (expr_height e) (exprs_height es)
+
+  -- a type name is no node of its own
+  pub type_name_height : TypeNameTree → ℕ
+  type_name_height (TypeName ss d) = max (specifiers_height ss) (declarator_height d)
 
   pub specifier_height : SpecifierTree → ℕ
   specifier_height (Storage at w) = 0

@@ -8,7 +8,7 @@ use Rattle.c_tree.specs.declared.words.LogicalOp.{LogicalOp}
 use Rattle.c_tree.specs.declared.words.LogicalOp.TheVariants.{And as BothOf, Or as OneOf}
 use Rattle.c_tree.specs.declared.level.Level.{Level}
 use Rattle.c_tree.specs.declared.level.Level.TheVariants.{Primary, Postfix as PostfixLevel, Unary as UnaryLevel, Cast as CastLevel, Multiplicative, Additive, Shift, Relational, Equality, BitAnd, ExclusiveOr, InclusiveOr, LogicalAnd, LogicalOr, Conditional as ConditionalLevel, Assignment, Comma as CommaLevel}
-use Rattle.c_tree.specs.Syntax.{ExprTree, Name, Integer, Character, Literals, Parentheses, Index, Call, Member, Arrow, Postfix, CompoundLiteral, Prefix, Unary, SizeofExpr, SizeofType, AlignofType, Cast, Binary, Logical, Conditional, Assign, Comma, ExprTrees, NoExprs, MoreExprs, SpecifierTree, Storage, Basic, Qualified, Functional, TypedefName, Tag, StructBody, EnumBody, SpecifierTrees, NoSpecifiers, MoreSpecifiers, MemberTree, MemberLine, MemberAssert, MemberTrees, NoMembers, MoreMembers, MemberDeclaratorTree, Plain, BitField, MemberDeclaratorTrees, NoMemberDeclarators, MoreMemberDeclarators, EnumeratorTree, Enumerates, EnumeratorTrees, NoEnumerators, MoreEnumerators, MaybeExpr, NoExpr, SomeExpr, DeclaratorTree, Declared, Absent, Grouped, Pointer, Array, Function, Unprototyped, BoundTree, Unspecified, Star, Size, StaticSize, SizeStatic, ParameterTree, Parameter, ParameterTrees, NoParameters, MoreParameters, InitTree, Single, Braces, ItemTree, Item, ItemTrees, NoItems, MoreItems, DesignatorTree, AtIndex, AtMember, DesignatorTrees, NoDesignators, MoreDesignators}
+use Rattle.c_tree.specs.Syntax.{ExprTree, Name, Integer, Character, Literals, Parentheses, Index, Call, Member, Arrow, Postfix, CompoundLiteral, Prefix, Unary, SizeofExpr, SizeofType, AlignofType, Cast, Binary, Logical, Conditional, Assign, Comma, ExprTrees, NoExprs, MoreExprs, TypeNameTree, TypeName, SpecifierTree, Storage, Basic, Qualified, Functional, TypedefName, Tag, StructBody, EnumBody, SpecifierTrees, NoSpecifiers, MoreSpecifiers, MemberTree, MemberLine, MemberAssert, MemberTrees, NoMembers, MoreMembers, MemberDeclaratorTree, Plain, BitField, MemberDeclaratorTrees, NoMemberDeclarators, MoreMemberDeclarators, EnumeratorTree, Enumerates, EnumeratorTrees, NoEnumerators, MoreEnumerators, MaybeExpr, NoExpr, SomeExpr, DeclaratorTree, Declared, Absent, Grouped, Pointer, Array, Function, Unprototyped, BoundTree, Unspecified, Star, Size, StaticSize, SizeStatic, ParameterTree, Parameter, ParameterTrees, NoParameters, MoreParameters, InitTree, Single, Braces, ItemTree, Item, ItemTrees, NoItems, MoreItems, DesignatorTree, AtIndex, AtMember, DesignatorTrees, NoDesignators, MoreDesignators}
 use Rattle.c_tree.specs.Units.{DeclarationTree, Declares, Asserts, ForStart, StartExpr, StartDeclaration, StmtTree, Labelled, Case, Default, Compound, Expression, If, IfElse, Switch, While, Do, For, Goto, Continue, Break, Return, BlockItem, Declaring, Doing, BlockItems, NoItems as NoStatements, MoreItems as MoreStatements, ExternalTree, Definition, External, UnitTree}
 
 -- the levels in order, the tightest first
@@ -87,13 +87,13 @@ level_of (Call at e es) = PostfixLevel
 level_of (Member at e n) = PostfixLevel
 level_of (Arrow at e n) = PostfixLevel
 level_of (Postfix at e op) = PostfixLevel
-level_of (CompoundLiteral at ss d items comma) = PostfixLevel
+level_of (CompoundLiteral at t items comma) = PostfixLevel
 level_of (Prefix at op e) = UnaryLevel
 level_of (Unary at op e) = UnaryLevel
 level_of (SizeofExpr at e) = UnaryLevel
-level_of (SizeofType at ss d) = UnaryLevel
-level_of (AlignofType at ss d) = UnaryLevel
-level_of (Cast at ss d e) = CastLevel
+level_of (SizeofType at t) = UnaryLevel
+level_of (AlignofType at t) = UnaryLevel
+level_of (Cast at t e) = CastLevel
 level_of (Binary at op l r) = binary_level op
 level_of (Logical at op l r) = logical_level op
 level_of (Conditional at c a b) = ConditionalLevel
@@ -247,13 +247,13 @@ abbrev mutual
   levelled (Member at e n) = is_within PostfixLevel e && levelled e
   levelled (Arrow at e n) = is_within PostfixLevel e && levelled e
   levelled (Postfix at e op) = is_within PostfixLevel e && levelled e
-  levelled (CompoundLiteral at ss d items comma) = (is_type_name ss d && (levelled_specifiers ss && levelled_declarator d)) && (has_item items && levelled_items items)
+  levelled (CompoundLiteral at t items comma) = levelled_type_name t && (has_item items && levelled_items items)
   levelled (Prefix at op e) = is_within UnaryLevel e && levelled e
   levelled (Unary at op e) = is_within CastLevel e && levelled e
   levelled (SizeofExpr at e) = is_within UnaryLevel e && levelled e
-  levelled (SizeofType at ss d) = is_type_name ss d && (levelled_specifiers ss && levelled_declarator d)
-  levelled (AlignofType at ss d) = is_type_name ss d && (levelled_specifiers ss && levelled_declarator d)
-  levelled (Cast at ss d e) = (is_type_name ss d && (levelled_specifiers ss && levelled_declarator d)) && (is_within CastLevel e && levelled e)
+  levelled (SizeofType at t) = levelled_type_name t
+  levelled (AlignofType at t) = levelled_type_name t
+  levelled (Cast at t e) = levelled_type_name t && (is_within CastLevel e && levelled e)
   levelled (Binary at op l r) = (is_within (binary_level op) l && levelled l) && (is_within (tighter (binary_level op)) r && levelled r)
   levelled (Logical at op l r) = (is_within (logical_level op) l && levelled l) && (is_within (tighter (logical_level op)) r && levelled r)
   levelled (Conditional at c a b) = (is_within LogicalOr c && levelled c) && (levelled a && (is_within ConditionalLevel b && levelled b))
@@ -264,6 +264,9 @@ abbrev mutual
   pub levelled_arguments : ExprTrees → Bool
   levelled_arguments NoExprs = true
   levelled_arguments (MoreExprs e es) = (is_within Assignment e && levelled e) && levelled_arguments es
+
+  pub levelled_type_name : TypeNameTree → Bool
+  levelled_type_name (TypeName ss d) = is_type_name ss d && (levelled_specifiers ss && levelled_declarator d)
 
   pub levelled_specifier : SpecifierTree → Bool
   levelled_specifier (Storage at w) = true

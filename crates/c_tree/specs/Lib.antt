@@ -7,6 +7,7 @@ pub mod UnitSpelling
 pub mod Height
 pub mod Levels
 pub mod Placed
+pub mod Places
 pub mod Capped
 pub mod Scoped
 pub mod Grammatical

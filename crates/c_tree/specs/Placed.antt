@@ -1,9 +1,13 @@
 -- Definition: each node of a syntax tree has the number of its first token, and an absent identifier that of the token behind its place (own). `n` is the number of the first token of what is asked about.
 use Rattle.std.specs.Prelude.{ℕ, ◌+◌, Bool, true, ◌&&◌, nat_eq, List, [], ◌∷◌, length, Option, Some, None}
-use Rattle.c_tree.specs.Syntax.{ExprTree, Name, Integer, Character, Literals, Parentheses, Index, Call, Member, Arrow, Postfix, CompoundLiteral, Prefix, Unary, SizeofExpr, SizeofType, AlignofType, Cast, Binary, Logical, Conditional, Assign, Comma, ExprTrees, NoExprs, MoreExprs, SpecifierTree, Storage, Basic, Qualified, Functional, TypedefName, Tag, StructBody, EnumBody, SpecifierTrees, NoSpecifiers, MoreSpecifiers, MemberTree, MemberLine, MemberAssert, MemberTrees, NoMembers, MoreMembers, MemberDeclaratorTree, Plain, BitField, MemberDeclaratorTrees, NoMemberDeclarators, MoreMemberDeclarators, EnumeratorTree, Enumerates, EnumeratorTrees, NoEnumerators, MoreEnumerators, MaybeExpr, NoExpr, SomeExpr, DeclaratorTree, Declared, Absent, Grouped, Pointer, Array, Function, Unprototyped, BoundTree, Unspecified, Star, Size, StaticSize, SizeStatic, ParameterTree, Parameter, ParameterTrees, NoParameters, MoreParameters, InitTree, Single, Braces, ItemTree, Item, ItemTrees, NoItems, MoreItems, DesignatorTree, AtIndex, AtMember, DesignatorTrees, NoDesignators, MoreDesignators}
+use Rattle.c_tree.specs.Syntax.{ExprTree, Name, Integer, Character, Literals, Parentheses, Index, Call, Member, Arrow, Postfix, CompoundLiteral, Prefix, Unary, SizeofExpr, SizeofType, AlignofType, Cast, Binary, Logical, Conditional, Assign, Comma, ExprTrees, NoExprs, MoreExprs, TypeNameTree, TypeName, SpecifierTree, Storage, Basic, Qualified, Functional, TypedefName, Tag, StructBody, EnumBody, SpecifierTrees, NoSpecifiers, MoreSpecifiers, MemberTree, MemberLine, MemberAssert, MemberTrees, NoMembers, MoreMembers, MemberDeclaratorTree, Plain, BitField, MemberDeclaratorTrees, NoMemberDeclarators, MoreMemberDeclarators, EnumeratorTree, Enumerates, EnumeratorTrees, NoEnumerators, MoreEnumerators, MaybeExpr, NoExpr, SomeExpr, DeclaratorTree, Declared, Absent, Grouped, Pointer, Array, Function, Unprototyped, BoundTree, Unspecified, Star, Size, StaticSize, SizeStatic, ParameterTree, Parameter, ParameterTrees, NoParameters, MoreParameters, InitTree, Single, Braces, ItemTree, Item, ItemTrees, NoItems, MoreItems, DesignatorTree, AtIndex, AtMember, DesignatorTrees, NoDesignators, MoreDesignators}
 use Rattle.c_tree.specs.Units.{DeclarationTree, Declares, Asserts, ForStart, StartExpr, StartDeclaration, StmtTree, Labelled, Case, Default, Compound, Expression, If, IfElse, Switch, While, Do, For, Goto, Continue, Break, Return, BlockItem, Declaring, Doing, BlockItems, NoItems as NoStatements, MoreItems as MoreStatements, ExternalTree, Definition, External, UnitTree}
 use Rattle.c_tree.specs.Spelling.{spell_expr, spell_specifier, spell_specifiers, spell_tag, spell_member, spell_member_declarator, spell_enumerator, spell_declarator, spell_parameter, spell_item, spell_designator, spell_designation}
 use Rattle.c_tree.specs.UnitSpelling.{spell_maybe, spell_init_declarator, spell_declaration, spell_declarations, spell_start, spell_stmt, spell_block_item, spell_external}
+
+-- a number, and the tokens of a type name behind it
+abbrev pub behind_type_name : ℕ → TypeNameTree → ℕ
+behind_type_name n (TypeName ss d) = n + length (spell_specifiers ss) + length (spell_declarator d)
 
 abbrev mutual
   pub placed_expr : ℕ → ExprTree → Bool
@@ -17,15 +21,13 @@ abbrev mutual
   placed_expr n (Member at e x) = nat_eq at n && placed_expr n e
   placed_expr n (Arrow at e x) = nat_eq at n && placed_expr n e
   placed_expr n (Postfix at e op) = nat_eq at n && placed_expr n e
-  placed_expr n (CompoundLiteral at ss d items comma) =
-      nat_eq at n && (placed_specifiers (n + 1) ss && (placed_declarator (n + 1 + length (spell_specifiers ss)) d && placed_items (n + 3 + length (spell_specifiers ss) + length (spell_declarator d)) items))
+  placed_expr n (CompoundLiteral at t items comma) = nat_eq at n && (placed_type_name (n + 1) t && placed_items (behind_type_name (n + 3) t) items)
   placed_expr n (Prefix at op e) = nat_eq at n && placed_expr (n + 1) e
   placed_expr n (Unary at op e) = nat_eq at n && placed_expr (n + 1) e
   placed_expr n (SizeofExpr at e) = nat_eq at n && placed_expr (n + 1) e
-  placed_expr n (SizeofType at ss d) = nat_eq at n && (placed_specifiers (n + 2) ss && placed_declarator (n + 2 + length (spell_specifiers ss)) d)
-  placed_expr n (AlignofType at ss d) = nat_eq at n && (placed_specifiers (n + 2) ss && placed_declarator (n + 2 + length (spell_specifiers ss)) d)
-  placed_expr n (Cast at ss d e) =
-      nat_eq at n && (placed_specifiers (n + 1) ss && (placed_declarator (n + 1 + length (spell_specifiers ss)) d && placed_expr (n + 2 + length (spell_specifiers ss) + length (spell_declarator d)) e))
+  placed_expr n (SizeofType at t) = nat_eq at n && placed_type_name (n + 2) t
+  placed_expr n (AlignofType at t) = nat_eq at n && placed_type_name (n + 2) t
+  placed_expr n (Cast at t e) = nat_eq at n && (placed_type_name (n + 1) t && placed_expr (behind_type_name (n + 2) t) e)
   placed_expr n (Binary at op l r) = nat_eq at n && (placed_expr n l && placed_expr (n + length (spell_expr l) + 1) r)
   placed_expr n (Logical at op l r) = nat_eq at n && (placed_expr n l && placed_expr (n + length (spell_expr l) + 1) r)
   placed_expr n (Conditional at c a b) =
@@ -37,6 +39,9 @@ abbrev mutual
   pub placed_exprs : ℕ → ExprTrees → Bool
   placed_exprs n NoExprs = true
   placed_exprs n (MoreExprs e es) = placed_expr n e && placed_exprs (n + length (spell_expr e) + 1) es
+
+  pub placed_type_name : ℕ → TypeNameTree → Bool
+  placed_type_name n (TypeName ss d) = placed_specifiers n ss && placed_declarator (n + length (spell_specifiers ss)) d
 
   pub placed_specifier : ℕ → SpecifierTree → Bool
   placed_specifier n (Storage at w) = nat_eq at n

@@ -6,7 +6,7 @@ use Rattle.cil_base.specs.declared.numbers.NameId.{NameId}
 use Rattle.typedef_scopes.specs.Scopes.{Scope, is_type, declared}
 use Rattle.c_tree.specs.declared.words.StorageClass.{StorageClass}
 use Rattle.c_tree.specs.declared.words.StorageClass.TheVariants.{Typedef, Extern, Static, Auto, Register}
-use Rattle.c_tree.specs.Syntax.{ExprTree, Name, Integer, Character, Literals, Parentheses, Index, Call, Member, Arrow, Postfix, CompoundLiteral, Prefix, Unary, SizeofExpr, SizeofType, AlignofType, Cast, Binary, Logical, Conditional, Assign, Comma, ExprTrees, NoExprs, MoreExprs, SpecifierTree, Storage, Basic, Qualified, Functional, TypedefName, Tag, StructBody, EnumBody, SpecifierTrees, NoSpecifiers, MoreSpecifiers, MemberTree, MemberLine, MemberAssert, MemberTrees, NoMembers, MoreMembers, MemberDeclaratorTree, Plain, BitField, MemberDeclaratorTrees, NoMemberDeclarators, MoreMemberDeclarators, EnumeratorTree, Enumerates, EnumeratorTrees, NoEnumerators, MoreEnumerators, MaybeExpr, NoExpr, SomeExpr, DeclaratorTree, Declared, Absent, Grouped, Pointer, Array, Function, Unprototyped, BoundTree, Unspecified, Star, Size, StaticSize, SizeStatic, ParameterTree, Parameter, ParameterTrees, NoParameters, MoreParameters, InitTree, Single, Braces, ItemTree, Item, ItemTrees, NoItems, MoreItems, DesignatorTree, AtIndex, AtMember, DesignatorTrees, NoDesignators, MoreDesignators}
+use Rattle.c_tree.specs.Syntax.{ExprTree, Name, Integer, Character, Literals, Parentheses, Index, Call, Member, Arrow, Postfix, CompoundLiteral, Prefix, Unary, SizeofExpr, SizeofType, AlignofType, Cast, Binary, Logical, Conditional, Assign, Comma, ExprTrees, NoExprs, MoreExprs, TypeNameTree, TypeName, SpecifierTree, Storage, Basic, Qualified, Functional, TypedefName, Tag, StructBody, EnumBody, SpecifierTrees, NoSpecifiers, MoreSpecifiers, MemberTree, MemberLine, MemberAssert, MemberTrees, NoMembers, MoreMembers, MemberDeclaratorTree, Plain, BitField, MemberDeclaratorTrees, NoMemberDeclarators, MoreMemberDeclarators, EnumeratorTree, Enumerates, EnumeratorTrees, NoEnumerators, MoreEnumerators, MaybeExpr, NoExpr, SomeExpr, DeclaratorTree, Declared, Absent, Grouped, Pointer, Array, Function, Unprototyped, BoundTree, Unspecified, Star, Size, StaticSize, SizeStatic, ParameterTree, Parameter, ParameterTrees, NoParameters, MoreParameters, InitTree, Single, Braces, ItemTree, Item, ItemTrees, NoItems, MoreItems, DesignatorTree, AtIndex, AtMember, DesignatorTrees, NoDesignators, MoreDesignators}
 use Rattle.c_tree.specs.Units.{DeclarationTree, Declares, Asserts, ForStart, StartExpr, StartDeclaration, StmtTree, Labelled, Case, Default, Compound, Expression, If, IfElse, Switch, While, Do, For, Goto, Continue, Break, Return, BlockItem, Declaring, Doing, BlockItems, NoItems as NoStatements, MoreItems as MoreStatements, ExternalTree, Definition, External, UnitTree}
 use Rattle.c_tree.specs.Levels.{is_underived}
 
@@ -118,13 +118,13 @@ abbrev mutual
   after_expr scopes (Member at e n) = after_expr scopes e
   after_expr scopes (Arrow at e n) = after_expr scopes e
   after_expr scopes (Postfix at e op) = after_expr scopes e
-  after_expr scopes (CompoundLiteral at ss d items comma) = after_items (after_declarator (after_specifiers scopes ss) d) items
+  after_expr scopes (CompoundLiteral at t items comma) = after_items (after_type_name scopes t) items
   after_expr scopes (Prefix at op e) = after_expr scopes e
   after_expr scopes (Unary at op e) = after_expr scopes e
   after_expr scopes (SizeofExpr at e) = after_expr scopes e
-  after_expr scopes (SizeofType at ss d) = after_declarator (after_specifiers scopes ss) d
-  after_expr scopes (AlignofType at ss d) = after_declarator (after_specifiers scopes ss) d
-  after_expr scopes (Cast at ss d e) = after_expr (after_declarator (after_specifiers scopes ss) d) e
+  after_expr scopes (SizeofType at t) = after_type_name scopes t
+  after_expr scopes (AlignofType at t) = after_type_name scopes t
+  after_expr scopes (Cast at t e) = after_expr (after_type_name scopes t) e
   after_expr scopes (Binary at op l r) = after_expr (after_expr scopes l) r
   after_expr scopes (Logical at op l r) = after_expr (after_expr scopes l) r
   after_expr scopes (Conditional at c a b) = after_expr (after_expr (after_expr scopes c) a) b
@@ -134,6 +134,9 @@ abbrev mutual
   pub after_exprs : List Scope → ExprTrees → List Scope
   after_exprs scopes NoExprs = scopes
   after_exprs scopes (MoreExprs e es) = after_exprs (after_expr scopes e) es
+
+  pub after_type_name : List Scope → TypeNameTree → List Scope
+  after_type_name scopes (TypeName ss d) = after_declarator (after_specifiers scopes ss) d
 
   pub after_specifier : List Scope → SpecifierTree → List Scope
   after_specifier scopes (Storage at w) = scopes
@@ -234,13 +237,13 @@ abbrev mutual
   scoped_expr scopes (Member at e n) = scoped_expr scopes e
   scoped_expr scopes (Arrow at e n) = scoped_expr scopes e
   scoped_expr scopes (Postfix at e op) = scoped_expr scopes e
-  scoped_expr scopes (CompoundLiteral at ss d items comma) = (scoped_specifiers false scopes ss && scoped_declarator (after_specifiers scopes ss) d) && scoped_items (after_declarator (after_specifiers scopes ss) d) items
+  scoped_expr scopes (CompoundLiteral at t items comma) = scoped_type_name scopes t && scoped_items (after_type_name scopes t) items
   scoped_expr scopes (Prefix at op e) = scoped_expr scopes e
   scoped_expr scopes (Unary at op e) = scoped_expr scopes e
   scoped_expr scopes (SizeofExpr at e) = scoped_expr scopes e
-  scoped_expr scopes (SizeofType at ss d) = scoped_specifiers false scopes ss && scoped_declarator (after_specifiers scopes ss) d
-  scoped_expr scopes (AlignofType at ss d) = scoped_specifiers false scopes ss && scoped_declarator (after_specifiers scopes ss) d
-  scoped_expr scopes (Cast at ss d e) = (scoped_specifiers false scopes ss && scoped_declarator (after_specifiers scopes ss) d) && scoped_expr (after_declarator (after_specifiers scopes ss) d) e
+  scoped_expr scopes (SizeofType at t) = scoped_type_name scopes t
+  scoped_expr scopes (AlignofType at t) = scoped_type_name scopes t
+  scoped_expr scopes (Cast at t e) = scoped_type_name scopes t && scoped_expr (after_type_name scopes t) e
   scoped_expr scopes (Binary at op l r) = scoped_expr scopes l && scoped_expr (after_expr scopes l) r
   scoped_expr scopes (Logical at op l r) = scoped_expr scopes l && scoped_expr (after_expr scopes l) r
   scoped_expr scopes (Conditional at c a b) = scoped_expr scopes c && (scoped_expr (after_expr scopes c) a && scoped_expr (after_expr (after_expr scopes c) a) b)
@@ -250,6 +253,9 @@ abbrev mutual
   pub scoped_exprs : List Scope → ExprTrees → Bool
   scoped_exprs scopes NoExprs = true
   scoped_exprs scopes (MoreExprs e es) = scoped_expr scopes e && scoped_exprs (after_expr scopes e) es
+
+  pub scoped_type_name : List Scope → TypeNameTree → Bool
+  scoped_type_name scopes (TypeName ss d) = scoped_specifiers false scopes ss && scoped_declarator (after_specifiers scopes ss) d
 
   -- `typed`: a type specifier stands before it among the same specifiers
   pub scoped_specifier : Bool → List Scope → SpecifierTree → Bool
@@ -340,13 +346,7 @@ abbrev mutual
   scoped_designators scopes NoDesignators = true
   scoped_designators scopes (MoreDesignators d ds) = scoped_designator scopes d && scoped_designators (after_designator scopes d) ds
 
--- a type name (6.7.7)
-abbrev pub after_type_name : List Scope → SpecifierTrees → DeclaratorTree → List Scope
-after_type_name scopes ss d = after_declarator (after_specifiers scopes ss) d
-
-abbrev pub scoped_type_name : List Scope → SpecifierTrees → DeclaratorTree → Bool
-scoped_type_name scopes ss d = scoped_specifiers false scopes ss && scoped_declarator (after_specifiers scopes ss) d
-
+-- an expression or an initialiser that may be left out
 abbrev pub after_maybe : List Scope → Option ExprTree → List Scope
 after_maybe scopes None = scopes
 after_maybe scopes (Some e) = after_expr scopes e

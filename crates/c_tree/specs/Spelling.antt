@@ -27,7 +27,7 @@ use Rattle.c_tree.specs.declared.words.UnaryOp.{UnaryOp}
 use Rattle.c_tree.specs.declared.words.UnaryOp.TheVariants.{Address, Indirection, Plus as PlusOp, Minus as MinusOp, Complement, Not}
 use Rattle.c_tree.specs.declared.words.LogicalOp.{LogicalOp}
 use Rattle.c_tree.specs.declared.words.LogicalOp.TheVariants.{And as BothOf, Or as OneOf}
-use Rattle.c_tree.specs.Syntax.{ExprTree, Name, Integer, Character, Literals, Parentheses, Index, Call, Member, Arrow, Postfix, CompoundLiteral, Prefix, Unary, SizeofExpr, SizeofType, AlignofType, Cast, Binary, Logical, Conditional, Assign, Comma, ExprTrees, NoExprs, MoreExprs, SpecifierTree, Storage, Basic, Qualified, Functional, TypedefName, Tag, StructBody, EnumBody, SpecifierTrees, NoSpecifiers, MoreSpecifiers, MemberTree, MemberLine, MemberAssert, MemberTrees, NoMembers, MoreMembers, MemberDeclaratorTree, Plain, BitField, MemberDeclaratorTrees, NoMemberDeclarators, MoreMemberDeclarators, EnumeratorTree, Enumerates, EnumeratorTrees, NoEnumerators, MoreEnumerators, MaybeExpr, NoExpr, SomeExpr, DeclaratorTree, Declared, Absent, Grouped, Pointer, Array, Function, Unprototyped, BoundTree, Unspecified, Star, Size, StaticSize, SizeStatic, ParameterTree, Parameter, ParameterTrees, NoParameters, MoreParameters, InitTree, Single, Braces, ItemTree, Item, ItemTrees, NoItems, MoreItems, DesignatorTree, AtIndex, AtMember, DesignatorTrees, NoDesignators, MoreDesignators}
+use Rattle.c_tree.specs.Syntax.{ExprTree, Name, Integer, Character, Literals, Parentheses, Index, Call, Member, Arrow, Postfix, CompoundLiteral, Prefix, Unary, SizeofExpr, SizeofType, AlignofType, Cast, Binary, Logical, Conditional, Assign, Comma, ExprTrees, NoExprs, MoreExprs, TypeNameTree, TypeName, SpecifierTree, Storage, Basic, Qualified, Functional, TypedefName, Tag, StructBody, EnumBody, SpecifierTrees, NoSpecifiers, MoreSpecifiers, MemberTree, MemberLine, MemberAssert, MemberTrees, NoMembers, MoreMembers, MemberDeclaratorTree, Plain, BitField, MemberDeclaratorTrees, NoMemberDeclarators, MoreMemberDeclarators, EnumeratorTree, Enumerates, EnumeratorTrees, NoEnumerators, MoreEnumerators, MaybeExpr, NoExpr, SomeExpr, DeclaratorTree, Declared, Absent, Grouped, Pointer, Array, Function, Unprototyped, BoundTree, Unspecified, Star, Size, StaticSize, SizeStatic, ParameterTree, Parameter, ParameterTrees, NoParameters, MoreParameters, InitTree, Single, Braces, ItemTree, Item, ItemTrees, NoItems, MoreItems, DesignatorTree, AtIndex, AtMember, DesignatorTrees, NoDesignators, MoreDesignators}
 
 -- a token as the grammar compares it: its kind and, of a constant or literal alone, its text
 pub record Lexeme : Type 0 where
@@ -204,13 +204,13 @@ abbrev mutual
   spell_expr (Member at e n) = spell_expr e ++ (sign Dot ∷ named n ∷ [])
   spell_expr (Arrow at e n) = spell_expr e ++ (sign ArrowSign ∷ named n ∷ [])
   spell_expr (Postfix at e op) = spell_expr e ++ (sign (step_sign op) ∷ [])
-  spell_expr (CompoundLiteral at ss d items comma) = in_parens (spell_specifiers ss ++ spell_declarator d) ++ in_braces (with_commas (spell_items items) ++ last_comma comma)
+  spell_expr (CompoundLiteral at t items comma) = in_parens (spell_type_name t) ++ in_braces (with_commas (spell_items items) ++ last_comma comma)
   spell_expr (Prefix at op e) = sign (step_sign op) ∷ spell_expr e
   spell_expr (Unary at op e) = sign (unary_sign op) ∷ spell_expr e
   spell_expr (SizeofExpr at e) = word SizeofWord ∷ spell_expr e
-  spell_expr (SizeofType at ss d) = word SizeofWord ∷ in_parens (spell_specifiers ss ++ spell_declarator d)
-  spell_expr (AlignofType at ss d) = word AlignofWord ∷ in_parens (spell_specifiers ss ++ spell_declarator d)
-  spell_expr (Cast at ss d e) = in_parens (spell_specifiers ss ++ spell_declarator d) ++ spell_expr e
+  spell_expr (SizeofType at t) = word SizeofWord ∷ in_parens (spell_type_name t)
+  spell_expr (AlignofType at t) = word AlignofWord ∷ in_parens (spell_type_name t)
+  spell_expr (Cast at t e) = in_parens (spell_type_name t) ++ spell_expr e
   spell_expr (Binary at op l r) = spell_expr l ++ (sign (binary_sign op) ∷ spell_expr r)
   spell_expr (Logical at op l r) = spell_expr l ++ (sign (logical_sign op) ∷ spell_expr r)
   spell_expr (Conditional at c a b) = spell_expr c ++ (sign Question ∷ (spell_expr a ++ (sign Colon ∷ spell_expr b)))
@@ -221,6 +221,9 @@ abbrev mutual
   pub spell_exprs : ExprTrees → List (List Lexeme)
   spell_exprs NoExprs = []
   spell_exprs (MoreExprs e es) = spell_expr e ∷ spell_exprs es
+
+  pub spell_type_name : TypeNameTree → List Lexeme
+  spell_type_name (TypeName ss d) = spell_specifiers ss ++ spell_declarator d
 
   pub spell_specifier : SpecifierTree → List Lexeme
   spell_specifier (Storage at w) = word (storage_word w) ∷ []

@@ -1,6 +1,6 @@
 -- Definition: the syntax trees of C11 Annex A as plain data: each production has its constructor, and parentheses are nodes.
 -- `at` is the number of a node's first token; of an absent identifier, which has no token, the number of the one behind its place; of what stands in brackets, that of the bracket.
--- `MemberLine`, `Plain`, `BitField`, `Parameter`, `Single` and `Item` have no `at`: each begins where its first part begins.
+-- `TypeName`, `MemberLine`, `Plain`, `BitField`, `Parameter`, `Single` and `Item` have no `at`: each begins where its first part begins.
 -- Left out are the productions that the project's profile leaves out. What a production asks of its parts beyond their kinds is said by `Levels`.
 use Rattle.std.specs.Prelude.{ℕ, Bool, List, Option}
 use Rattle.cil_base.specs.declared.numbers.NameId.{NameId}
@@ -28,13 +28,13 @@ mutual
     Member : (at : ℕ) (e : ExprTree) (name : NameId) → ExprTree
     Arrow : (at : ℕ) (e : ExprTree) (name : NameId) → ExprTree
     Postfix : (at : ℕ) (e : ExprTree) (op : StepOp) → ExprTree
-    CompoundLiteral : (at : ℕ) (specifiers : SpecifierTrees) (declarator : DeclaratorTree) (items : ItemTrees) (comma : Bool) → ExprTree
+    CompoundLiteral : (at : ℕ) (type : TypeNameTree) (items : ItemTrees) (comma : Bool) → ExprTree
     Prefix : (at : ℕ) (op : StepOp) (e : ExprTree) → ExprTree
     Unary : (at : ℕ) (op : UnaryOp) (e : ExprTree) → ExprTree
     SizeofExpr : (at : ℕ) (e : ExprTree) → ExprTree
-    SizeofType : (at : ℕ) (specifiers : SpecifierTrees) (declarator : DeclaratorTree) → ExprTree
-    AlignofType : (at : ℕ) (specifiers : SpecifierTrees) (declarator : DeclaratorTree) → ExprTree
-    Cast : (at : ℕ) (specifiers : SpecifierTrees) (declarator : DeclaratorTree) (e : ExprTree) → ExprTree
+    SizeofType : (at : ℕ) (type : TypeNameTree) → ExprTree
+    AlignofType : (at : ℕ) (type : TypeNameTree) → ExprTree
+    Cast : (at : ℕ) (type : TypeNameTree) (e : ExprTree) → ExprTree
     Binary : (at : ℕ) (op : BinOp) (left right : ExprTree) → ExprTree
     Logical : (at : ℕ) (op : LogicalOp) (left right : ExprTree) → ExprTree
     Conditional : (at : ℕ) (condition yes no : ExprTree) → ExprTree
@@ -44,6 +44,10 @@ mutual
   pub data ExprTrees : Type 0 where
     NoExprs : ExprTrees
     MoreExprs : (first : ExprTree) (rest : ExprTrees) → ExprTrees
+
+  -- a type name: specifiers and qualifiers, and an abstract declarator (A.2.2)
+  pub data TypeNameTree : Type 0 where
+    TypeName : (specifiers : SpecifierTrees) (declarator : DeclaratorTree) → TypeNameTree
 
   -- specifiers and qualifiers (A.2.2)
   pub data SpecifierTree : Type 0 where

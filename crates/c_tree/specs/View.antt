@@ -21,7 +21,7 @@ use Rattle.c_tree.specs.declared.expression.Enumerator.{Enumerator}
 use Rattle.c_tree.specs.declared.expression.Parameter.{Parameter as ParameterRecord}
 use Rattle.c_tree.specs.declared.expression.InitItem.{InitItem}
 use Rattle.c_tree.specs.declared.expression.ArrayBound.TheBlock.{Row_of-Expr, end_of-Expr, more_of-Expr, Row_of-Specifier, end_of-Specifier, more_of-Specifier, Row_of-MemberDeclaration, end_of-MemberDeclaration, more_of-MemberDeclaration, Row_of-MemberDeclarator, end_of-MemberDeclarator, more_of-MemberDeclarator, Row_of-Enumerator, end_of-Enumerator, more_of-Enumerator, Row_of-Parameter, end_of-Parameter, more_of-Parameter, Row_of-InitItem, end_of-InitItem, more_of-InitItem, Row_of-Designator, end_of-Designator, more_of-Designator, Held-Enumerator-value, None', Some'}
-use Rattle.c_tree.specs.Syntax.{ExprTree, Name, Integer, Character, Literals, Parentheses, Index, Call, Member, Arrow, Postfix, CompoundLiteral, Prefix, Unary, SizeofExpr, SizeofType, AlignofType, Cast, Binary, Logical, Conditional, Assign, Comma, SpecifierTree, Storage, Basic, Qualified, Functional, TypedefName, Tag, StructBody, EnumBody, MemberTree, MemberLine, MemberAssert, MemberDeclaratorTree, Plain, BitField, DeclaratorTree, Declared, Absent, Grouped, Pointer, Array, Function, Unprototyped, BoundTree, Unspecified, Star, Size, StaticSize, SizeStatic, InitTree, Single, Braces, DesignatorTree, AtIndex, AtMember, ExprTrees, NoExprs, MoreExprs, SpecifierTrees, NoSpecifiers, MoreSpecifiers, MemberTrees, NoMembers, MoreMembers, MemberDeclaratorTrees, NoMemberDeclarators, MoreMemberDeclarators, EnumeratorTrees, NoEnumerators, MoreEnumerators, ParameterTrees, NoParameters, MoreParameters, ItemTrees, NoItems, MoreItems, DesignatorTrees, NoDesignators, MoreDesignators, EnumeratorTree, Enumerates, MaybeExpr, NoExpr, SomeExpr, ParameterTree, Parameter, ItemTree, Item}
+use Rattle.c_tree.specs.Syntax.{ExprTree, Name, Integer, Character, Literals, Parentheses, Index, Call, Member, Arrow, Postfix, CompoundLiteral, Prefix, Unary, SizeofExpr, SizeofType, AlignofType, Cast, Binary, Logical, Conditional, Assign, Comma, TypeName, SpecifierTree, Storage, Basic, Qualified, Functional, TypedefName, Tag, StructBody, EnumBody, MemberTree, MemberLine, MemberAssert, MemberDeclaratorTree, Plain, BitField, DeclaratorTree, Declared, Absent, Grouped, Pointer, Array, Function, Unprototyped, BoundTree, Unspecified, Star, Size, StaticSize, SizeStatic, InitTree, Single, Braces, DesignatorTree, AtIndex, AtMember, ExprTrees, NoExprs, MoreExprs, SpecifierTrees, NoSpecifiers, MoreSpecifiers, MemberTrees, NoMembers, MoreMembers, MemberDeclaratorTrees, NoMemberDeclarators, MoreMemberDeclarators, EnumeratorTrees, NoEnumerators, MoreEnumerators, ParameterTrees, NoParameters, MoreParameters, ItemTrees, NoItems, MoreItems, DesignatorTrees, NoDesignators, MoreDesignators, EnumeratorTree, Enumerates, MaybeExpr, NoExpr, SomeExpr, ParameterTree, Parameter, ItemTree, Item}
 
 abbrev mutual
   pub expr_of : Expr → ExprTree
@@ -35,13 +35,13 @@ abbrev mutual
   expr_of (Expr-Member a pb b c) = Member a (expr_of b) c
   expr_of (Expr-Arrow a pb b c) = Arrow a (expr_of b) c
   expr_of (Expr-Postfix a pb b c) = Postfix a (expr_of b) c
-  expr_of (Expr-CompoundLiteral a pb nb b db nc c d) = CompoundLiteral a (specifiers_row b) (declarator_of db) (items_row c) d
+  expr_of (Expr-CompoundLiteral a pb nb b db nc c d) = CompoundLiteral a (TypeName (specifiers_row b) (declarator_of db)) (items_row c) d
   expr_of (Expr-Prefix a b pc c) = Prefix a b (expr_of c)
   expr_of (Expr-Unary a b pc c) = Unary a b (expr_of c)
   expr_of (Expr-SizeofExpr a pb b) = SizeofExpr a (expr_of b)
-  expr_of (Expr-SizeofType a pb nb b db) = SizeofType a (specifiers_row b) (declarator_of db)
-  expr_of (Expr-AlignofType a pb nb b db) = AlignofType a (specifiers_row b) (declarator_of db)
-  expr_of (Expr-Cast a pb nb b db pc c) = Cast a (specifiers_row b) (declarator_of db) (expr_of c)
+  expr_of (Expr-SizeofType a pb nb b db) = SizeofType a (TypeName (specifiers_row b) (declarator_of db))
+  expr_of (Expr-AlignofType a pb nb b db) = AlignofType a (TypeName (specifiers_row b) (declarator_of db))
+  expr_of (Expr-Cast a pb nb b db pc c) = Cast a (TypeName (specifiers_row b) (declarator_of db)) (expr_of c)
   expr_of (Expr-Binary a b pc c pd d) = Binary a b (expr_of c) (expr_of d)
   expr_of (Expr-Logical a b pc c pd d) = Logical a b (expr_of c) (expr_of d)
   expr_of (Expr-Conditional a pb b pc c pd d) = Conditional a (expr_of b) (expr_of c) (expr_of d)

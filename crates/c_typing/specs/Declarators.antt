@@ -10,51 +10,15 @@ use Rattle.type_graph.specs.declared.nodes.Quals.{Quals}
 use Rattle.type_graph.specs.Shapes.{Shape, Shapes, PtrType, ArrayType, FuncType, NoTypes}
 use Rattle.typed_tree.specs.Tree.{Typed, shape_in}
 use Rattle.typed_tree.specs.Units.{Local}
-use Rattle.c_tree.specs.Syntax.{ExprTree, Name, Integer, Character, Literals, Parentheses, Index, Call, Member, Arrow, Postfix, CompoundLiteral, Prefix, Unary, SizeofExpr, SizeofType, AlignofType, Cast, Binary, Logical, Conditional, Assign, Comma, SpecifierTree, Storage, Basic, Qualified, Functional, TypedefName, Tag, StructBody, EnumBody, SpecifierTrees, NoSpecifiers, MoreSpecifiers, DeclaratorTree, Declared, Absent, Grouped, Pointer, Array, Function, Unprototyped}
+use Rattle.c_tree.specs.Syntax.{SpecifierTrees, DeclaratorTree, Declared, Absent, Grouped, Pointer, Array, Function, Unprototyped}
 use Rattle.c_typing.specs.Types.{CType, Types, plain, unqualified, pointer_to, is_void, is_array, is_function, is_object, is_too_big, lacks_type, kind_in}
 use Rattle.c_typing.specs.Evaluation.{integer_value, has_constant_form}
 use Rattle.c_typing.specs.Scopes.{Scope, Walk, ◌>>=◌, pure, faults, refuses_if, exceeds_if, types_of}
 
--- tokens
-
--- the first token of an expression
-abbrev pub at_of : ExprTree → ℕ
-at_of (Name at x) = at
-at_of (Integer at text) = at
-at_of (Character at text) = at
-at_of (Literals at texts) = at
-at_of (Parentheses at e) = at
-at_of (Index at e i) = at
-at_of (Call at e es) = at
-at_of (Member at e x) = at
-at_of (Arrow at e x) = at
-at_of (Postfix at e op) = at
-at_of (CompoundLiteral at ss d items comma) = at
-at_of (Prefix at op e) = at
-at_of (Unary at op e) = at
-at_of (SizeofExpr at e) = at
-at_of (SizeofType at ss d) = at
-at_of (AlignofType at ss d) = at
-at_of (Cast at ss d e) = at
-at_of (Binary at op l r) = at
-at_of (Logical at op l r) = at
-at_of (Conditional at c a b) = at
-at_of (Assign at op l r) = at
-at_of (Comma at l r) = at
-
-abbrev pub at_of_specifier : SpecifierTree → ℕ
-at_of_specifier (Storage at c) = at
-at_of_specifier (Basic at w) = at
-at_of_specifier (Qualified at q) = at
-at_of_specifier (Functional at f) = at
-at_of_specifier (TypedefName at x) = at
-at_of_specifier (Tag at kind x) = at
-at_of_specifier (StructBody at kind tag ms) = at
-at_of_specifier (EnumBody at tag es comma) = at
-
-abbrev pub at_of_specifiers : SpecifierTrees → ℕ
-at_of_specifiers NoSpecifiers = 0
-at_of_specifiers (MoreSpecifiers s ss) = at_of_specifier s
+-- the first token of what begins with specifiers: there is at least one (6.7p1, 6.7.2.1p1, 6.7.6p1)
+abbrev pub at_first : Option ℕ → ℕ
+at_first None = 0
+at_first (Some at) = at
 
 -- the declared identifier and its token
 abbrev pub declared_in : DeclaratorTree → Option (NameId × ℕ)
@@ -68,7 +32,7 @@ declared_in (Unprototyped at d names) = declared_in d
 
 -- the token of the identifier, or of the specifiers before a declarator without one (own)
 abbrev pub place_in : SpecifierTrees → DeclaratorTree → ℕ
-place_in ss d = elim (declared_in d) [ None ↦ at_of_specifiers ss | Some x ↦ x.1 ]
+place_in ss d = elim (declared_in d) [ None ↦ at_first (first_specifiers ss) | Some x ↦ x.1 ]
 
 -- nothing but an identifier or its place, in parentheses or not
 abbrev pub is_bare : DeclaratorTree → Bool

@@ -15,15 +15,16 @@ use Rattle.typed_tree.specs.Units.{Local, Definition, Declared as DeclaredAlone,
 use Rattle.c_tree.specs.declared.words.StorageClass.{StorageClass}
 use Rattle.c_tree.specs.declared.words.StorageClass.TheVariants as class
 use Rattle.c_tree.specs.Syntax.{SpecifierTrees, InitTree}
+use Rattle.c_tree.specs.Places.{first_specifiers, first_init}
 use Rattle.c_typing.specs.Types.{CType, Types, is_void, is_function, lacks_type, complete}
 use Rattle.c_typing.specs.Conversions.{compatible, same_shape}
 use Rattle.c_typing.specs.Constraints.{is_declared}
 use Rattle.c_typing.specs.Specifiers.{class_of, is_inline}
 use Rattle.c_typing.specs.Scopes.{Linkage, External, Internal, NoLinkage, Denotes, TypedefName, EnumerationConstant, Automatic, Static, Entity, Env, Walk, ◌>>=◌, pure, asks, changes, refuses_if, excludes_if, types_of, visible_name, own_name, is_file_scope, with_name, new_entity, changes_entity, changed_at, entity_named}
-use Rattle.c_typing.specs.Declarators.{Derivation, PointerTo, ArrayOf, FunctionOf, BareFunctionOf, at_of_specifiers}
+use Rattle.c_typing.specs.Declarators.{Derivation, PointerTo, ArrayOf, FunctionOf, BareFunctionOf, at_first}
 use Rattle.c_typing.specs.Initialisers.{beginning, whole_part, completed, inits}
 use Rattle.c_typing.specs.Steps.{is_reserved, refuses_reserved, declares_local, text_of}
-use Rattle.c_typing.specs.Walk.{init_at, refuses_scalars, filled, initialise}
+use Rattle.c_typing.specs.Walk.{refuses_scalars, filled, initialise}
 
 -- what a declaration does for the definition of its entity (6.9.1, 6.9.2)
 
@@ -251,13 +252,13 @@ refuses_object x at c initialised = do
 -- an initialiser where none may stand (6.7.9p5; of a typedef name and of a function)
 abbrev pub no_initialiser : Option InitTree → Walk (Unit {0})
 no_initialiser None = pure tt
-no_initialiser (Some i) = refuses_if true code.Initialiser (init_at i)
+no_initialiser (Some i) = refuses_if true code.Initialiser (first_init i)
 
 -- an initialiser, and the type that the object has behind it (6.7.9p22)
 abbrev pub initialised_by : Bool → ℕ → CType → InitTree → Walk (CType × Inits)
 initialised_by static at c i = do
   f ← initialise static (whole_part c) (beginning c) i
-  c' ← filled at (init_at i) c f
+  c' ← filled at (first_init i) c f
   pure (c', inits f.steps)
 
 abbrev pub defines_entity : ℕ → CType → Definition → Walk (Unit {0})
@@ -281,11 +282,11 @@ abbrev pub linked_initialiser : NameId → ℕ → ℕ → CType → Option Init
 linked_initialiser x at n c None = pure tt
 linked_initialiser x at n c (Some i) = do
   f ← initialise true (whole_part c) (beginning c) i
-  _ ← refuses_scalars (init_at i) f
+  _ ← refuses_scalars (first_init i) f
   t ← types_of
   e ← asks (λ (env : Env). slice_get env.entities n)
   _ ← refuses_if (has_other_bound t (completed f.reach c) e) code.Conflict at
-  c' ← filled at (init_at i) c f
+  c' ← filled at (first_init i) c f
   _ ← changes (with_name x (Static n c'))
   defines_entity n c' (Initialised (inits f.steps))
 
@@ -352,7 +353,7 @@ is_wrong_class file (Some c) = true
 abbrev pub function_declared : SpecifierTrees → NameId → ℕ → CType → Option InitTree → Walk (List Stmt)
 function_declared ss x at c i = do
   file ← asks is_file_scope
-  _ ← refuses_if (is_wrong_class file (class_of ss)) code.Specifiers (at_of_specifiers ss)
+  _ ← refuses_if (is_wrong_class file (class_of ss)) code.Specifiers (at_first (first_specifiers ss))
   outer ← asks (λ (env : Env). inherited env x)
   _ ← links x at (function_linkage (class_of ss) outer) c Nothing (is_inline ss)
   _ ← no_initialiser i

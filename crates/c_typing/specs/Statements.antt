@@ -11,13 +11,14 @@ use Rattle.typed_tree.specs.Tree.{Typed, shape_in}
 use Rattle.typed_tree.specs.Statements.{Stmt, Stmts, Done, Seq, Expr, Block, Label, Goto as Jump, Break as Leave, Continue as Next, Return as Give, Default as Otherwise, Case as When, If as Choose, Switch as Select, While as Repeat, Do as RepeatBehind, For as Iterate}
 use Rattle.c_tree.specs.Syntax.{ExprTree, SpecifierTrees, DeclaratorTree, InitTree}
 use Rattle.c_tree.specs.Units.{DeclarationTree, Declares, Asserts, ForStart, StartExpr, StartDeclaration, StmtTree, Labelled, Case, Default, Compound, Expression, If, IfElse, Switch, While, Do, For, Goto, Continue, Break, Return, BlockItem, Declaring, Doing, BlockItems, NoItems, MoreItems}
+use Rattle.c_tree.specs.Places.{first_expr}
 use Rattle.c_typing.specs.Types.{Types, any_of, is_void, kind_in, same_name}
 use Rattle.c_typing.specs.Conversions.{Operand, value_of}
 use Rattle.c_typing.specs.Evaluation.{integer_value}
 use Rattle.c_typing.specs.Specifiers.{Position, InBlock, InFor, count_specifiers}
 use Rattle.c_typing.specs.Nodes.{TestNode, SwitchNode, ValueNode, ConvertNode}
 use Rattle.c_typing.specs.Scopes.{Env, Cases, Walk, ◌>>=◌, pure, asks, changes, refuses_if, required, types_of, scoped}
-use Rattle.c_typing.specs.Declarators.{at_of, declared_in, place_in, built}
+use Rattle.c_typing.specs.Declarators.{declared_in, place_in, built}
 use Rattle.c_typing.specs.Steps.{at_node, by_node, base_with, asserted, refuses_reserved, Base}
 use Rattle.c_typing.specs.Walk.{expr, named, derived}
 use Rattle.c_typing.specs.Declare.{declares}
@@ -55,7 +56,7 @@ declaration p (Declares at ss xs) = do
   declarators ss b xs
 declaration p (Asserts at c message_at message) = do
   x ← expr c
-  _ ← asserted at (at_of c) x message_at message
+  _ ← asserted at (first_expr c) x message_at message
   pure []
 
 -- where a statement stands: the type that its function returns, the labels of the function in the order of the text, whether a loop, or a loop or a switch, is around it
@@ -230,26 +231,26 @@ maybe walk (Some e) = do
 abbrev pub placed_expr : ExprTree → Walk (ℕ × Operand)
 placed_expr e = do
   x ← expr e
-  pure (at_of e, x)
+  pure (first_expr e, x)
 
 -- an expression of which the value is not used (6.8.3p2)
 abbrev pub effect : ExprTree → Walk Typed
 effect e = do
   x ← expr e
-  y ← at_node (by_node (at_of e)) (ValueNode x)
+  y ← at_node (by_node (first_expr e)) (ValueNode x)
   pure y.typed
 
 -- a controlling expression (6.8.4.1p1, 6.8.5p2)
 abbrev pub test : ExprTree → Walk Typed
 test e = do
   x ← expr e
-  y ← at_node (by_node (at_of e)) (TestNode x)
+  y ← at_node (by_node (first_expr e)) (TestNode x)
   pure y.typed
 
 abbrev pub selector : ExprTree → Walk Typed
 selector e = do
   x ← expr e
-  y ← at_node (by_node (at_of e)) (SwitchNode x)
+  y ← at_node (by_node (first_expr e)) (SwitchNode x)
   pure y.typed
 
 abbrev pub effects : Option Typed → List Stmt
@@ -272,7 +273,7 @@ abbrev mutual
     pure (Label (number_or_none p x) ∷ ss)
   statement p (Case at e s) = do
     x ← expr e
-    c ← case_value at (at_of e) x
+    c ← case_value at (first_expr e) x
     ss ← statement p s
     pure (c ∷ ss)
   statement p (Default at s) = do

@@ -36,6 +36,7 @@ use Rattle.c_tree.specs.declared.words.UnaryOp.TheVariants.{Address, Indirection
 use Rattle.c_tree.specs.declared.words.LogicalOp.{LogicalOp}
 use Rattle.c_tree.specs.declared.words.LogicalOp.TheVariants.{And, Or}
 use Rattle.c_tree.specs.Syntax.{ExprTrees, NoExprs, MoreExprs, Qualified, SpecifierTrees, NoSpecifiers, MoreSpecifiers, MemberLine, MemberAssert, MemberTrees, NoMembers, MoreMembers, MemberDeclaratorTrees, NoMemberDeclarators, MoreMemberDeclarators, DeclaratorTree, ParameterTrees, NoParameters, MoreParameters}
+use Rattle.c_tree.specs.Places.{first_expr, first_specifiers}
 use Rattle.c_typing.specs.Types.{CType, Types, Member as MemberType, Aggregate, plain, unqualified, same_name, pointee, is_void, is_function, is_object, is_array, is_too_big, lacks_type, any_of, aggregate_at, member_path}
 use Rattle.c_typing.specs.Conversions.{Operand, operand, value_of, shape_of}
 use Rattle.c_typing.specs.Constants.{string_literal}
@@ -44,7 +45,7 @@ use Rattle.c_typing.specs.Specifiers.{Position, are_specifiers, qualifiers, qual
 use Rattle.c_typing.specs.Scopes.{Env, Scope, Entity, Denotes, TypedefName as ATypedefName, EnumerationConstant, Automatic, Static, NoLinkage, Walk, ◌>>=◌, pure, asks, changes, faults, refuses_if, exceeds_if, required, visible_name, visible_tag, own_name, own_tag, with_name, with_tag, empty_scope, enter, leave, types_of, new_aggregate, with_changed_aggregate, new_entity, uses}
 use Rattle.c_typing.specs.Nodes.{Node, NameNode, ConstantNode, CallNode, MemberNode, ArrowNode, AddressNode, IndirectNode, PlusNode, UnaryNode, AssignNode, ComputeNode, ConvertNode, constant_operand, place, typed_node}
 use Rattle.c_typing.specs.Constraints.{has_wrong_escape, is_declared, first_violated, wrong_argument}
-use Rattle.c_typing.specs.Declarators.{at_of, at_of_specifiers, declared_in, place_in, Derivation, ArrayOf, FunctionOf, bound_of, built, last_of, adjusted, bracket_quals, is_lone_void}
+use Rattle.c_typing.specs.Declarators.{at_first, declared_in, place_in, Derivation, ArrayOf, FunctionOf, bound_of, built, last_of, adjusted, bracket_quals, is_lone_void}
 use Rattle.c_typing.specs.Initialisers.{Path, Part, Frame, Filling, AValue, takes_whole, with_whole, with_bytes, fitting, has_room, bound_of_array, inits}
 
 -- nodes
@@ -165,7 +166,7 @@ arrow_node t x e = ArrowNode e (option_and_then (λ (c : CType). member_path t x
 
 abbrev pub ats_of : ExprTrees → List ℕ
 ats_of NoExprs = []
-ats_of (MoreExprs e es) = at_of e ∷ ats_of es
+ats_of (MoreExprs e es) = first_expr e ∷ ats_of es
 
 -- names that are reserved (own): those that begin with `__builtin_`
 
@@ -211,7 +212,7 @@ base_or c (Some b) = b
 -- the type of the specifiers: that of the one that is no word, or of the words, with the qualifiers (6.7.2, 6.7.3)
 abbrev pub base_with : Position → SpecifierTrees → Walk (Option Base) → Walk Base
 base_with p ss named = do
-  _ ← refuses_if (not (are_specifiers p ss)) code.Specifiers (at_of_specifiers ss)
+  _ ← refuses_if (not (are_specifiers p ss)) code.Specifiers (at_first (first_specifiers ss))
   found ← named
   t ← types_of
   _ ← refuses_if (is_wrong_restrict (qualifiers_in ss) (base_or (word_type t.abi ss) found).type.shape) code.Restrict (restrict_at ss)

@@ -10,7 +10,8 @@ use Rattle.cil_base.specs.declared.faults.What.TheVariants as limit
 use Rattle.type_graph.specs.declared.aggregates.AggKind.{AggKind}
 use Rattle.type_graph.specs.declared.aggregates.AggKind.TheVariants as aggregate
 use Rattle.typed_tree.specs.Tree.{Literal as LiteralObject, Entity as StaticObject, shape_in}
-use Rattle.c_tree.specs.Syntax.{ExprTree, Name, Integer, Character, Literals, Parentheses, Index, Call, Member, Arrow, Postfix, CompoundLiteral, Prefix, Unary, SizeofExpr, SizeofType, AlignofType, Cast, Binary, Logical, Conditional, Assign, Comma, ExprTrees, NoExprs, MoreExprs, SpecifierTree, Storage, Basic, Qualified, Functional, TypedefName, Tag, StructBody, EnumBody, SpecifierTrees, NoSpecifiers, MoreSpecifiers, MemberTree, MemberLine, MemberAssert, MemberTrees, NoMembers, MoreMembers, MemberDeclaratorTree, Plain, BitField, MemberDeclaratorTrees, NoMemberDeclarators, MoreMemberDeclarators, Enumerates, EnumeratorTrees, NoEnumerators, MoreEnumerators, MaybeExpr, NoExpr, SomeExpr, DeclaratorTree, Declared, Absent, Grouped, Pointer, Array, Function, Unprototyped, BoundTree, Unspecified, Star, Size, StaticSize, SizeStatic, Parameter, ParameterTrees, NoParameters, MoreParameters, InitTree, Single, Braces, Item, ItemTrees, NoItems, MoreItems, DesignatorTree, AtIndex, AtMember, DesignatorTrees, NoDesignators, MoreDesignators}
+use Rattle.c_tree.specs.Syntax.{ExprTree, Name, Integer, Character, Literals, Parentheses, Index, Call, Member, Arrow, Postfix, CompoundLiteral, Prefix, Unary, SizeofExpr, SizeofType, AlignofType, Cast, Binary, Logical, Conditional, Assign, Comma, TypeNameTree, TypeName, ExprTrees, NoExprs, MoreExprs, SpecifierTree, Storage, Basic, Qualified, Functional, TypedefName, Tag, StructBody, EnumBody, SpecifierTrees, NoSpecifiers, MoreSpecifiers, MemberTree, MemberLine, MemberAssert, MemberTrees, NoMembers, MoreMembers, MemberDeclaratorTree, Plain, BitField, MemberDeclaratorTrees, NoMemberDeclarators, MoreMemberDeclarators, Enumerates, EnumeratorTrees, NoEnumerators, MoreEnumerators, MaybeExpr, NoExpr, SomeExpr, DeclaratorTree, Declared, Absent, Grouped, Pointer, Array, Function, Unprototyped, BoundTree, Unspecified, Star, Size, StaticSize, SizeStatic, Parameter, ParameterTrees, NoParameters, MoreParameters, InitTree, Single, Braces, Item, ItemTrees, NoItems, MoreItems, DesignatorTree, AtIndex, AtMember, DesignatorTrees, NoDesignators, MoreDesignators}
+use Rattle.c_tree.specs.Places.{first_expr, first_type_name, first_specifiers, first_item}
 use Rattle.c_typing.specs.Types.{CType, Types, Member as MemberType, is_array, is_too_big, is_scalar, is_flexible, complete, member_path}
 use Rattle.c_typing.specs.Conversions.{Operand, operand}
 use Rattle.c_typing.specs.Constants.{integer_constant, character_constant, string_literal}
@@ -18,7 +19,7 @@ use Rattle.c_typing.specs.Constraints.{has_wrong_escape}
 use Rattle.c_typing.specs.Specifiers.{InParameter, NoStorage, qualifiers}
 use Rattle.c_typing.specs.Scopes.{Env, Walk, ◌>>=◌, pure, asks, changes, faults, refuses_if, excludes_if, exceeds_if, required, unevaluated, types_of}
 use Rattle.c_typing.specs.Nodes.{IndexNode, StepNode, BinaryNode, LogicalNode, ConditionalNode, CommaNode, CastNode, SizeofNode, AlignofNode, place}
-use Rattle.c_typing.specs.Declarators.{at_of, at_of_specifiers, declared_in, place_in, is_bare, Derivation, PointerTo, ArrayOf, BareFunctionOf, built}
+use Rattle.c_typing.specs.Declarators.{at_first, declared_in, place_in, is_bare, Derivation, PointerTo, ArrayOf, BareFunctionOf, built}
 use Rattle.c_typing.specs.Initialisers.{Part, Frame, Filling, Given, ALiteral, AValue, next_part, designated, designated_along, down_to, nesting_of, with_zero, inits, beginning, whole_part, completed, is_character_array}
 use Rattle.c_typing.specs.Steps.{at_node, by_node, by_operand, by_sized, at_call, identifier, constant, nameless, made_entity, literal_of, logic_of, postfix_form, prefix_form, unary_node, assign_node, member_node, arrow_node, ats_of, base_with, typedef_named, kind_of_tag, kind_of_structure, tagged, opened, names_member, is_misspelled_line, anonymous_member, is_no_line, is_end, known_integer, asserted, closes_body, enumerates, closes_enum, refuses_words, has_words, sized, greatest_locals, count_locals, no_parameters, one_parameter, is_last, prototyped, type_with, greatest_scalars, with_value, with_literal, in_flexible, Base, Body, Parameters}
 
@@ -40,20 +41,10 @@ abbrev pub alone : ItemTrees → Option (ℕ × List (List ℕ))
 alone (MoreItems (Item NoDesignators (Single (Literals at texts))) NoItems) = Some (at, texts)
 alone _ = None
 
--- an item's first token
-abbrev pub init_at : InitTree → ℕ
-init_at (Single e) = at_of e
-init_at (Braces at is comma) = at
-
-abbrev pub item_at : DesignatorTrees → InitTree → ℕ
-item_at NoDesignators i = init_at i
-item_at (MoreDesignators (AtIndex at e) ds) i = at
-item_at (MoreDesignators (AtMember at m) ds) i = at
-
 -- the `{` of a brace list stands before its first item
 abbrev pub brace_at : ItemTrees → ℕ
 brace_at NoItems = 0
-brace_at (MoreItems (Item ds i) is) = item_at ds i - 1
+brace_at (MoreItems i is) = first_item i - 1
 
 -- the aggregate of the innermost brace list, in which designators begin (6.7.9p18)
 abbrev pub outermost : List Frame → Option (Part × List Frame)
@@ -193,9 +184,9 @@ abbrev mutual
     at_node (by_node at) (arrow_node t x a)
   expr (Postfix at e op) = do
     a ← expr e
-    at_node (by_operand at (at_of e)) (StepNode (postfix_form op) a)
-  expr (CompoundLiteral at ss d items comma) = do
-    c ← type_with ss d (base_with NoStorage ss (named false ss)) (derived false d)
+    at_node (by_operand at (first_expr e)) (StepNode (postfix_form op) a)
+  expr (CompoundLiteral at t items comma) = do
+    c ← named_type t
     static ← asks is_static_here
     t ← types_of
     _ ← refuses_if (not (may_be_initialised t c)) code.Incomplete at
@@ -203,21 +194,21 @@ abbrev mutual
     compound_literal static at (brace_at items) c f
   expr (Prefix at op e) = do
     a ← expr e
-    at_node (by_operand at (at_of e)) (StepNode (prefix_form op) a)
+    at_node (by_operand at (first_expr e)) (StepNode (prefix_form op) a)
   expr (Unary at op e) = do
     a ← expr e
-    at_node (by_operand at (at_of e)) (unary_node op a)
+    at_node (by_operand at (first_expr e)) (unary_node op a)
   expr (SizeofExpr at e) = do
     a ← unevaluated (expr e)
-    at_node (by_sized at (at_of e)) (SizeofNode (shape_in a.typed))
-  expr (SizeofType at ss d) = do
-    c ← unevaluated (type_with ss d (base_with NoStorage ss (named false ss)) (derived false d))
-    at_node (by_sized at (at_of_specifiers ss)) (SizeofNode c.shape)
-  expr (AlignofType at ss d) = do
-    c ← unevaluated (type_with ss d (base_with NoStorage ss (named false ss)) (derived false d))
-    at_node (by_sized at (at_of_specifiers ss)) (AlignofNode c.shape)
-  expr (Cast at ss d e) = do
-    c ← type_with ss d (base_with NoStorage ss (named false ss)) (derived false d)
+    at_node (by_sized at (first_expr e)) (SizeofNode (shape_in a.typed))
+  expr (SizeofType at t) = do
+    c ← unevaluated (named_type t)
+    at_node (by_sized at (at_first (first_type_name t))) (SizeofNode c.shape)
+  expr (AlignofType at t) = do
+    c ← unevaluated (named_type t)
+    at_node (by_sized at (at_first (first_type_name t))) (AlignofNode c.shape)
+  expr (Cast at t e) = do
+    c ← named_type t
     a ← expr e
     at_node (by_node at) (CastNode c a)
   expr (Binary at op l r) = do
@@ -236,7 +227,7 @@ abbrev mutual
   expr (Assign at op l r) = do
     a ← expr l
     b ← expr r
-    at_node (by_operand at (at_of l)) (assign_node op a b)
+    at_node (by_operand at (first_expr l)) (assign_node op a b)
   expr (Comma at l r) = do
     a ← expr l
     b ← expr r
@@ -248,6 +239,10 @@ abbrev mutual
     x ← expr e
     xs ← exprs es
     pure (x ∷ xs)
+
+  -- a type name (6.7.7)
+  pub named_type : TypeNameTree → Walk CType
+  named_type (TypeName ss d) = type_with ss d (base_with NoStorage ss (named false ss)) (derived false d)
 
   -- the specifier that is no word (6.7.2); `alone` where no other specifier and no declarator stands beside it
   pub named : Bool → SpecifierTrees → Walk (Option Base)
@@ -282,13 +277,13 @@ abbrev mutual
 
   member : AggKind → Bool → Body → MemberTree → Walk Body
   member k end b (MemberLine ss ds) = do
-    _ ← refuses_if (is_misspelled_line ss (is_no_line ds)) code.Specifiers (at_of_specifiers ss)
+    _ ← refuses_if (is_misspelled_line ss (is_no_line ds)) code.Specifiers (at_first (first_specifiers ss))
     x ← base_with NoStorage ss (named false ss)
     b' ← anonymous_member (is_no_line ds) x b
     member_declarators k end ss x b' ds
   member k end b (MemberAssert at c message_at message) = do
     x ← expr c
-    _ ← asserted at (at_of c) x message_at message
+    _ ← asserted at (first_expr c) x message_at message
     pure b
 
   member_declarators : AggKind → Bool → SpecifierTrees → Base → Body → MemberDeclaratorTrees → Walk Body
@@ -306,7 +301,7 @@ abbrev mutual
   member_declarator k last ss x b (BitField d width) = do
     ds ← derived false d
     _ ← built (place_in ss d) ds x.type
-    faults (Excluded feature.BitField) (at_of width - 1)
+    faults (Excluded feature.BitField) (first_expr width - 1)
 
   -- enumerators (6.7.2.2)
   enumerators : ℤ → List MemberType → EnumeratorTrees → Walk (List MemberType)
@@ -320,7 +315,7 @@ abbrev mutual
   enumerator_value next NoExpr = pure next
   enumerator_value next (SomeExpr e) = do
     x ← expr e
-    known_integer (at_of e) x
+    known_integer (first_expr e) x
 
   -- declarators (6.7.6), the identifier and what stands nearer to it first
   pub derived : Bool → DeclaratorTree → Walk (List Derivation)
@@ -353,15 +348,15 @@ abbrev mutual
   bound allowed (Size at qs e) = do
     _ ← refuses_words allowed (has_words qs) at
     x ← expr e
-    sized (at_of e) qs x
+    sized (first_expr e) qs x
   bound allowed (StaticSize at qs e) = do
     _ ← refuses_words allowed true at
     x ← expr e
-    sized (at_of e) qs x
+    sized (first_expr e) qs x
   bound allowed (SizeStatic at qs e) = do
     _ ← refuses_words allowed true at
     x ← expr e
-    sized (at_of e) qs x
+    sized (first_expr e) qs x
 
   -- parameters (6.7.6.3); `first` where the next one may be the only item of the list
   parameters : Bool → ParameterTrees → Walk Parameters
@@ -373,7 +368,7 @@ abbrev mutual
 
   -- an initialiser for an object (6.7.9): an expression or a brace list
   pub initialise : Bool → Part → Filling → InitTree → Walk Filling
-  initialise static p f (Single e) = object_by static (at_of e) p f (literal_in e) (expr e)
+  initialise static p f (Single e) = object_by static (first_expr e) p f (literal_in e) (expr e)
   initialise static p f (Braces at is comma) = braces_for static p f (alone is) (λ g. items_in static is g)
 
   -- the items of a brace list, each for the next part or for the one that it designates (6.7.9p17)
@@ -381,12 +376,12 @@ abbrev mutual
   items_in static NoItems f = pure f
   items_in static (MoreItems (Item ds i) is) f = do
     d ← designation f ds
-    g ← item static (item_at ds i) d f i
+    g ← item static (first_item (Item ds i)) d f i
     items_in static is g
 
   -- an item, with its first token and the part that its designators name
   pub item : Bool → ℕ → Option (Part × List Frame) → Filling → InitTree → Walk Filling
-  item static first d f (Single e) = item_by static first (at_of e) d f (literal_in e) (expr e)
+  item static first d f (Single e) = item_by static first (first_expr e) d f (literal_in e) (expr e)
   item static first d f (Braces at is comma) = do
     x ← part_for first d f
     _ ← excludes_if (in_flexible x) feature.FlexibleInit first
@@ -408,7 +403,7 @@ abbrev mutual
   pub designator : Option (Part × List Frame) → DesignatorTree → Walk (Option (Part × List Frame))
   designator x (AtIndex at e) = do
     i ← expr e
-    n ← known_integer (at_of e) i
+    n ← known_integer (first_expr e) i
     t ← types_of
     y ← required (option_and_then (designated_index t n) x) code.Initialiser at
     pure (Some y)

@@ -14,14 +14,14 @@ height_of_expr-returns-in-Call t c =
 
 pub height_of_expr-returns-in-CompoundLiteral : goal.height_of_expr-returns-in-CompoundLiteral
 height_of_expr-returns-in-CompoundLiteral t c =
-    let is : expr_of c.args.x.now ≡ plain.CompoundLiteral c.in-CompoundLiteral.field-0 (specifiers_of c.in-CompoundLiteral.t.value.specifiers.items) (declarator_of c.in-CompoundLiteral.t.value.declarator) (items_of c.in-CompoundLiteral.items.items) c.in-CompoundLiteral.field-3
+    let is : expr_of c.args.x.now ≡ plain.CompoundLiteral c.in-CompoundLiteral.field-0 (plain.TypeName (specifiers_of c.in-CompoundLiteral.t.value.specifiers.items) (declarator_of c.in-CompoundLiteral.t.value.declarator)) (items_of c.in-CompoundLiteral.items.items) c.in-CompoundLiteral.field-3
     = at_compound_literal c.args.x.now c.in-CompoundLiteral.field-0 c.in-CompoundLiteral.t c.in-CompoundLiteral.items c.in-CompoundLiteral.field-3 c.in-CompoundLiteral.items.items c.in-CompoundLiteral.is refl in
     let got : c.above-in-CompoundLiteral.result ≡ capped (1 + max (max (specifiers_height (specifiers_of c.in-CompoundLiteral.t.value.specifiers.items)) (declarator_height (declarator_of c.in-CompoundLiteral.t.value.declarator))) (items_height (items_of c.in-CompoundLiteral.items.items))) = search rules in
     got ∙ ap (λ z. capped (expr_height z)) (sym is)
 
 pub height_of_expr-returns-in-Cast : goal.height_of_expr-returns-in-Cast
 height_of_expr-returns-in-Cast t c =
-    let is : expr_of c.args.x.now ≡ plain.Cast c.in-Cast.field-0 (specifiers_of c.in-Cast.t.value.specifiers.items) (declarator_of c.in-Cast.t.value.declarator) (expr_of c.in-Cast.e.value) = at_cast c.args.x.now c.in-Cast.field-0 c.in-Cast.t c.in-Cast.e c.in-Cast.is in
+    let is : expr_of c.args.x.now ≡ plain.Cast c.in-Cast.field-0 (plain.TypeName (specifiers_of c.in-Cast.t.value.specifiers.items) (declarator_of c.in-Cast.t.value.declarator)) (expr_of c.in-Cast.e.value) = at_cast c.args.x.now c.in-Cast.field-0 c.in-Cast.t c.in-Cast.e c.in-Cast.is in
     let got : c.above-in-Cast.result ≡ capped (1 + max (max (specifiers_height (specifiers_of c.in-Cast.t.value.specifiers.items)) (declarator_height (declarator_of c.in-Cast.t.value.declarator))) (expr_height (expr_of c.in-Cast.e.value))) = search rules in
     got ∙ ap (λ z. capped (expr_height z)) (sym is)
 

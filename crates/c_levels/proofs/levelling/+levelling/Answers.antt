@@ -39,25 +39,25 @@ derivation_fits-returns-in-Function t c =
 
 pub expr_fits-returns-in-CompoundLiteral : goal.expr_fits-returns-in-CompoundLiteral
 expr_fits-returns-in-CompoundLiteral t c =
-    let is : expr_of c.args.x.now ≡ plain.CompoundLiteral c.in-CompoundLiteral.field-0 (specifiers_of c.in-CompoundLiteral.t.value.specifiers.items) (declarator_of c.in-CompoundLiteral.t.value.declarator) (items_of c.in-CompoundLiteral.items.items) c.in-CompoundLiteral.field-3
+    let is : expr_of c.args.x.now ≡ plain.CompoundLiteral c.in-CompoundLiteral.field-0 (plain.TypeName (specifiers_of c.in-CompoundLiteral.t.value.specifiers.items) (declarator_of c.in-CompoundLiteral.t.value.declarator)) (items_of c.in-CompoundLiteral.items.items) c.in-CompoundLiteral.field-3
     = at_compound_literal c.args.x.now c.in-CompoundLiteral.field-0 c.in-CompoundLiteral.t c.in-CompoundLiteral.items c.in-CompoundLiteral.field-3 c.in-CompoundLiteral.items.items c.in-CompoundLiteral.is refl in
-    let got : c.both-in-CompoundLiteral-2.result ≡ told (levelled (plain.CompoundLiteral c.in-CompoundLiteral.field-0 (specifiers_of c.in-CompoundLiteral.t.value.specifiers.items) (declarator_of c.in-CompoundLiteral.t.value.declarator) (items_of c.in-CompoundLiteral.items.items) c.in-CompoundLiteral.field-3)) = search rules in
+    let got : c.both-in-CompoundLiteral-2.result ≡ told (levelled (plain.CompoundLiteral c.in-CompoundLiteral.field-0 (plain.TypeName (specifiers_of c.in-CompoundLiteral.t.value.specifiers.items) (declarator_of c.in-CompoundLiteral.t.value.declarator)) (items_of c.in-CompoundLiteral.items.items) c.in-CompoundLiteral.field-3)) = search rules in
     got ∙ ap (λ z. told (levelled z)) (sym is)
 
 pub expr_fits-returns-in-SizeofType : goal.expr_fits-returns-in-SizeofType
 expr_fits-returns-in-SizeofType t c =
-    let is : expr_of c.args.x.now ≡ plain.SizeofType c.in-SizeofType.field-0 (specifiers_of c.in-SizeofType.t.value.specifiers.items) (declarator_of c.in-SizeofType.t.value.declarator) = at_sizeof c.args.x.now c.in-SizeofType.field-0 c.in-SizeofType.t c.in-SizeofType.is in
-    let got : c.type_fits-in-SizeofType.result ≡ told (levelled (plain.SizeofType c.in-SizeofType.field-0 (specifiers_of c.in-SizeofType.t.value.specifiers.items) (declarator_of c.in-SizeofType.t.value.declarator))) = search rules in
+    let is : expr_of c.args.x.now ≡ plain.SizeofType c.in-SizeofType.field-0 (plain.TypeName (specifiers_of c.in-SizeofType.t.value.specifiers.items) (declarator_of c.in-SizeofType.t.value.declarator)) = at_sizeof c.args.x.now c.in-SizeofType.field-0 c.in-SizeofType.t c.in-SizeofType.is in
+    let got : c.type_fits-in-SizeofType.result ≡ told (levelled (plain.SizeofType c.in-SizeofType.field-0 (plain.TypeName (specifiers_of c.in-SizeofType.t.value.specifiers.items) (declarator_of c.in-SizeofType.t.value.declarator)))) = search rules in
     got ∙ ap (λ z. told (levelled z)) (sym is)
 
 pub expr_fits-returns-in-AlignofType : goal.expr_fits-returns-in-AlignofType
 expr_fits-returns-in-AlignofType t c =
-    let is : expr_of c.args.x.now ≡ plain.AlignofType c.in-AlignofType.field-0 (specifiers_of c.in-AlignofType.t.value.specifiers.items) (declarator_of c.in-AlignofType.t.value.declarator) = at_alignof c.args.x.now c.in-AlignofType.field-0 c.in-AlignofType.t c.in-AlignofType.is in
-    let got : c.type_fits-in-AlignofType.result ≡ told (levelled (plain.AlignofType c.in-AlignofType.field-0 (specifiers_of c.in-AlignofType.t.value.specifiers.items) (declarator_of c.in-AlignofType.t.value.declarator))) = search rules in
+    let is : expr_of c.args.x.now ≡ plain.AlignofType c.in-AlignofType.field-0 (plain.TypeName (specifiers_of c.in-AlignofType.t.value.specifiers.items) (declarator_of c.in-AlignofType.t.value.declarator)) = at_alignof c.args.x.now c.in-AlignofType.field-0 c.in-AlignofType.t c.in-AlignofType.is in
+    let got : c.type_fits-in-AlignofType.result ≡ told (levelled (plain.AlignofType c.in-AlignofType.field-0 (plain.TypeName (specifiers_of c.in-AlignofType.t.value.specifiers.items) (declarator_of c.in-AlignofType.t.value.declarator)))) = search rules in
     got ∙ ap (λ z. told (levelled z)) (sym is)
 
 pub expr_fits-returns-in-Cast : goal.expr_fits-returns-in-Cast
 expr_fits-returns-in-Cast t c =
-    let is : expr_of c.args.x.now ≡ plain.Cast c.in-Cast.field-0 (specifiers_of c.in-Cast.t.value.specifiers.items) (declarator_of c.in-Cast.t.value.declarator) (expr_of c.in-Cast.e.value) = at_cast c.args.x.now c.in-Cast.field-0 c.in-Cast.t c.in-Cast.e c.in-Cast.is in
-    let got : c.both-in-Cast.result ≡ told (levelled (plain.Cast c.in-Cast.field-0 (specifiers_of c.in-Cast.t.value.specifiers.items) (declarator_of c.in-Cast.t.value.declarator) (expr_of c.in-Cast.e.value))) = search rules in
+    let is : expr_of c.args.x.now ≡ plain.Cast c.in-Cast.field-0 (plain.TypeName (specifiers_of c.in-Cast.t.value.specifiers.items) (declarator_of c.in-Cast.t.value.declarator)) (expr_of c.in-Cast.e.value) = at_cast c.args.x.now c.in-Cast.field-0 c.in-Cast.t c.in-Cast.e c.in-Cast.is in
+    let got : c.both-in-Cast.result ≡ told (levelled (plain.Cast c.in-Cast.field-0 (plain.TypeName (specifiers_of c.in-Cast.t.value.specifiers.items) (declarator_of c.in-Cast.t.value.declarator)) (expr_of c.in-Cast.e.value))) = search rules in
     got ∙ ap (λ z. told (levelled z)) (sym is)

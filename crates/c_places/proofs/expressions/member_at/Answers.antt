@@ -1,7 +1,7 @@
 use Rattle.std.proofs.Common.{refl, sym, ap, ◌∙◌}
 use Rattle.c_tree.specs.View.{specifiers_of}
 use Rattle.c_tree.proofs.Views.{at_member}
-use Rattle.c_places.specs.First.{first_specifiers, first_member}
+use Rattle.c_tree.specs.Places.{first_specifiers, first_member}
 use Rattle.c_places.proofs.expressions.member_at.Goals as goal
 
 pub returns-in-Members : goal.returns-in-Members

@@ -1,6 +1,6 @@
--- Definition: the number of the first token of each node of a syntax tree; of an absent identifier, which has no token, that of the one behind its place; of what may have no token, none where it has none.
+-- Definition: the number of the first token of each node of a syntax tree; of an absent identifier, which has no token, that of the one behind its place; of what begins with specifiers, none where it has none; of what stands in brackets, that of the bracket.
 use Rattle.std.specs.Prelude.{ℕ, Option, Some, None}
-use Rattle.c_tree.specs.Syntax.{ExprTree, Name, Integer, Character, Literals, Parentheses, Index, Call, Member, Arrow, Postfix, CompoundLiteral, Prefix, Unary, SizeofExpr, SizeofType, AlignofType, Cast, Binary, Logical, Conditional, Assign, Comma, SpecifierTree, Storage, Basic, Qualified, Functional, TypedefName, Tag, StructBody, EnumBody, SpecifierTrees, NoSpecifiers, MoreSpecifiers, MemberTree, MemberLine, MemberAssert, MemberDeclaratorTree, Plain, BitField, EnumeratorTree, Enumerates, DeclaratorTree, Declared, Absent, Grouped, Pointer, Array, Function, Unprototyped, BoundTree, Unspecified, Star, Size, StaticSize, SizeStatic, ParameterTree, Parameter, InitTree, Single, Braces, ItemTree, Item, DesignatorTree, AtIndex, AtMember, NoDesignators, MoreDesignators}
+use Rattle.c_tree.specs.Syntax.{ExprTree, Name, Integer, Character, Literals, Parentheses, Index, Call, Member, Arrow, Postfix, CompoundLiteral, Prefix, Unary, SizeofExpr, SizeofType, AlignofType, Cast, Binary, Logical, Conditional, Assign, Comma, TypeNameTree, TypeName, SpecifierTree, Storage, Basic, Qualified, Functional, TypedefName, Tag, StructBody, EnumBody, SpecifierTrees, NoSpecifiers, MoreSpecifiers, MemberTree, MemberLine, MemberAssert, MemberDeclaratorTree, Plain, BitField, EnumeratorTree, Enumerates, DeclaratorTree, Declared, Absent, Grouped, Pointer, Array, Function, Unprototyped, BoundTree, Unspecified, Star, Size, StaticSize, SizeStatic, ParameterTree, Parameter, InitTree, Single, Braces, ItemTree, Item, DesignatorTree, AtIndex, AtMember, NoDesignators, MoreDesignators}
 use Rattle.c_tree.specs.Units.{DeclarationTree, Declares, Asserts, StmtTree, Labelled, Case, Default, Compound, Expression, If, IfElse, Switch, While, Do, For, Goto, Continue, Break, Return, BlockItem, Declaring, Doing, ExternalTree, Definition, External}
 
 abbrev pub first_expr : ExprTree → ℕ
@@ -14,13 +14,13 @@ first_expr (Call at e es) = at
 first_expr (Member at e x) = at
 first_expr (Arrow at e x) = at
 first_expr (Postfix at e op) = at
-first_expr (CompoundLiteral at ss d items comma) = at
+first_expr (CompoundLiteral at t items comma) = at
 first_expr (Prefix at op e) = at
 first_expr (Unary at op e) = at
 first_expr (SizeofExpr at e) = at
-first_expr (SizeofType at ss d) = at
-first_expr (AlignofType at ss d) = at
-first_expr (Cast at ss d e) = at
+first_expr (SizeofType at t) = at
+first_expr (AlignofType at t) = at
+first_expr (Cast at t e) = at
 first_expr (Binary at op l r) = at
 first_expr (Logical at op l r) = at
 first_expr (Conditional at c a b) = at
@@ -40,6 +40,9 @@ first_specifier (EnumBody at tag es comma) = at
 abbrev pub first_specifiers : SpecifierTrees → Option ℕ
 first_specifiers NoSpecifiers = None
 first_specifiers (MoreSpecifiers s ss) = Some (first_specifier s)
+
+abbrev pub first_type_name : TypeNameTree → Option ℕ
+first_type_name (TypeName ss d) = first_specifiers ss
 
 abbrev pub first_declarator : DeclaratorTree → ℕ
 first_declarator (Declared at x) = at
