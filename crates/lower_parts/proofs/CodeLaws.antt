@@ -21,7 +21,7 @@ use Rattle.cil_tree.specs.declared.statements.Instr.TheVariants.{Set, Call, Zero
 use Rattle.cil_tree.specs.declared.statements.Stmt.{Stmt, Instr as Do}
 use Rattle.cil_tree.specs.Tree as plain
 use Rattle.cil_tree.specs.View.{exp_of, lval_of, host_of, offsets_of}
-use Rattle.cil_tree.proofs.Views.{at_value}
+use Rattle.cil_tree.proofs.Views.{at_value, at_address, at_start}
 use Rattle.cil_nodes.specs.Built.{IsConst, IsValue, IsBin, IsAddress, IsCast, IsAt, IsIf, IsField, IsElement, part_of, joined}
 use Rattle.cil_nodes.proofs.Made.{field_is, element_is}
 use Rattle.lower_parts.specs.declared.places.Kept.{Kept}
@@ -146,7 +146,7 @@ keeps_whole (ToGlobal n) place old new whole same = (whole, same)
 keeps_whole (ToLocal n) place old new whole same = (whole, same)
 keeps_whole (Behind n) place old new whole same = absurd whole
 
-pub whole_is_variable : (kept : Kept) (place : Lval) → IsWhole kept place → (nodes : List Node) → is_variable (lval_of nodes place) ≡ true
+whole_is_variable : (kept : Kept) (place : Lval) → IsWhole kept place → (nodes : List Node) → is_variable (lval_of nodes place) ≡ true
 whole_is_variable (ToGlobal n) place whole nodes = ap is_variable (whole.at nodes)
 whole_is_variable (ToLocal n) place whole nodes = ap is_variable (whole.at nodes)
 whole_is_variable (Behind n) place whole nodes = absurd whole
@@ -163,6 +163,18 @@ place_kept true kept place next old new e keeps names = (kept, keeps, names)
 place_kept false kept place next old new e keeps names = cc
 
 -- members of values
+
+pub value_whole : (x : Exp) (place : Lval) (kept : Kept) → x ≡ exps.Lval place → IsWhole kept place → (nodes : List Node) → is_variable_value (exp_of nodes x) ≡ true
+value_whole x place kept is whole nodes = ap is_variable_value (at_value nodes x place is) ∙ whole_is_variable kept place whole nodes
+
+pub value_far : (x : Exp) (place : Lval) → x ≡ exps.Lval place → ((nodes : List Node) → is_variable (lval_of nodes place) ≡ false) → (nodes : List Node) → is_variable_value (exp_of nodes x) ≡ false
+value_far x place is far nodes = ap is_variable_value (at_value nodes x place is) ∙ far nodes
+
+pub address_apart : (x : Exp) (place : Lval) → x ≡ exps.AddrOf place → (nodes : List Node) → is_variable_value (exp_of nodes x) ≡ false
+address_apart x place is nodes = ap is_variable_value (at_address nodes x place is)
+
+pub start_apart : (x : Exp) (place : Lval) → x ≡ exps.StartOf place → (nodes : List Node) → is_variable_value (exp_of nodes x) ≡ false
+start_apart x place is nodes = ap is_variable_value (at_start nodes x place is)
 
 pub held_apart : (e : TypedExp) (x y : Exp) (old new : List Stmt) → is_found e.node.value ≡ false → y ≡ x → new ≡ old → IsHeld e x old new y
 held_apart e x y old new apart same none = record { at = λ nodes. left_stays (is_found e.node.value && not (is_variable_value (exp_of nodes x))) x y old new (ap (λ b. b && not (is_variable_value (exp_of nodes x))) apart) same none }

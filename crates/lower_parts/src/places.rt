@@ -261,12 +261,15 @@ fn is_found(e: &TypedExp) -> bool
 }
 
 /// Whether an expression is the value of a whole variable.
-#[tactic(auto, using(crate::proofs::CodeLaws::whole_is_variable, cil_tree::proofs::Views::at_value, cil_tree::proofs::Views::at_address, cil_tree::proofs::Views::at_start))]
+#[tactic(auto, using(crate::proofs::CodeLaws::value_whole, crate::proofs::CodeLaws::value_far, crate::proofs::CodeLaws::address_apart, crate::proofs::CodeLaws::start_apart))]
 fn is_variable_value(x: &Exp) -> bool
     ensures { (nodes : List Node) → is_variable_value (exp_of nodes x.now) ≡ result }
 {
     match x {
-        Exp::Lval(place) => plain(place).is_some(),
+        Exp::Lval(place) => match plain(place) {
+            Some(_) => true,
+            None => false,
+        },
         Exp::Const(..)
         | Exp::Un(..)
         | Exp::Bin(..)
@@ -295,7 +298,6 @@ pub fn held(f: &mut FunctionOut, e: &TypedExp, x: Exp, out: &mut Vec<Stmt>) -> R
 }
 
 /// A member of the value of a struct or union, which stands somewhere.
-#[tactic(auto, using(crate::proofs::CodeLaws::member_read))]
 pub fn member_of_value(x: Exp, i: u32) -> Result<Exp, Memory>
     ensures { IfOk result (IsMemberOf x i) }
 {
