@@ -26,6 +26,7 @@ use decl_types::Position;
 use decl_types::Prototype;
 use decl_types::heading_of;
 use decl_types::qualifiers;
+use init_parts::Designated;
 use init_parts::Filled;
 use init_parts::Filling;
 use init_parts::Level;
@@ -63,6 +64,7 @@ use typed_parts::Walker;
 use typed_parts::add_anonymous;
 use typed_parts::add_member;
 use typed_parts::align_of;
+use typed_parts::anonymous_body;
 use typed_parts::arrow;
 use typed_parts::assign;
 use typed_parts::binary;
@@ -293,12 +295,12 @@ pub fn specifiers(
             Specifier::Members(at, _, _, ms) => {
                 let a = opened(w, ss)?;
                 members(w, a, ms)?;
-                return closed(w, *at, a);
+                return closed(w, ss, *at, a);
             }
             Specifier::Enumerators(at, _, es, _) => {
                 let a = opened(w, ss)?;
                 enumerators(w, a, es)?;
-                return closed(w, *at, a);
+                return closed(w, ss, *at, a);
             }
             Specifier::Storage(..)
             | Specifier::Basic(..)
@@ -331,10 +333,10 @@ fn member_declaration(
 ) -> Result<(), WalkStop> {
     match m {
         MemberDeclaration::Members(ss, ds) => {
-            let base = specifiers(w, ss, Behind::Declarators)?;
             if ds.is_empty() {
-                return add_anonymous(w, a, ss, base);
+                return anonymous(w, a, ss);
             }
+            let base = specifiers(w, ss, Behind::Declarators)?;
             for d in ds {
                 member_declarator(w, a, last, base, d)?;
             }
@@ -342,6 +344,14 @@ fn member_declaration(
         }
         MemberDeclaration::StaticAssert(s) => static_assert(w, s),
     }
+}
+
+/// A declaration among members without declarators (C11 6.7.2.1p13).
+#[cycle(walk)]
+fn anonymous(w: &mut Walker<'_>, a: AggId, ss: &[Specifier]) -> Result<(), WalkStop> {
+    let ms = anonymous_body(ss)?;
+    let ty = specifiers(w, ss, Behind::Declarators)?;
+    add_anonymous(w, a, ss, ms, ty)
 }
 
 /// A declarator among members.
@@ -667,7 +677,7 @@ fn expression_item(
     put_item(w, filling, levels, place, e, x)
 }
 
-/// The designators of an item: the type of the part that they name, if there are some (C11 6.7.9p6, p7).
+/// The designators of an item: the part that they name, if there are some (C11 6.7.9p6, p7).
 #[cycle(walk)]
 fn designators(
     w: &mut Walker<'_>,
@@ -675,19 +685,19 @@ fn designators(
     levels: &mut Levels,
     place: Place,
     ds: &[Designator],
-) -> Result<Option<QualType>, WalkStop> {
+) -> Result<Option<Designated>, WalkStop> {
     if !ds.is_empty() {
         levels.restart();
     }
     let mut place = place;
     for d in ds {
-        let ty = designator(w, filling, levels, place, d)?;
-        place.designated = Some(ty);
+        let part = designator(w, filling, levels, place, d)?;
+        place.designated = Some(part);
     }
     Ok(place.designated)
 }
 
-/// A designator, in the part that those before it name. The type of the part that it names.
+/// A designator, in the part that those before it name. The part that it names.
 #[cycle(walk)]
 fn designator(
     w: &mut Walker<'_>,
@@ -695,19 +705,31 @@ fn designator(
     levels: &mut Levels,
     place: Place,
     d: &Designator,
-) -> Result<QualType, WalkStop> {
+) -> Result<Designated, WalkStop> {
     match d {
         Designator::Index(at, e) => {
             let x = expr(w, e)?;
             let v = constant_value(w, expr_at(e), &x)?;
-            enter_designated(w, filling, levels, place, *at)?;
-            choose_element(w, filling, levels, place.base, *at, v)
+            let flexible = enter_designated(w, filling, levels, place, *at)?;
+            let ty = choose_element(w, filling, levels, place.base, *at, v)?;
+            Ok(Designated { ty, flexible })
         }
         Designator::Member(at, n) => {
-            enter_designated(w, filling, levels, place, *at)?;
-            choose_named(w, filling, levels, place.base, *at, *n)
+            let flexible = enter_designated(w, filling, levels, place, *at)?;
+            let ty = choose_named(w, filling, levels, place.base, *at, *n)?;
+            Ok(Designated { ty, flexible })
         }
     }
+}
+
+/// Refuses a designator, which a scalar has no part for, behind its index (C11 6.7.9p6, p7).
+#[cycle(walk)]
+fn no_part(w: &mut Walker<'_>, d: &Designator) -> Result<(), WalkStop> {
+    if let Designator::Index(_, e) = d {
+        let x = expr(w, e)?;
+        constant_value(w, expr_at(e), &x)?;
+    }
+    Err(violated(designator_at(d), Code::Initialiser))
 }
 
 /// A brace list for a scalar: one item without designators (C11 6.7.9p11).
@@ -745,7 +767,7 @@ fn scalar_item(
     x: &InitItem,
 ) -> Result<(), WalkStop> {
     if let [first, ..] = x.designators.as_slice() {
-        return Err(violated(designator_at(first), Code::Initialiser));
+        return no_part(w, first);
     }
     match &x.init {
         Init::Expr(e) => {

@@ -48,9 +48,10 @@ of_enumerator (Constraint Reserved) = true
 of_enumerator (Limit ObjectSize) = true
 of_enumerator _ = false
 
--- the end of a body (6.7.2.1p8)
+-- the end of a body (6.7.2.1p8), and the qualifiers beside it (6.7.3p2)
 abbrev pub of_body : Fault → Bool
 of_body (Constraint Incomplete) = true
+of_body (Constraint Restrict) = true
 of_body (Limit ObjectSize) = true
 of_body _ = false
 

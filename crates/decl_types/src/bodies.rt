@@ -278,6 +278,9 @@ impl Bodies {
         self.closed = None;
         let members = name_anonymous(self.alloc, b.members, names, made)?;
         laid(t.complete(a, Members::new(members)))?;
+        if quals.restricted {
+            return Err(bad(Code::Restrict));
+        }
         if !tagged {
             self.closed = Some(ClosedBody {
                 agg: a,

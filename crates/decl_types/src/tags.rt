@@ -32,6 +32,11 @@ fn is_alone(s: &[Specifier], behind: Behind, kind: AggKind) -> bool {
     s.len() == 1 && behind == Behind::Nothing && kind != AggKind::Enum
 }
 
+/// Whether a tag is that of an enum whose list is not over (C11 6.7.2.3p3).
+fn is_unlisted(tag: Tag, t: &Types) -> bool {
+    tag.kind == AggKind::Enum && t.members(tag.agg).is_none()
+}
+
 /// The tag of a body.
 fn new_tag(tag: Option<NameId>, names: &NamePool) -> Option<NewName> {
     match tag {
@@ -91,7 +96,7 @@ impl Declarer {
         Ok(agg)
     }
 
-    /// The aggregate of a tag without a body (C11 6.7.2.3): the visible one, else a new one. An enum has its body before (6.7.2.3p3).
+    /// The aggregate of a tag without a body (C11 6.7.2.3): the visible one, else a new one. An enum has its whole body before (6.7.2.3p3).
     fn tagged(
         &mut self,
         kind: AggKind,
@@ -103,7 +108,7 @@ impl Declarer {
     {
         match visible {
             Some(tag) => {
-                if tag.kind != kind {
+                if tag.kind != kind || is_unlisted(tag, t) {
                     return Err(bad(Code::Tag));
                 }
                 Ok(tag.agg)
@@ -190,7 +195,7 @@ impl Declarer {
 
     /// The aggregate of specifiers with a body, whose tag is in scope from here on (C11 6.2.1p7). It is open until `close_body`.
     ///
-    /// `Specifiers`, `Tag`, `Reserved` and `Restrict` as by `words`; `Tag` also where the tag has a body already.
+    /// `Specifiers`, `Tag` and `Reserved` as by `words`; `Tag` also where the tag has a body already.
     pub fn open_body(
         &mut self,
         s: &[Specifier],
@@ -225,9 +230,6 @@ impl Declarer {
             None => laid(t.add_agg(kind, None))?,
             Some(n) => self.bodied(kind, n, t)?,
         };
-        if quals.restricted {
-            return Err(bad(Code::Restrict));
-        }
         self.bodies.open(Opening {
             agg,
             kind,
@@ -309,7 +311,8 @@ impl Declarer {
 
     /// Ends a body, and gives the type of its aggregate, with the qualifiers that stand beside it.
     ///
-    /// At the first token of the specifiers: `Incomplete` where there is no member, and the limit on objects.
+    /// At the first token of the specifiers: `Incomplete` where there is no member, and the limit on objects. `Restrict` at such a qualifier, which
+    /// no struct, union or enum takes (C11 6.7.3p2).
     pub fn close_body(
         &mut self,
         a: AggId,

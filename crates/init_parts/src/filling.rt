@@ -177,7 +177,7 @@ pub fn descend(filling: &mut Filling, levels: &mut Levels, of: Composite) -> Res
 }
 
 /// Whether a part is a flexible array member (C11 6.7.2.1p18).
-fn is_flexible(t: &Types, ty: QualType) -> bool {
+pub(crate) fn is_flexible(t: &Types, ty: QualType) -> bool {
     match t.class(ty.of) {
         Class::Array(_, None) => true,
         Class::Array(_, Some(_))
@@ -256,10 +256,15 @@ fn wants_characters(wanted: Wanted) -> bool {
     }
 }
 
+/// The refusal of an item, which begins with a token, that would initialise a flexible array member (own).
+pub(crate) fn flexible_at(item: u32) -> WalkStop {
+    WalkStop::At(item, Fault::Excluded(Feature::FlexibleInit))
+}
+
 /// Refuses an item that would initialise a flexible array member (own).
 pub fn not_flexible(t: &Types, ty: QualType, item: u32) -> Result<(), WalkStop> {
     if is_flexible(t, ty) {
-        Err(WalkStop::At(item, Fault::Excluded(Feature::FlexibleInit)))
+        Err(flexible_at(item))
     } else {
         Ok(())
     }

@@ -13,7 +13,7 @@ mod stores;
 pub use filling::{Filled, Filling, Storage, is_character_array, not_flexible};
 pub use levels::{Composite, Level, Levels, Next, composite_of};
 pub use stores::{
-    Place, choose_element, choose_named, chosen, enter_designated, list_at, literal_place,
-    literal_storage, literal_type, literals, only_string, put_converted, put_item, put_literals,
-    put_string_item, put_whole, renew,
+    Designated, Place, choose_element, choose_named, chosen, enter_designated, list_at,
+    literal_place, literal_storage, literal_type, literals, only_string, put_converted, put_item,
+    put_literals, put_string_item, put_whole, renew,
 };

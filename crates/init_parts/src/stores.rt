@@ -1,6 +1,6 @@
 use crate::filling::{
-    Filled, Filling, Storage, Wanted, choose, descend, is_character_array, next_chosen,
-    not_flexible, settle, wanted_by,
+    Filled, Filling, Storage, Wanted, choose, descend, flexible_at, is_character_array,
+    is_flexible, next_chosen, settle, wanted_by,
 };
 use crate::levels::{Composite, Levels, composite_of, has_element};
 use c_places::{expr_at, item_at};
@@ -20,12 +20,20 @@ use typed_tree::{
 };
 use unit_types::{Class, Types};
 
+/// The part that designators name (C11 6.7.9p6, p7).
+#[derive(Clone, Copy)]
+pub struct Designated {
+    pub ty: QualType,
+    /// Whether it stands in a flexible array member.
+    pub flexible: bool,
+}
+
 /// Where an item stands: the way to its part, behind the path to the object of its brace list, and the item's first token.
 #[derive(Clone, Copy)]
 pub struct Place<'a> {
     pub base: &'a Path,
-    /// The type of the part that its designators name, if it has some.
-    pub designated: Option<QualType>,
+    /// The part that its designators name, if it has some.
+    pub designated: Option<Designated>,
     pub item: u32,
 }
 
@@ -80,7 +88,7 @@ pub fn put_converted(
     put(w, filling, path, ty, expr_at(source), value)
 }
 
-/// Gives an object an expression without braces (C11 6.7.9p11, p13): an array has none.
+/// Gives an object an expression without braces (C11 6.7.9p11, p13); no array takes one.
 pub fn put_whole(
     w: &mut Walker<'_>,
     filling: &mut Filling,
@@ -88,9 +96,6 @@ pub fn put_whole(
     source: &Expr,
     e: TypedExp,
 ) -> Result<(), WalkStop> {
-    if let Class::Array(..) = w.types.class(ty.of) {
-        return Err(violated(expr_at(source), Code::Assignment));
-    }
     put_converted(w, filling, Path::new(w.alloc), ty, source, e)
 }
 
@@ -149,7 +154,7 @@ pub fn put_literals(
     put_string(w, filling, path, ty, at, bytes)
 }
 
-/// The part that an item initialises before braces that are left out count.
+/// The part that an item initialises before braces that are left out count. None in a flexible array member may be initialised (own).
 pub fn chosen(
     w: &Walker<'_>,
     filling: &mut Filling,
@@ -157,7 +162,12 @@ pub fn chosen(
     place: Place,
 ) -> Result<QualType, WalkStop> {
     match place.designated {
-        Some(ty) => Ok(ty),
+        Some(part) => {
+            if part.flexible {
+                return Err(flexible_at(place.item));
+            }
+            Ok(part.ty)
+        }
         None => next_chosen(w, filling, levels, place.base, place.item),
     }
 }
@@ -245,20 +255,23 @@ pub fn literals(e: &Expr) -> Option<(u32, &[Bytes])> {
     }
 }
 
-/// Goes down into the part on the way, where a designator stands behind the one that named it (C11 6.7.9p7).
+/// Goes down into the part on the way, where a designator stands behind the one that named it (C11 6.7.9p7). Whether what is there stands in a
+/// flexible array member.
 pub fn enter_designated(
     w: &Walker<'_>,
     filling: &mut Filling,
     levels: &mut Levels,
     place: Place,
     at: u32,
-) -> Result<(), WalkStop> {
-    let Some(ty) = place.designated else {
-        return Ok(());
+) -> Result<bool, WalkStop> {
+    let Some(part) = place.designated else {
+        return Ok(false);
     };
-    not_flexible(&w.types, ty, place.item)?;
-    match composite_of(&w.types, ty) {
-        Some(of) => descend(filling, levels, of),
+    match composite_of(&w.types, part.ty) {
+        Some(of) => {
+            descend(filling, levels, of)?;
+            Ok(part.flexible || is_flexible(&w.types, part.ty))
+        }
         None => Err(violated(at, Code::Initialiser)),
     }
 }

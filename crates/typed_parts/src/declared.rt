@@ -50,12 +50,30 @@ pub fn opened(w: &mut Walker<'_>, ss: &[Specifier]) -> Result<AggId, WalkStop> {
     placed_in(ss, w.declarer.open_body(ss, w.names, &mut w.types))
 }
 
+/// The token of a fault behind a body, whose specifier begins with a token: `restrict` beside it, or that one (C11 6.7.2.1p8, 6.7.3p2).
+fn behind_body(ss: &[Specifier], at: u32, fault: Fault) -> u32 {
+    let found = match fault {
+        Fault::Constraint(Code::Restrict) => restrict_at(ss),
+        _ => None,
+    };
+    match found {
+        Some(word) => word,
+        None => at,
+    }
+}
+
 /// The type of a struct, union or enum behind its body, whose specifier begins with a token.
-pub fn closed(w: &mut Walker<'_>, at: u32, a: AggId) -> Result<QualType, WalkStop> {
-    placed(
-        at,
-        w.declarer.close_body(a, w.names, &mut w.made, &mut w.types),
-    )
+pub fn closed(
+    w: &mut Walker<'_>,
+    ss: &[Specifier],
+    at: u32,
+    a: AggId,
+) -> Result<QualType, WalkStop> {
+    match w.declarer.close_body(a, w.names, &mut w.made, &mut w.types) {
+        Ok(ty) => Ok(ty),
+        Err(RuleStop::Bad(fault)) => Err(WalkStop::At(behind_body(ss, at, fault), fault)),
+        Err(RuleStop::Memory) => Err(WalkStop::Memory),
+    }
 }
 
 /// The token of the last name that the declarators of a member declaration declare.
@@ -104,6 +122,15 @@ fn tagless_body(ss: &[Specifier]) -> Option<&[MemberDeclaration]> {
     None
 }
 
+/// The body of the anonymous struct or union that a line of members without declarators is; any other such line is refused before what stands in it
+/// (C11 6.7.2.1p2, p13).
+pub fn anonymous_body(ss: &[Specifier]) -> Result<&[MemberDeclaration], WalkStop> {
+    match tagless_body(ss) {
+        Some(ms) => Ok(ms),
+        None => Err(violated(specifiers_at(ss)?, Code::Specifiers)),
+    }
+}
+
 /// The token of a declarator among members that declares a name.
 fn member_named(ds: &[MemberDeclarator], n: NameId) -> Option<u32> {
     for d in ds {
@@ -148,17 +175,15 @@ fn offered(m: &MemberDeclaration, n: NameId) -> Option<u32> {
     None
 }
 
-/// A member declaration without a declarator: an anonymous struct or union (C11 6.7.2.1p13).
+/// Adds an anonymous struct or union, with its body, to a struct or union (C11 6.7.2.1p13).
 pub fn add_anonymous(
     w: &mut Walker<'_>,
     a: AggId,
     ss: &[Specifier],
+    ms: &[MemberDeclaration],
     ty: QualType,
 ) -> Result<(), WalkStop> {
     let first = specifiers_at(ss)?;
-    let Some(ms) = tagless_body(ss) else {
-        return Err(violated(first, Code::Specifiers));
-    };
     match w.declarer.anonymous(a, ty, &w.types) {
         Err(RuleStop::Bad(Fault::Constraint(Code::Redeclared))) => {
             Err(violated(repeated_at(w, ms, first), Code::Redeclared))

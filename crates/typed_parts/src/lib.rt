@@ -16,8 +16,8 @@ mod tokens;
 mod walker;
 
 pub use declared::{
-    Company, Places, add_anonymous, add_member, closed, declare, declared_parameter, last_member,
-    opened, worded,
+    Company, Places, add_anonymous, add_member, anonymous_body, closed, declare,
+    declared_parameter, last_member, opened, worded,
 };
 pub use derivations::{
     Brackets, DeclaredName, Derivation, OwnList, Role, bound_value, bracket_quals, built,
