@@ -1,5 +1,5 @@
 -- Declarations that others complete, lists of parameters, tags and literals: units with their first fault, or without one; and which operators have an effect whatever their operands are.
-use Rattle.std.specs.Prelude.{◌≡◌, refl, codes, ℕ, true, List, [], ◌∷◌, ◌++◌, Option, Some, None}
+use Rattle.std.specs.Prelude.{◌≡◌, refl, codes, ℕ, true, [], ◌∷◌, ◌++◌, Option, Some, None}
 use Rattle.cil_base.specs.declared.kinds.Abi.TheVariants.{Lp64}
 use Rattle.cil_base.specs.declared.kinds.IntKind.TheVariants.{Char}
 use Rattle.cil_base.specs.declared.faults.Fault.TheVariants.{Constraint}
