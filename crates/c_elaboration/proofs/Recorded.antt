@@ -24,7 +24,7 @@ use Rattle.c_typing.specs.Nodes.{Node, NameNode, ConstantNode, IndexNode, CallNo
 use Rattle.c_typing.specs.Declarators.{at_first}
 use Rattle.c_typing.specs.Initialisers.{Filling, inits, beginning, whole_part}
 use Rattle.c_typing.specs.Steps.{at_node, by_node, by_operand, by_sized, by_argument, number_at, at_call, uses_name, designates, made_entity, nameless, literal_type, literal_of, logic_of, postfix_form, prefix_form, unary_node, assign_node, member_node, arrow_node, ats_of}
-use Rattle.c_typing.specs.Walk.{brace_at, is_static_here, may_be_initialised, alone, braces_for, number_of_literal, literal_object, filled, compound_literal, expr, exprs, items_in}
+use Rattle.c_typing.specs.Walk.{brace_at, is_static_here, may_be_initialised, alone, braces_for, number_of_literal, literal_object, filled, compound_literal, expr, exprs, items_in, named_type}
 use Rattle.c_elaboration.proofs.Unviolated.{stepped, node_given}
 use Rattle.c_elaboration.proofs.Forms.{OfRecords, value_records, as_records}
 use Rattle.c_elaboration.proofs.Members.{along_records, found_path}
