@@ -25,10 +25,10 @@ use Rattle.c_typing.specs.Steps.{Base, base_with}
 use Rattle.c_typing.specs.Walk.{expr, named}
 use Rattle.c_typing.specs.Statements.{in_a_loop, labels, number_or_none, default_label, maybe, effect, test, selector, start_of, statement, declarator, is_alone}
 use Rattle.typed_values.specs.Values.{single_in}
-use Rattle.c_semantics.specs.Places.{Activation, Here, entered, local_of, objects_between, arrays_between, in_block}
+use Rattle.c_semantics.specs.Places.{Activation, Here, entered, local_of, objects_between, arrays_between, in_block, literals_in, literals_in_maybe, own_literals_in, literal_objects}
 use Rattle.c_semantics.specs.Walks.{declared, item, substatement, case_label}
 use Rattle.c_semantics.specs.Operations.{Action}
-use Rattle.c_semantics.specs.Statements.{made_anew, object_of, initialises, arrives, c_declarators, c_declaration, ended, c_effect, c_maybe_effect, c_test, c_maybe_test, c_selector, c_return, c_start, within_loop, opens, labelled, cased, defaulted, has, has_in, has_item, has_inside, passing, nothing, Part, Again, is_of_block, is_item_of_block, objects_if, block_items, block, own_block, whole, sub_of, iterated, c_entered, c_items, c_item, c_part}
+use Rattle.c_semantics.specs.Statements.{made_anew, object_of, initialises, arrives, c_declarators, c_declaration, ended, c_effect, c_maybe_effect, c_test, c_maybe_test, c_selector, c_return, c_start, within_loop, opens, labelled, cased, defaulted, has, has_in, has_item, has_inside, passing, nothing, Part, Again, block_items, block, own_block, whole, sub_of, iterated, c_entered, c_items, c_item, c_part, item_objects}
 use Rattle.c_semantics.proofs.Matched.{Matched, Ready, gives_matched, undefined_matched, known_matched, changes_matched, bind_matched, leaves_matched, scoped_matched}
 use Rattle.c_semantics.proofs.Nodes.{used_m, taken_m, tested_m, initialised_m, steps_of_m}
 use Rattle.c_semantics.proofs.ExpressionsMatch.{parts_m, operand_m, typed_m, maybe_m, stmts_m, exp_m, init_m}
@@ -107,13 +107,13 @@ in_block_m a objects arrays go to m = leaves_matched a.number arrays {go = scope
 
 block_items_m : {n more : ℕ} {base : List ℕ} (a : Activation) (is : BlockItems) (h : Here) (go to : List Automatic → Here → State → Result Signal) → ((xs : List Automatic) (k : Here) → Matched n more base (go xs k) (to xs k)) → Matched n more base (block_items a is h go) (block_items a is h to)
 block_items_m a NoItems h go to m = m [] h
-block_items_m a (MoreItems i is) h go to m = stmts_m (item h.place i) h (λ ss k. block_items_m a is k (λ xs end. go (objects_if (is_item_of_block i) a h k ++ xs) end) (λ xs end. to (objects_if (is_item_of_block i) a h k ++ xs) end) (λ xs end. m (objects_if (is_item_of_block i) a h k ++ xs) end))
+block_items_m a (MoreItems i is) h go to m = stmts_m (item h.place i) h (λ ss k. block_items_m a is k (λ xs end. go (item_objects a i ss h k ++ xs) end) (λ xs end. to (item_objects a i ss h k ++ xs) end) (λ xs end. m (item_objects a i ss h k ++ xs) end))
 
 pub block_m : {n more : ℕ} {base : List ℕ} (a : Activation) (is : BlockItems) (h : Here) (go to : Action Signal) → Matched n more base go to → Matched n more base (block a is h go) (block a is h to)
 block_m a is h go to m = block_items_m a is h (λ xs end. in_block a xs (arrays_between a h end) go) (λ xs end. in_block a xs (arrays_between a h end) to) (λ xs end. in_block_m a xs (arrays_between a h end) go to m)
 
-own_block_m : {n more : ℕ} {base : List ℕ} (a : Activation) (h k : Here) (go to : Action Signal) → Matched n more base go to → Matched n more base (own_block a h k go) (own_block a h k to)
-own_block_m a h k go to m = in_block_m a (objects_between a h k) (arrays_between a h k) go to m
+own_block_m : {n more : ℕ} {base : List ℕ} (a : Activation) (h k : Here) (literals : List ℕ) (go to : Action Signal) → Matched n more base go to → Matched n more base (own_block a h k literals go) (own_block a h k literals to)
+own_block_m a h k literals go to m = in_block_m a (objects_between a h k literals) (arrays_between a h k) go to m
 
 whole_m : {n more : ℕ} {base : List ℕ} (a : Activation) (x : StmtTree) (go to : Here → Goer) → ((k : Here) → MatchedGoer n more base (go k) (to k)) → (h : Here) → MatchedGoer n more base (whole a go x h) (whole a to x h)
 whole_m a (Labelled at x y) go to m h en = m h en
@@ -121,12 +121,12 @@ whole_m a (Case at e y) go to m h en = m h en
 whole_m a (Default at y) go to m h en = m h en
 whole_m a (Compound at is) go to m h en = block_m a is (entered h) (go (entered h) en) (to (entered h) en) (m (entered h) en)
 whole_m a (Expression at e) go to m h en = m h en
-whole_m a (If at c y) go to m h en = typed_m (test c) (entered h) (λ e k. own_block_m a (entered h) k (go (entered h) en) (to (entered h) en) (m (entered h) en))
-whole_m a (IfElse at c y z) go to m h en = typed_m (test c) (entered h) (λ e k. own_block_m a (entered h) k (go (entered h) en) (to (entered h) en) (m (entered h) en))
-whole_m a (Switch at e y) go to m h en = typed_m (selector e) (entered h) (λ x k. own_block_m a (entered h) k (go (entered h) en) (to (entered h) en) (m (entered h) en))
-whole_m a (While at c y) go to m h en = typed_m (test c) (entered h) (λ e k. own_block_m a (entered h) k (go (entered h) en) (to (entered h) en) (m (entered h) en))
-whole_m a (Do at y c) go to m h en = stmts_m (substatement (in_a_loop h.place) y) (entered h) (λ ss k. typed_m (test c) k (λ e j. own_block_m a k j (go (entered h) en) (to (entered h) en) (m (entered h) en)))
-whole_m a (For at start c step y) go to m h en = stmts_m (start_of start) (entered h) (λ ss k. maybe_m (maybe test c) k (λ e j. maybe_m (maybe effect step) j (λ f i. own_block_m a (entered h) i (go (entered h) en) (to (entered h) en) (m (entered h) en))))
+whole_m a (If at c y) go to m h en = typed_m (test c) (entered h) (λ e k. own_block_m a (entered h) k (literals_in e) (go (entered h) en) (to (entered h) en) (m (entered h) en))
+whole_m a (IfElse at c y z) go to m h en = typed_m (test c) (entered h) (λ e k. own_block_m a (entered h) k (literals_in e) (go (entered h) en) (to (entered h) en) (m (entered h) en))
+whole_m a (Switch at e y) go to m h en = typed_m (selector e) (entered h) (λ x k. own_block_m a (entered h) k (literals_in x) (go (entered h) en) (to (entered h) en) (m (entered h) en))
+whole_m a (While at c y) go to m h en = typed_m (test c) (entered h) (λ e k. own_block_m a (entered h) k (literals_in e) (go (entered h) en) (to (entered h) en) (m (entered h) en))
+whole_m a (Do at y c) go to m h en = stmts_m (substatement (in_a_loop h.place) y) (entered h) (λ ss k. typed_m (test c) k (λ e j. own_block_m a k j (literals_in e) (go (entered h) en) (to (entered h) en) (m (entered h) en)))
+whole_m a (For at start c step y) go to m h en = stmts_m (start_of start) (entered h) (λ ss k. maybe_m (maybe test c) k (λ e j. maybe_m (maybe effect step) j (λ f i. own_block_m a (entered h) i (own_literals_in ss ++ (literals_in_maybe e ++ literals_in_maybe f)) (go (entered h) en) (to (entered h) en) (m (entered h) en))))
 whole_m a (Goto at x) go to m h en = m h en
 whole_m a (Continue at) go to m h en = m h en
 whole_m a (Break at) go to m h en = m h en
@@ -146,7 +146,7 @@ now {n} w = w.calls n (omega arith)
 
 sub_m : {n more : ℕ} {base : List ℕ} (a : Activation) {enter also : Enter} {again once : Again} → Within n more base enter also again once → (x : StmtTree) (go to : Here → Goer) → ((k : Here) → MatchedGoer n more base (go k) (to k)) → (h : Here)
     → MatchedGoer n more base (sub_of a again x go h) (sub_of a once x to h)
-sub_m a {again = again} {once = once} w x go to m h en = stmts_m (statement h.place x) h (λ ss k. in_block_m a (objects_if (is_of_block x) a h k) (arrays_between a h k) _ _
+sub_m a {again = again} {once = once} w x go to m h en = stmts_m (statement h.place x) h (λ ss k. in_block_m a (literal_objects a k.env.literals (own_literals_in ss)) (arrays_between a h k) _ _
     (caught_m (has x h) (whole a go x h en) (whole a to x h en) (again (Body x h)) (once (Body x h)) (whole_m a x go to m h en) (λ i l. w.behind i l (Body x h)) (w.grows (Body x h))))
 
 iterated_m : {n more : ℕ} {base : List ℕ} (a : Activation) {enter also : Enter} {again once : Again} → Within n more base enter also again once → (c step : Option ExprTree) (y : StmtTree) (go to : Here → Goer)

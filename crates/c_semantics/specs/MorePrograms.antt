@@ -18,6 +18,15 @@ arrays_in_values =
     ∷ one_unit (codes "struct s { int n; int a[]; }; struct s f(void) { struct s x; x.n = 1; return x; } int main(void) { int *p = f().a; return p != 0; }") 9 (Exit 1 [])
     ∷ []
 
+-- compound literals in what is not asked for: in a bound, a case label and an enumerator, which are constant expressions, in an operand of `sizeof`, and in a bound in its type
+abbrev pub unasked_literals : List Program
+unasked_literals =
+    one_unit (codes "int main(void) { int a[1 ? 2 : *(int []){ 3 }]; return sizeof a == 2 * sizeof(int); }") 9 (Exit 1 [])
+    ∷ one_unit (codes "int main(void) { switch (2) { case 1 ? 2 : *(int []){ 3 }: return 4; } return 5; }") 9 (Exit 4 [])
+    ∷ one_unit (codes "int main(void) { enum { E = 1 ? 6 : *(int []){ 3 } }; int x = *(int []){ E }; return x; }") 9 (Exit 6 [])
+    ∷ one_unit (codes "int main(void) { int n = sizeof((int []){ 1, 2, 3 }) / sizeof(int); return n + sizeof(char [1 ? 4 : *(int []){ 3 }]) + *(int []){ 1 }; }") 9 (Exit 8 [])
+    ∷ []
+
 -- the units of a sample: the seed 1, two units
 
 abbrev pub first_sample : List ℕ

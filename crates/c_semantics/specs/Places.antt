@@ -1,5 +1,5 @@
 -- Definition: where an expression or a statement stands while it runs: what is declared there (C11 6.2.1), and the activation's objects (6.2.4p5 to p8).
-use Rattle.std.specs.Prelude.{ℕ, zero, suc, ◌+◌, ◌-◌, Bool, true, false, ◌&&◌, not, List, [], ◌∷◌, ◌++◌, length, drop, Option, Some, None}
+use Rattle.std.specs.Prelude.{ℕ, zero, suc, ◌+◌, ◌-◌, Bool, true, false, ◌&&◌, not, List, [], ◌∷◌, ◌++◌, length, drop, Option, Some, None, slice_get}
 use Rattle.std.specs.Option.{option_map, option_and_then}
 use Rattle.type_graph.specs.Shapes.{Shape}
 use Rattle.byte_mem.specs.declared.pointers.ObjName.{ObjName}
@@ -139,6 +139,78 @@ abbrev pub arrays_in_list : List Stmt → ℕ
 arrays_in_list [] = 0
 arrays_in_list (s ∷ ss) = arrays_in_stmt s + arrays_in_list ss
 
+-- the compound literals in a typed expression, by their numbers in the function (6.5.2.5p5). Where C11 asks for a constant expression a typed tree has its value alone, and of an operand of `sizeof` the size: a literal in those is not here, and no object is made for it (6.6p2, p3, 6.5.3.4p2)
+abbrev mutual
+  pub literals_in : Typed → List ℕ
+  literals_in (Has q s effect form) = literals_in_form form
+
+  literals_in_form : Form → List ℕ
+  literals_in_form (Integer n) = []
+  literals_in_form (Local n) = []
+  literals_in_form (Literal n init) = n ∷ literals_in_inits init
+  literals_in_form (Entity n) = []
+  literals_in_form (Load e) = literals_in e
+  literals_in_form (Decay e) = literals_in e
+  literals_in_form (Address e) = literals_in e
+  literals_in_form (Indirect e) = literals_in e
+  literals_in_form (Subscript l r) = literals_in l ++ literals_in r
+  literals_in_form (Member e a i) = literals_in e
+  literals_in_form (Convert e) = literals_in e
+  literals_in_form (Unary op e) = literals_in e
+  literals_in_form (Binary op l r) = literals_in l ++ literals_in r
+  literals_in_form (Logical op l r) = literals_in l ++ literals_in r
+  literals_in_form (Conditional c y n) = literals_in c ++ (literals_in y ++ literals_in n)
+  literals_in_form (Comma l r) = literals_in l ++ literals_in r
+  literals_in_form (Assign l r) = literals_in l ++ literals_in r
+  literals_in_form (Compute op at l r) = literals_in l ++ literals_in r
+  literals_in_form (Step form at e) = literals_in e
+  literals_in_form (Call f es) = literals_in f ++ literals_in_arguments es
+
+  literals_in_arguments : Arguments → List ℕ
+  literals_in_arguments NoArguments = []
+  literals_in_arguments (MoreArguments e es) = literals_in e ++ literals_in_arguments es
+
+  literals_in_init : Init → List ℕ
+  literals_in_init (Zero p) = []
+  literals_in_init (Scalar p e) = literals_in e
+  literals_in_init (Constant' p c) = []
+  literals_in_init (Aggregate p e) = literals_in e
+  literals_in_init (Bytes p bytes) = []
+
+  pub literals_in_inits : Inits → List ℕ
+  literals_in_inits NoInits = []
+  literals_in_inits (MoreInits i is) = literals_in_init i ++ literals_in_inits is
+
+abbrev pub literals_in_maybe : Option Typed → List ℕ
+literals_in_maybe None = []
+literals_in_maybe (Some e) = literals_in e
+
+abbrev pub literals_declared : Option Inits → List ℕ
+literals_declared None = []
+literals_declared (Some is) = literals_in_inits is
+
+-- those that are of the block in which a statement stands: a compound, selection or iteration statement is a block, and has its own (6.8.2p2, 6.8.4p3, 6.8.5p5)
+abbrev pub own_literals : Stmt → List ℕ
+own_literals (Expr e) = literals_in e
+own_literals (Declare n init) = literals_declared init
+own_literals (Block ss) = []
+own_literals (If e ss rs) = []
+own_literals (Switch e ss) = []
+own_literals (While e ss) = []
+own_literals (Do ss e) = []
+own_literals (For start test step ss) = []
+own_literals (Label n) = []
+own_literals (Case kind v) = []
+own_literals Default = []
+own_literals (Goto n) = []
+own_literals Break = []
+own_literals Continue = []
+own_literals (Return e) = literals_in_maybe e
+
+abbrev pub own_literals_in : List Stmt → List ℕ
+own_literals_in [] = []
+own_literals_in (s ∷ ss) = own_literals s ++ own_literals_in ss
+
 -- what the walk over a unit finds at a place, and the place behind it: it is what C's rules say of types and declarations (6.2, 6.5, 6.7); what has a fault has no meaning
 
 abbrev pub here_behind : {A : Type 0} → (A → ℕ) → Here → A × Env → Here
@@ -204,13 +276,18 @@ abbrev pub locals_from : Activation → ℕ → List LocalObject → List Automa
 locals_from a n [] = []
 locals_from a n (l ∷ ls) = sized (size_in a.types l.shape) n (locals_from a (suc n) ls)
 
-abbrev pub literals_from : Activation → ℕ → List LiteralObject → List Automatic
-literals_from a n [] = []
-literals_from a n (l ∷ ls) = sized (size_in a.types l.shape) (literal_number a n) (literals_from a (suc n) ls)
+abbrev pub literal_in : Activation → ℕ → Option LiteralObject → List Automatic
+literal_in a n None = []
+literal_in a n (Some l) = sized (size_in a.types l.shape) (literal_number a n) []
 
--- the objects that are declared, and those of the compound literals, between two places
-abbrev pub objects_between : Activation → Here → Here → List Automatic
-objects_between a h k = locals_from a (length h.env.locals) (drop (length h.env.locals) k.env.locals) ++ literals_from a (length h.env.literals) (drop (length h.env.literals) k.env.literals)
+-- the objects of the compound literals with these numbers, of those that a function has
+abbrev pub literal_objects : Activation → List LiteralObject → List ℕ → List Automatic
+literal_objects a ls [] = []
+literal_objects a ls (n ∷ ns) = literal_in a n (slice_get ls n) ++ literal_objects a ls ns
+
+-- the objects that are declared between two places, and those of compound literals before the second
+abbrev pub objects_between : Activation → Here → Here → List ℕ → List Automatic
+objects_between a h k literals = locals_from a (length h.env.locals) (drop (length h.env.locals) k.env.locals) ++ literal_objects a k.env.literals literals
 
 abbrev pub numbers_from : ℕ → ℕ → List ℕ
 numbers_from n zero = []

@@ -21,7 +21,7 @@ use Rattle.c_typing.specs.Specifiers.{Position, InBlock, InFor}
 use Rattle.c_typing.specs.Steps.{Base, base_with}
 use Rattle.c_typing.specs.Walk.{expr, named}
 use Rattle.c_typing.specs.Statements.{in_a_loop, in_a_switch, labels, labels_in, labels_in_items, number_or_none, kind_or_int, default_label, maybe, effect, test, selector, start_of, statement, declarator, is_alone}
-use Rattle.c_semantics.specs.Places.{Activation, Here, undefined, with_walk, with_parts, with_operand, with_typed, with_maybe, with_stmts, entered, local_of, objects_between, arrays_between, in_block}
+use Rattle.c_semantics.specs.Places.{Activation, Here, undefined, with_walk, with_parts, with_operand, with_typed, with_maybe, with_stmts, entered, local_of, objects_between, arrays_between, in_block, literals_in, literals_in_maybe, own_literals_in, literal_objects}
 use Rattle.c_semantics.specs.Walks.{declared, item, substatement, case_label}
 use Rattle.c_semantics.specs.Operations.{Action, ◌>>=◌, gives, known, changes, used, taken, tested, single, Object, initialised, steps_of}
 use Rattle.c_semantics.specs.Expressions.{c_exp, c_init}
@@ -266,36 +266,15 @@ Part = PartOf StmtTree StmtTree ExprTree Here
 abbrev pub Again : Type 0
 Again = Part → Goer
 
--- whether the objects of a statement's declarations and expressions are those of the block in which it stands
-abbrev pub is_of_block : StmtTree → Bool
-is_of_block (Labelled at x s) = is_of_block s
-is_of_block (Case at e s) = is_of_block s
-is_of_block (Default at s) = is_of_block s
-is_of_block (Compound at is) = false
-is_of_block (Expression at e) = true
-is_of_block (If at c y) = false
-is_of_block (IfElse at c y n) = false
-is_of_block (Switch at e s) = false
-is_of_block (While at c s) = false
-is_of_block (Do at s c) = false
-is_of_block (For at start c step s) = false
-is_of_block (Goto at x) = false
-is_of_block (Continue at) = false
-is_of_block (Break at) = false
-is_of_block (Return at e) = true
-
-abbrev pub is_item_of_block : BlockItem → Bool
-is_item_of_block (Declaring d) = true
-is_item_of_block (Doing s) = is_of_block s
-
-abbrev pub objects_if : Bool → Activation → Here → Here → List Automatic
-objects_if true a h k = objects_between a h k
-objects_if false a h k = []
+-- the objects of a block item that are the block's own
+abbrev pub item_objects : Activation → BlockItem → List Stmt → Here → Here → List Automatic
+item_objects a (Declaring d) ss h k = objects_between a h k (own_literals_in ss)
+item_objects a (Doing x) ss h k = literal_objects a k.env.literals (own_literals_in ss)
 
 -- a block's objects, and the place at its end
 abbrev pub block_items : Activation → BlockItems → Here → (List Automatic → Here → State → Result Signal) → State → Result Signal
 block_items a NoItems h next = next [] h
-block_items a (MoreItems i is) h next = with_stmts undefined (item h.place i) h (λ ss k. block_items a is k (λ objects end. next (objects_if (is_item_of_block i) a h k ++ objects) end))
+block_items a (MoreItems i is) h next = with_stmts undefined (item h.place i) h (λ ss k. block_items a is k (λ objects end. next (item_objects a i ss h k ++ objects) end))
 
 abbrev pub block : Activation → BlockItems → Here → (State → Result Signal) → State → Result Signal
 block a is h go s = block_items a is h (λ objects end. in_block a objects (arrays_between a h end) go) s
@@ -303,11 +282,11 @@ block a is h go s = block_items a is h (λ objects end. in_block a objects (arra
 -- a substatement is a block (6.8.4p3, 6.8.5p5)
 abbrev pub substatement_block : Activation → (Here → Goer) → Again → StmtTree → Here → Goer
 substatement_block a go again x h en s = with_stmts undefined (statement h.place x) h (λ ss k.
-    in_block a (objects_if (is_of_block x) a h k) (arrays_between a h k) (λ t. caught (has x h) (go h en t) (again (Body x h)))) s
+    in_block a (literal_objects a k.env.literals (own_literals_in ss)) (arrays_between a h k) (λ t. caught (has x h) (go h en t) (again (Body x h)))) s
 
 -- a selection or iteration statement is a block, whose objects are those of its own expressions and declarations; the parts that stand in it have theirs
-abbrev pub own_block : Activation → Here → Here → (State → Result Signal) → State → Result Signal
-own_block a h k go s = in_block a (objects_between a h k) (arrays_between a h k) go s
+abbrev pub own_block : Activation → Here → Here → List ℕ → (State → Result Signal) → State → Result Signal
+own_block a h k literals go s = in_block a (objects_between a h k literals) (arrays_between a h k) go s
 
 -- a whole statement, where `go` is what the statement does as a block that is entered
 abbrev pub whole : Activation → (Here → Goer) → StmtTree → Here → Goer
@@ -316,13 +295,13 @@ whole a go (Case at e y) h en s = go h en s
 whole a go (Default at y) h en s = go h en s
 whole a go (Compound at is) h en s = block a is (entered h) (go (entered h) en) s
 whole a go (Expression at e) h en s = go h en s
-whole a go (If at c y) h en s = with_typed (test c) (entered h) (λ e k. own_block a (entered h) k (go (entered h) en)) s
-whole a go (IfElse at c y n) h en s = with_typed (test c) (entered h) (λ e k. own_block a (entered h) k (go (entered h) en)) s
-whole a go (Switch at e y) h en s = with_typed (selector e) (entered h) (λ x k. own_block a (entered h) k (go (entered h) en)) s
-whole a go (While at c y) h en s = with_typed (test c) (entered h) (λ e k. own_block a (entered h) k (go (entered h) en)) s
-whole a go (Do at y c) h en s = with_stmts undefined (substatement (in_a_loop h.place) y) (entered h) (λ ss k. with_typed (test c) k (λ e j. own_block a k j (go (entered h) en))) s
+whole a go (If at c y) h en s = with_typed (test c) (entered h) (λ e k. own_block a (entered h) k (literals_in e) (go (entered h) en)) s
+whole a go (IfElse at c y n) h en s = with_typed (test c) (entered h) (λ e k. own_block a (entered h) k (literals_in e) (go (entered h) en)) s
+whole a go (Switch at e y) h en s = with_typed (selector e) (entered h) (λ x k. own_block a (entered h) k (literals_in x) (go (entered h) en)) s
+whole a go (While at c y) h en s = with_typed (test c) (entered h) (λ e k. own_block a (entered h) k (literals_in e) (go (entered h) en)) s
+whole a go (Do at y c) h en s = with_stmts undefined (substatement (in_a_loop h.place) y) (entered h) (λ ss k. with_typed (test c) k (λ e j. own_block a k j (literals_in e) (go (entered h) en))) s
 whole a go (For at start c step y) h en s =
-    with_stmts undefined (start_of start) (entered h) (λ ss k. with_maybe (maybe test c) k (λ e j. with_maybe (maybe effect step) j (λ f i. own_block a (entered h) i (go (entered h) en)))) s
+    with_stmts undefined (start_of start) (entered h) (λ ss k. with_maybe (maybe test c) k (λ e j. with_maybe (maybe effect step) j (λ f i. own_block a (entered h) i (own_literals_in ss ++ (literals_in_maybe e ++ literals_in_maybe f)) (go (entered h) en)))) s
 whole a go (Goto at x) h en s = go h en s
 whole a go (Continue at) h en s = go h en s
 whole a go (Break at) h en s = go h en s

@@ -13,7 +13,7 @@ use Rattle.type_graph.specs.Shapes.{Shape, VoidType, IntType, PtrType, ArrayType
 use Rattle.execution.specs.States.{State, with_memory, Result}
 use Rattle.execution.specs.Data.{Datum}
 use Rattle.execution.specs.Loops.{Body as Substatements}
-use Rattle.execution.specs.Calls.{Enter, Meaning, Object, Code, value_at_end, returns}
+use Rattle.execution.specs.Calls.{Enter, Meaning, Object, Code, value_at_end, returns, leaves}
 use Rattle.execution.specs.Linking.{Linkable}
 use Rattle.execution.specs.Runs.{run}
 use Rattle.typed_tree.specs.declared.units.EntityKind.{EntityKind}
@@ -22,7 +22,7 @@ use Rattle.typed_tree.specs.Units.{Unit as TypedTree, Entity as TreeEntity, Defi
 use Rattle.c_typing.specs.Types.{Aggregate, Member, Types, is_function}
 use Rattle.typed_values.specs.Units.{start_of}
 use Rattle.c_semantics.specs.Values.{kind_of, kinds_of}
-use Rattle.c_semantics.specs.Places.{Activation}
+use Rattle.c_semantics.specs.Places.{Activation, array_number, numbers_from, arrays_in_stmts}
 use Rattle.c_semantics.specs.Units.{activation, protect_parameters, zeros, image}
 use Rattle.typed_semantics.specs.Statements.{block, t_meaning}
 
@@ -41,9 +41,15 @@ pub record TypedUnit : Type 0 where
 
 -- functions (6.9.1)
 
+-- how many objects an activation has: parameters and declared objects, compound literals, and arrays in values
+abbrev pub object_count : Activation → Function → ℕ
+object_count a f = array_number a (arrays_in_stmts f.body)
+
+-- a body ends all objects of its activation (6.2.4p6): the parameters, which its call would end just behind it; each other one has been ended by its own block, if that was left
 abbrev pub body_in : Activation → Function → Datum → Enter → State → Result Datum
 body_in a f end enter s =
-    returns end (block a f f.body 0 (λ t. t_meaning a f enter (Substatements f.body 0) None (with_memory t (protect_parameters a 0 (take f.params f.locals) t.memory))) s)
+    leaves a.number (numbers_from 0 (object_count a f))
+    (returns end (block a f f.body 0 (λ t. t_meaning a f enter (Substatements f.body 0) None (with_memory t (protect_parameters a 0 (take f.params f.locals) t.memory))) s))
 
 abbrev pub body_meaning : Types → List ℕ → Function → Datum → Enter → ℕ → State → Result Datum
 body_meaning t entities f end enter act s = body_in (activation t entities f act) f end enter s
