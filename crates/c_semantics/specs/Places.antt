@@ -285,7 +285,7 @@ abbrev pub literal_objects : Activation → List LiteralObject → List ℕ → 
 literal_objects a ls [] = []
 literal_objects a ls (n ∷ ns) = literal_in a n (slice_get ls n) ++ literal_objects a ls ns
 
--- the objects that are declared between two places, and those of compound literals before the second
+-- the objects that are declared between two places, and those of the compound literals with these numbers, which stand before the second
 abbrev pub objects_between : Activation → Here → Here → List ℕ → List Automatic
 objects_between a h k literals = locals_from a (length h.env.locals) (drop (length h.env.locals) k.env.locals) ++ literal_objects a k.env.literals literals
 
