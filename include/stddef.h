@@ -10,6 +10,7 @@ typedef int wchar_t;
 #define NULL ((void *)0)
 #endif
 
+/* No constant expression, as 7.19p3 wants it: it is refused where one is asked, and `cil run` finds it undefined; gcc gives its value in the text. */
 #define offsetof(type, member) ((size_t)&((type *)0)->member)
 
 #endif
