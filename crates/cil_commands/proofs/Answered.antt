@@ -5,7 +5,8 @@ use Rattle.c_meaning.specs.SourceFile.{SourceFile}
 use Rattle.c_meaning.specs.Grammar.{Expression, IsUnit}
 use Rattle.outside.specs.Named.{Told}
 use Rattle.cil_tree.specs.Tree.{Program}
-use Rattle.cil_words.specs.Command.{steps_asked, merged_files}
+use Rattle.cil_words.specs.Command.{SampleWords, steps_asked, merged_files, sample_asked}
+use Rattle.sample_command.specs.Answers.{SampleSays}
 use Rattle.cil_commands.specs.Grammatical.{IsGrammatical}
 use Rattle.cil_commands.specs.Merge.{unit_asked, IsMergeAnswer, IsMergedTo, IsNoGrammar, IsRefused, IsRefusedLike, IfRefused}
 use Rattle.cil_lines.specs.Messages.{line_of}
@@ -79,14 +80,14 @@ refused_by None status names refused = tt
 refused_by (Some unit) status names refused = some_names status unit names refused
 
 -- a status is told by one line, also where the names are not known because memory is wanting
-pub record IsLine (told : Option Told) (words names : List (List ℕ)) (given : ℕ) (status : Status) : Type 0 where
+pub record IsLine (told : Option Told) (words names : List (List ℕ)) (given : ℕ) (status : Status) (taken taken' : Option (List ℕ)) : Type 0 where
   pub known : List (List ℕ)
   pub are : AreNames told words status known
-  pub says : SaysWith told words status known
+  pub says : SaysWith told words status known taken taken'
   pub line : line_of names given status ≡ line_of known (steps_asked words) status
 
-line_at : (told : Option Told) (words names : List (List ℕ)) (given : ℕ) (status : Status) → AreNames told words status names → SaysWith told words status names → given ≡ steps_asked words → IsLine told words names given status
-line_at told words names given status are says equal = record { known = names; are = are; says = says; line = ap (λ k. line_of names k status) equal }
+line_at : (told : Option Told) (words names : List (List ℕ)) (given : ℕ) (status : Status) (taken taken' : Option (List ℕ)) → AreNames told words status names → SaysWith told words status names taken taken' → given ≡ steps_asked words → IsLine told words names given status taken taken'
+line_at told words names given status taken taken' are says equal = record { known = names; are = are; says = says; line = ap (λ k. line_of names k status) equal }
 
 no_refusal : (asked : Option SourceFile) (names : List (List ℕ)) → IfSome asked (λ unit. IfRefused Memory (λ refusal. IsRefused unit refusal names))
 no_refusal None names = tt
@@ -96,25 +97,29 @@ no_refusal (Some unit) names = tt
 memory_names : (told : Option Told) (words : List (List ℕ)) → AreNames told words Memory (names_asked words)
 memory_names told words = record { begin = record { more = []; is = sym (append-nil _) }; files = tt; refused = no_refusal (unit_asked told words) (names_asked words) }
 
-memory_says : (told : Option Told) (words names : List (List ℕ)) → SaysWith told words Memory names
-memory_says told words names = record { units = λ none. units (all_under told (merged_files words)); links = λ several. links (all_under told (merged_files words)) }
+memory_says : (told : Option Told) (words names : List (List ℕ)) (taken taken' : Option (List ℕ)) → SaysWith told words Memory names taken taken'
+memory_says told words names taken taken' = record { units = λ none. units (all_under told (merged_files words)); links = λ several. links (all_under told (merged_files words)); sampled = sampled (sample_asked words) }
   where
     units : (asked : Option (List (List ℕ))) → IfSome asked (λ units. SaysOfUnits units (merged_files words) names Memory)
     units None = tt
     units (Some us) = tt
 
-    links : (asked : Option (List (List ℕ))) → IfSome asked (λ units. SaysOfLinks (common_asked words) (kept 0 units).units (merged_files words) names Memory)
+    links : (asked : Option (List (List ℕ))) → IfSome asked (λ units. SaysOfLinks (common_asked words) (kept 0 units).units (merged_files words) names Memory taken taken')
     links None = tt
     links (Some us) = tt
 
-pub line_by : (told : Option Told) (words names : List (List ℕ)) (given : ℕ) (status : Status) → (status ≢ Memory → AreNames told words status names) → SaysWith told words status names → given ≡ steps_asked words → IsLine told words names given status
-line_by told words names given Memory are says equal = record { known = names_asked words; are = memory_names told words; says = memory_says told words (names_asked words); line = refl }
-line_by told words names given Done are says equal = line_at told words names given Done (are (λ e. let is : Done ≡ Memory = e in cc)) says equal
-line_by told words names given (Exited s) are says equal = line_at told words names given (Exited s) (are (λ e. let is : Exited s ≡ Memory = e in cc)) says equal
-line_by told words names given StillRunning are says equal = line_at told words names given StillRunning (are (λ e. let is : StillRunning ≡ Memory = e in cc)) says equal
-line_by told words names given WentUndefined are says equal = line_at told words names given WentUndefined (are (λ e. let is : WentUndefined ≡ Memory = e in cc)) says equal
-line_by told words names given Usage are says equal = line_at told words names given Usage (are (λ e. let is : Usage ≡ Memory = e in cc)) says equal
-line_by told words names given (Refused r) are says equal = line_at told words names given (Refused r) (are (λ e. let is : Refused r ≡ Memory = e in cc)) says equal
-line_by told words names given (NotCil k) are says equal = line_at told words names given (NotCil k) (are (λ e. let is : NotCil k ≡ Memory = e in cc)) says equal
-line_by told words names given ReadFault are says equal = line_at told words names given ReadFault (are (λ e. let is : ReadFault ≡ Memory = e in cc)) says equal
-line_by told words names given WriteFault are says equal = line_at told words names given WriteFault (are (λ e. let is : WriteFault ≡ Memory = e in cc)) says equal
+    sampled : (asked : Option SampleWords) → IfSome asked (λ asked. SampleSays asked.seed asked.units names Memory taken taken')
+    sampled None = tt
+    sampled (Some asked) = tt
+
+pub line_by : (told : Option Told) (words names : List (List ℕ)) (given : ℕ) (status : Status) (taken taken' : Option (List ℕ)) → (status ≢ Memory → AreNames told words status names) → SaysWith told words status names taken taken' → given ≡ steps_asked words → IsLine told words names given status taken taken'
+line_by told words names given Memory taken taken' are says equal = record { known = names_asked words; are = memory_names told words; says = memory_says told words (names_asked words) taken taken'; line = refl }
+line_by told words names given Done taken taken' are says equal = line_at told words names given Done taken taken' (are (λ e. let is : Done ≡ Memory = e in cc)) says equal
+line_by told words names given (Exited s) taken taken' are says equal = line_at told words names given (Exited s) taken taken' (are (λ e. let is : Exited s ≡ Memory = e in cc)) says equal
+line_by told words names given StillRunning taken taken' are says equal = line_at told words names given StillRunning taken taken' (are (λ e. let is : StillRunning ≡ Memory = e in cc)) says equal
+line_by told words names given WentUndefined taken taken' are says equal = line_at told words names given WentUndefined taken taken' (are (λ e. let is : WentUndefined ≡ Memory = e in cc)) says equal
+line_by told words names given Usage taken taken' are says equal = line_at told words names given Usage taken taken' (are (λ e. let is : Usage ≡ Memory = e in cc)) says equal
+line_by told words names given (Refused r) taken taken' are says equal = line_at told words names given (Refused r) taken taken' (are (λ e. let is : Refused r ≡ Memory = e in cc)) says equal
+line_by told words names given (NotCil k) taken taken' are says equal = line_at told words names given (NotCil k) taken taken' (are (λ e. let is : NotCil k ≡ Memory = e in cc)) says equal
+line_by told words names given ReadFault taken taken' are says equal = line_at told words names given ReadFault taken taken' (are (λ e. let is : ReadFault ≡ Memory = e in cc)) says equal
+line_by told words names given WriteFault taken taken' are says equal = line_at told words names given WriteFault taken taken' (are (λ e. let is : WriteFault ≡ Memory = e in cc)) says equal

@@ -15,3 +15,4 @@ pub mod SmallUnits
 pub mod Tokens
 pub mod Units
 pub mod Words
+pub mod Written

@@ -1,13 +1,14 @@
 -- What the words of a sample ask for, and what is said of it.
-use Rattle.std.proofs.Common.{◌≡◌, ◌≢◌, ℕ, List, [], ◌∷◌, Option, Some, None, IfSome, length, drop, refl, ap, sym, subst, ◌∙◌, ◌↔◌, unwrap_or, slice_get}
+use Rattle.std.proofs.Common.{◌≡◌, ◌≢◌, ℕ, List, [], Option, Some, None, length, drop, refl, ap, sym, subst, ◌∙◌, ◌↔◌, unwrap_or, slice_get}
 use Rattle.std.specs.Option.{option_map, option_and_then, option_to_list}
 use Rattle.outside.specs.Named.{Told}
-use Rattle.cil_words.specs.Command.{command_of, files_of, files_by, alone, file_position, merged_position, run_position, sample_in, sample_asked, SampleWords, file_of, run_file}
-use Rattle.cil_sources.specs.Files.{bytes_under, found_all}
+use Rattle.cil_words.specs.Command.{command_of, files_of, files_by, alone, file_position, merged_position, run_position, sample_in, sample_asked, run_file}
+use Rattle.cil_sources.specs.Files.{bytes_under}
 use Rattle.sample_command.specs.Answers.{SampleSays, IsSampleAnswer}
 use Rattle.cil_commands.specs.Answers.{IsAnswerBy, IsAnswerTo}
 use Rattle.cil_commands.specs.Execute.{text_asked}
 use Rattle.cil_commands.specs.Merge.{unit_asked, file_under, IsRefused, IfRefused}
+use Rattle.cil_commands.specs.Several.{SampledSays}
 use Rattle.cil_commands.specs.Messages.{names_asked, Begins, AreNames}
 use Rattle.cil_commands.proofs.Words.{if_some_by}
 use Rattle.cil_lines.specs.Messages.{HasFiles}
@@ -15,17 +16,17 @@ use Rattle.cil_words.specs.declared.command.Command.TheVariants.{Sample}
 use Rattle.cil_lines.specs.declared.status.Status.{Status}
 use Rattle.cil_lines.specs.declared.status.Status.TheVariants.{Done, Exited, StillRunning, WentUndefined, Usage, Refused, NotCil, ReadFault, WriteFault, Memory}
 
-pub sample_kind : (units : ℕ) (status : Status) (taken taken' : Option (List ℕ)) → SampleSays units status taken taken' → IsSampleAnswer units status
-sample_kind units Done taken taken' says = tt
-sample_kind units (Exited s) taken taken' says = says
-sample_kind units StillRunning taken taken' says = tt
-sample_kind units WentUndefined taken taken' says = tt
-sample_kind units Usage taken taken' says = says
-sample_kind units (Refused r) taken taken' says = (says.0, says.1, says.2)
-sample_kind units (NotCil k) taken taken' says = says
-sample_kind units ReadFault taken taken' says = says
-sample_kind units WriteFault taken taken' says = tt
-sample_kind units Memory taken taken' says = tt
+pub sample_kind : (seed units : ℕ) (pool : List (List ℕ)) (status : Status) (taken taken' : Option (List ℕ)) → SampleSays seed units pool status taken taken' → IsSampleAnswer units status
+sample_kind seed units pool Done taken taken' says = tt
+sample_kind seed units pool (Exited s) taken taken' says = says
+sample_kind seed units pool StillRunning taken taken' says = tt
+sample_kind seed units pool WentUndefined taken taken' says = tt
+sample_kind seed units pool Usage taken taken' says = says
+sample_kind seed units pool (Refused r) taken taken' says = (says.fault, says.unit, says.other)
+sample_kind seed units pool (NotCil k) taken taken' says = says
+sample_kind seed units pool ReadFault taken taken' says = says
+sample_kind seed units pool WriteFault taken taken' says = tt
+sample_kind seed units pool Memory taken taken' says = tt
 
 some_none : {A : Type 0} (a : A) → Some a ≡ None → ⊥
 some_none a is = cc
@@ -49,15 +50,15 @@ module _ (words : List (List ℕ)) (seed units : ℕ) (is : command_of words ≡
   pub no_file : files_of words ≡ []
   no_file = ap (files_by words) is
 
-  pub sample_answer : (status : Status) (taken taken' : Option (List ℕ)) → SampleSays units status taken taken' → IsAnswerTo words status
-  sample_answer status taken taken' says = subst (λ command. IsAnswerBy (files_of words) command status) (sym is) (sample_kind units status taken taken' says)
+  pub sample_answer : (pool : List (List ℕ)) (status : Status) (taken taken' : Option (List ℕ)) → SampleSays seed units pool status taken taken' → IsAnswerTo words status
+  sample_answer pool status taken taken' says = subst (λ command. IsAnswerBy (files_of words) command status) (sym is) (sample_kind seed units pool status taken taken' says)
 
-  pub sample_says : (status : Status) (taken taken' : Option (List ℕ)) → SampleSays units status taken taken' → IfSome (sample_asked words) (λ asked. SampleSays asked.units status taken taken')
-  sample_says status taken taken' says = if_some_by (sample_asked words) (Some (record { seed = seed; units = units })) (λ asked. SampleSays asked.units status taken taken') sample_is says
+  pub sample_says : (pool : List (List ℕ)) (status : Status) (taken taken' : Option (List ℕ)) → SampleSays seed units pool status taken taken' → SampledSays words pool status taken taken'
+  sample_says pool status taken taken' says = if_some_by (sample_asked words) (Some (record { seed = seed; units = units })) (λ asked. SampleSays asked.seed asked.units pool status taken taken') sample_is says
 
-  pub sample_usage : (status : Status) (taken taken' : Option (List ℕ)) → SampleSays units status taken taken' → (status ≡ Usage) ↔ (command_of words ≡ None)
-  sample_usage status taken taken' says = (
-    (λ usage. absurd (subst (λ s. SampleSays units s taken taken') usage says)),
+  pub sample_usage : (pool : List (List ℕ)) (status : Status) (taken taken' : Option (List ℕ)) → SampleSays seed units pool status taken taken' → (status ≡ Usage) ↔ (command_of words ≡ None)
+  sample_usage pool status taken taken' says = (
+    (λ usage. absurd (subst (λ s. SampleSays seed units pool s taken taken') usage says)),
     (λ none. absurd (some_none _ (sym is ∙ none))),
   )
 
@@ -72,5 +73,9 @@ module _ (words : List (List ℕ)) (seed units : ℕ) (is : command_of words ≡
   }
 
 -- it reads nothing
-pub no_read : (units : ℕ) (status : Status) (taken taken' : Option (List ℕ)) → SampleSays units status taken taken' → status ≢ ReadFault
-no_read units status taken taken' says is = subst (λ s. SampleSays units s taken taken') is says
+pub no_read : (seed units : ℕ) (pool : List (List ℕ)) (status : Status) (taken taken' : Option (List ℕ)) → SampleSays seed units pool status taken taken' → status ≢ ReadFault
+no_read seed units pool status taken taken' says is = subst (λ s. SampleSays seed units pool s taken taken') is says
+
+-- no other command says anything of a sample
+pub sampled_none : (words pool : List (List ℕ)) (status : Status) (taken taken' : Option (List ℕ)) → sample_asked words ≡ None → SampledSays words pool status taken taken'
+sampled_none words pool status taken taken' none = if_some_by (sample_asked words) None (λ asked. SampleSays asked.seed asked.units pool status taken taken') none tt

@@ -1,32 +1,30 @@
 -- Device: what is said of one file alone is said of the units that were asked for.
-use Rattle.std.proofs.Common.{◌≡◌, ◌≢◌, ℕ, Bool, ◌+◌, ◌<◌, ◌≤◌, nat_lt, if◌then◌else◌, List, [], ◌∷◌, map, length, drop, Option, Some, None, IfSome, slice_get, String, refl, sym, ap, subst, ◌∙◌, arith}
+use Rattle.std.proofs.Common.{◌≡◌, ◌≢◌, ℕ, Bool, ◌+◌, ◌<◌, ◌≤◌, nat_lt, if◌then◌else◌, List, [], ◌∷◌, length, Option, Some, None, IfSome, slice_get, refl, sym, ap, subst, ◌∙◌, arith}
 use Rattle.std.proofs.lemmas.Bool.{le-ltb, lt-ltb}
-use Rattle.std.specs.Global.{Global}
 use Rattle.std.specs.Option.{option_map, option_and_then}
-use Rattle.std.specs.String.{string_bytes}
-use Rattle.cil_base.specs.declared.faults.Fault.TheVariants.{Limit}
 use Rattle.cil_base.specs.declared.faults.What.{What}
-use Rattle.cil_base.specs.declared.faults.What.TheVariants.{UnitBytes, TotalBytes, PrintedBytes}
+use Rattle.cil_base.specs.declared.faults.What.TheVariants.{UnitBytes, TotalBytes}
 use Rattle.cil_base.specs.declared.faults.Refusal.{Refusal}
 use Rattle.c_lexer.specs.Lexed.{Lexed}
-use Rattle.c_lexer.specs.Tokens.{Refused as TokenRefused}
-use Rattle.c_meaning.specs.SourceFile.{SourceFile, IsLexed}
-use Rattle.c_parser.specs.UnitAnswers.{IsSyntaxFault}
-use Rattle.cast_insert.specs.Refusals.{IsCheckedRefusal}
-use Rattle.unit_front.specs.Refusals.{Source, HasTokens, IsGrammatical as IsGrammaticalSource, IsFrontRefusal, OfToken as AtToken, OfTokens, IsTokensRefusal, OfGrammar as AtGrammar, OfCheck as AtCheck}
+use Rattle.c_meaning.specs.SourceFile.{SourceFile}
+use Rattle.unit_front.specs.Refusals.{Source, HasTokens, IsFrontRefusal, OfToken as AtToken, OfTokens, OfGrammar as AtGrammar, OfCheck as AtCheck}
 use Rattle.unit_merger.specs.Units.{IsUnitOf, IsGrammaticalAt, AreGrammatical, AreMerged, IsRefusedAmong, InUnit, Over, Behind, IsUnitCause, OfCheck, OfLength}
 use Rattle.unit_merger.proofs.InOrder.{none_yet}
+use Rattle.outside.specs.Moves.{Began, Wrote}
 use Rattle.outside.specs.Named.{Told, find_file}
+use Rattle.cil_tree.specs.Tree.{Program}
+use Rattle.cil_tree.specs.View.{program_of}
+use Rattle.cil_tree.specs.Text.{Text}
+use Rattle.cil_tree.specs.Programs.{IsTextOf}
+use Rattle.unit_merger.specs.Linking.{IsTextOfUnits}
 use Rattle.cil_sources.specs.Files.{all_under}
 use Rattle.cil_sources.specs.Units.{Kept, kept, kept_by, unit_fault}
-use Rattle.cil_words.specs.Command.{command_of, merged_files}
-use Rattle.cil_words.specs.declared.command.Command.{Command}
-use Rattle.cil_words.specs.declared.command.Command.TheVariants.{Merge, Run, Sample}
+use Rattle.cil_words.specs.Command.{merged_files}
 use Rattle.cil_lines.specs.declared.status.Status.{Status}
 use Rattle.cil_lines.specs.declared.status.Status.TheVariants.{Done, Exited, StillRunning, WentUndefined, Usage, Refused, NotCil, ReadFault, WriteFault, Memory}
 use Rattle.cil_commands.specs.Execute.{IsRunAnswer}
 use Rattle.cil_commands.specs.Grammatical.{AreTokens, IsGrammatical}
-use Rattle.cil_commands.specs.Merge.{file_under, too_large, IsNoGrammar, Large, OfToken, OfGrammar, IsRefused, NoGrammar, OfUnit, IfRefused}
+use Rattle.cil_commands.specs.Merge.{IsWritten, file_under, too_large, IsNoGrammar, Large, OfToken, OfGrammar, IsRefused, NoGrammar, OfUnit, IfRefused}
 use Rattle.cil_commands.specs.Several.{SaysOfKept, SaysOfUnits, SaysOfLinks, LinksSay}
 use Rattle.cil_lines.specs.Messages.{HasFiles}
 use Rattle.cil_commands.specs.Messages.{Begins}
@@ -97,10 +95,10 @@ no_grammar unit _ _ named files (Large names large) =
 no_grammar unit _ _ named files (OfToken refusal names small is) = in_unit unit names refusal small (AtToken refusal names small is (keeps names refusal files))
 no_grammar unit _ _ named files (OfGrammar refusal names t are is) = in_unit unit names refusal are.small (OfTokens refusal t (has_tokens unit t names are) (AtGrammar refusal is) (keeps names refusal files))
 
-of_unit : (unit : SourceFile) (refusal : Refusal) (names : List (List ℕ)) (g : IsGrammatical unit) → KeepsFiles g.names names refusal → IsUnitCause g.tokens refusal → Among unit (kept 0 (unit.bytes ∷ [])) names refusal
+of_unit : (unit : SourceFile) (refusal : Refusal) (names : List (List ℕ)) (g : IsGrammatical unit) → KeepsFiles g.names names refusal → IsUnitCause g.tokens g.names refusal → Among unit (kept 0 (unit.bytes ∷ [])) names refusal
 unfolding only has_tokens
 of_unit unit _ names g keeps (OfCheck refusal is) = in_unit unit names refusal g.are.small (OfTokens refusal g.tokens (has_tokens unit g.tokens g.names g.are) (AtCheck refusal (g.tree, g.reads) is) keeps)
-of_unit unit _ names g keeps (OfLength refusal fault long at other) =
+of_unit unit _ names g keeps (OfLength refusal fault text long at other) =
     let place : IsPlaceAmong (unit.bytes ∷ []) (unit.name ∷ []) names refusal.at = record { source = only unit; stands = stands unit; tokens = g.tokens; are = has_tokens unit g.tokens g.names g.are; at = (0, at); file = keeps.at } in
     let places : ArePlacesAmong (unit.bytes ∷ []) (unit.name ∷ []) names refusal = record { at = place; other = subst (λ o. IfSome o (IsPlaceAmong (unit.bytes ∷ []) (unit.name ∷ []) names)) (sym other) tt } in
     subst (λ k. Among unit k names refusal) (sym (small_kept unit.bytes g.are.small)) (Behind refusal refl (all unit g) (subst IsLateFault (sym fault) tt) places)
@@ -160,14 +158,34 @@ says_read None kept_units over files names status read says = tt
 says_read (Some units) kept_units over files names status read says = kept_by_read units kept_units over files names status read.0 read.1 says
 
 -- the same of their links
-pub links_read : (asked : Option (List (List ℕ))) (kept_units : List (List ℕ)) (over : Option What) (common : Bool) (files names : List (List ℕ)) (status : Status) → IfSome asked (λ units. (kept_units ≡ (kept 0 units).units) × (over ≡ (kept 0 units).over)) → SaysOfLinks common kept_units files names status
-    → IfSome asked (λ units. SaysOfLinks common (kept 0 units).units files names status)
-links_read None kept_units over common files names status read says = tt
-links_read (Some units) kept_units over common files names status read says = subst (λ us. SaysOfLinks common us files names status) read.0 says
+pub links_read : (asked : Option (List (List ℕ))) (kept_units : List (List ℕ)) (over : Option What) (common : Bool) (files names : List (List ℕ)) (status : Status) (taken taken' : Option (List ℕ)) → IfSome asked (λ units. (kept_units ≡ (kept 0 units).units) × (over ≡ (kept 0 units).over))
+    → SaysOfLinks common kept_units files names status taken taken' → IfSome asked (λ units. SaysOfLinks common (kept 0 units).units files names status taken taken')
+links_read None kept_units over common files names status taken taken' read says = tt
+links_read (Some units) kept_units over common files names status taken taken' read says = subst (λ us. SaysOfLinks common us files names status taken taken') read.0 says
 
 -- fewer than two files have no links
-pub few_links : (told : Option Told) (words files names : List (List ℕ)) (status : Status) → merged_files words ≡ files → length files ≤ 1 → LinksSay told words names status
-few_links told words files names status are few several = let none : ⊥ = omega (arith, few, subst (λ (fs : List (List ℕ)). 1 < length fs) are several) in absurd none
+pub few_links : (told : Option Told) (words files names : List (List ℕ)) (status : Status) (taken taken' : Option (List ℕ)) → merged_files words ≡ files → length files ≤ 1 → LinksSay told words names status taken taken'
+few_links told words files names status taken taken' are few several = let none : ⊥ = omega (arith, few, subst (λ (fs : List (List ℕ)). 1 < length fs) are several) in absurd none
+
+-- the text of several units is written
+
+pub units_written : (common : Bool) (units files names : List (List ℕ)) (bytes : List ℕ) → IsTextOfUnits common units files names bytes → (p : Program) × IsWritten p × (bytes ≡ Text p)
+units_written common units files names bytes t = (program_of names t.program, (t.of.model, subst (λ bs. IsTextOf bs (program_of names t.program)) t.text.text t.text), t.text.text)
+
+abbrev NotDone : Status → Type 0
+NotDone Done = ⊥
+NotDone _ = Unit {0}
+
+abbrev NotFailed : Status → Type 0
+NotFailed WriteFault = ⊥
+NotFailed _ = Unit {0}
+
+pub units_sent : (common : Bool) (units files names : List (List ℕ)) (bytes : List ℕ) (status : Status) (taken taken' : Option (List ℕ)) → IsTextOfUnits common units files names bytes → (status ≡ Done → Wrote taken taken' bytes) → Began taken taken' bytes → (status ≢ Done → status ≡ WriteFault)
+    → SaysOfLinks common units files names status taken taken'
+units_sent common units files names bytes Done taken taken' text done began two = record { bytes = bytes; text = text; wrote = done refl }
+units_sent common units files names bytes WriteFault taken taken' text done began two = record { bytes = bytes; text = text; began = began }
+units_sent common units files names bytes (Refused r) taken taken' text done began two = absurd (subst NotFailed (two (λ e. subst NotDone e tt)) tt)
+units_sent common units files names bytes _ taken taken' text done began two = tt
 
 -- a command that merges nothing
 says_none : (names : List (List ℕ)) (status : Status) → IfRefused status (λ refusal. ⊥) → SaysOfUnits [] [] names status

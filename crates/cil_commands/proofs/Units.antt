@@ -27,7 +27,6 @@ use Rattle.c_cursor.specs.Lexemes.{lexemes}
 use Rattle.c_parser.specs.UnitAnswers.{ReadsUnit, IsSyntaxFault}
 use Rattle.c_parser.proofs.UnitLaws.{one_start}
 use Rattle.cil_tree.specs.Tree.{Program}
-use Rattle.cil_commands.specs.Lowering.{Merges}
 use Rattle.cil_base.specs.declared.faults.Fault.{Fault}
 use Rattle.cil_base.specs.declared.faults.Fault.TheVariants.{Lexical, Excluded, Syntax, Constraint, Limit, Duplicate, Incompatible}
 use Rattle.cil_commands.specs.Grammatical.{AreTokens, IsGrammatical}
@@ -35,7 +34,6 @@ use Rattle.cil_sources.specs.Files.{IsFrontOf}
 use Rattle.cil_commands.specs.Merge.{IsRefused, NoGrammar, OfUnit, IsNoGrammar, Large, OfToken, OfGrammar, IsNoUnit, IsMergedTo, IsLike, IfRefused, too_large}
 use Rattle.merge_refusals.specs.Refusals.{IsUnitFault, IsUnitRefusal, IsMergeFault, HasOther, IsMergeRefusal}
 use Rattle.cil_base.specs.NamePool.{Stays}
-use Rattle.cast_insert.specs.Refusals.{IsCheckedRefusal}
 use Rattle.unit_front.specs.Refusals.{KeepsFile, KeepsFiles}
 use Rattle.unit_front.proofs.Files.{kept}
 use Rattle.unit_merger.specs.Units.{IsUnitCause, OfCheck, OfLength}
@@ -316,11 +314,11 @@ stopped A stop = Err stop
 alone_kept : (t : Lexed) (i : ℕ) (names pool : List (List ℕ)) (refusal : Refusal) → PlacesWithin (length names) t → Stays names pool → place_at t i ≡ Some refusal.at → refusal.other ≡ None → KeepsFiles names pool refusal
 alone_kept t i names pool refusal within stays at other = record { at = kept names pool refusal.at (within i refusal.at at) stays; other = subst (λ o. IfSome o (KeepsFile names pool)) (sym other) tt }
 
-cause_kept : (t : Lexed) (names pool : List (List ℕ)) (refusal : Refusal) → PlacesWithin (length names) t → Stays names pool → IsUnitCause t refusal → KeepsFiles names pool refusal
+cause_kept : (t : Lexed) (names pool : List (List ℕ)) (refusal : Refusal) → PlacesWithin (length names) t → Stays names pool → IsUnitCause t names refusal → KeepsFiles names pool refusal
 cause_kept t names pool _ within stays (OfCheck refusal is) = alone_kept t is.at.0 names pool refusal within stays is.at.1 is.other
-cause_kept t names pool _ within stays (OfLength refusal fault long at other) = alone_kept t 0 names pool refusal within stays at other
+cause_kept t names pool _ within stays (OfLength refusal fault text long at other) = alone_kept t 0 names pool refusal within stays at other
 
-pub unit_refused : (A B : Type 0) (stop : Stop) (file : SourceFile) (pool : List (List ℕ)) (g : IsGrammatical file) → PlacesWithin (length g.names) g.tokens → Stays g.names pool → IsNoUnit file → IfStopped (stopped A stop) (IsUnitCause g.tokens) → IfStopped (stopped B stop) (λ refusal. IsRefused file refusal pool)
+pub unit_refused : (A B : Type 0) (stop : Stop) (file : SourceFile) (pool : List (List ℕ)) (g : IsGrammatical file) → PlacesWithin (length g.names) g.tokens → Stays g.names pool → IsNoUnit file → IfStopped (stopped A stop) (IsUnitCause g.tokens g.names) → IfStopped (stopped B stop) (λ refusal. IsRefused file refusal pool)
 unit_refused A B (stops.Refused refusal) file pool g within stays none is = OfUnit refusal pool g none is (cause_kept g.tokens g.names pool refusal within stays is)
 unit_refused A B stops.Memory file pool g within stays none is = tt
 

@@ -8,7 +8,7 @@ use Rattle.std.specs.Str.{bytes_eq}
 use Rattle.std.specs.String.{string_bytes}
 use Rattle.std.proofs.lemmas.Option.{slice_get-map, slice_get-get_or}
 use Rattle.outside.specs.Named.{Told}
-use Rattle.cil_words.specs.Command.{command_of, command_in, merge_of, are_files, merged_file, merged_files, files_of, files_by, alone, run_of, run_bounded_of, sample_of, sample_by, sample_in, sample_asked, seed_of, units_of, steps_of, are_words, names_file, file_position, merged_position, run_position, bound_of, is_common, file_of, run_file, steps_asked, words_given}
+use Rattle.cil_words.specs.Command.{command_of, command_in, merge_of, are_files, merged_files, files_of, files_by, alone, run_of, run_bounded_of, sample_of, sample_by, seed_of, units_of, steps_of, are_words, names_file, file_position, merged_position, run_position, bound_of, is_common, file_of, run_file, steps_asked, words_given}
 use Rattle.cil_commands.specs.Execute.{RunSays}
 use Rattle.cil_sources.specs.Files.{bytes_under, found_all, all_under}
 use Rattle.outside.specs.Named.{find_file}

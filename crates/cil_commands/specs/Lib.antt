@@ -1,4 +1,5 @@
 pub mod Answers
+pub mod Calls
 pub mod Execute
 pub mod Grammatical
 pub mod Lowering
@@ -9,3 +10,4 @@ pub mod Reader
 pub mod RunEnds
 pub mod Several
 pub mod Small
+pub mod Written

@@ -1,5 +1,5 @@
 -- Definition: what `merge` answers (own).
-use Rattle.std.specs.Prelude.{◌≡◌, ◌≢◌, ℕ, ◌<◌, ◌≤◌, List, [], ◌++◌, length, Option, Some, None}
+use Rattle.std.specs.Prelude.{◌≡◌, ◌≢◌, ℕ, ◌<◌, ◌≤◌, List, length, Option, None}
 use Rattle.std.specs.Option.{option_and_then, option_map}
 use Rattle.cil_base.specs.declared.kinds.Abi.TheVariants.{Lp64}
 use Rattle.cil_base.specs.declared.faults.Fault.{Fault}
@@ -16,6 +16,7 @@ use Rattle.cil_words.specs.Command.{merged_file}
 use Rattle.merge_refusals.specs.Refusals.{IsMergeFault, HasOther}
 use Rattle.unit_front.specs.Refusals.{KeepsFiles}
 use Rattle.unit_merger.specs.Units.{IsUnitCause}
+use Rattle.unit_merger.specs.Programs.{IsTextOfUnit}
 use Rattle.cil_sources.specs.Files.{bytes_under}
 use Rattle.cil_tree.specs.Tree.{Program}
 use Rattle.cil_tree.specs.Text.{Text}
@@ -53,18 +54,19 @@ pub data IsNoGrammar (unit : SourceFile) : Refusal → List (List ℕ) → Type 
 -- why a file is refused, with the names that its places' files are numbers in: it is no grammatical unit; or it is one that is not of the form, and is refused at a token of it for an excluded form, a constraint of C11 or a limit, or because the text of its program is too long
 pub data IsRefused (unit : SourceFile) : Refusal → List (List ℕ) → Type 0 where
   NoGrammar : (refusal : Refusal) (names : List (List ℕ)) → IsNoGrammar unit refusal names → IsRefused unit refusal names
-  OfUnit : (refusal : Refusal) (names : List (List ℕ)) (g : IsGrammatical unit) → IsNoUnit unit → IsUnitCause g.tokens refusal → KeepsFiles g.names names refusal → IsRefused unit refusal names
+  OfUnit : (refusal : Refusal) (names : List (List ℕ)) (g : IsGrammatical unit) → IsNoUnit unit → IsUnitCause g.tokens g.names refusal → KeepsFiles g.names names refusal → IsRefused unit refusal names
 
 -- a well-formed program of LP64, which has its text
 abbrev pub IsWritten : Program → Type 0
 IsWritten p = (p.graph.abi ≡ Lp64) × IsTextOf (Text p) p
 
--- the program that the unit is merged to: the unit is grammatical, the program is the one of LP64 with its text, and where the unit is of the form its meaning is kept
+-- the program that the unit is merged to: the unit is grammatical, and the program is the one of LP64 with its text; where the unit is of the form its meaning is kept, and where it is not the text is that of the program which it becomes alone
 pub record IsMergedTo (unit : SourceFile) (p : Program) : Type 0 where
   pub grammatical : IsGrammatical unit
   pub model : p.graph.abi ≡ Lp64
   pub text : IsTextOf (Text p) p
   pub form : (e : Expression) → IsUnit unit e → Merges unit p
+  pub alone : IsNoUnit unit → IsTextOfUnit grammatical.tokens grammatical.names (Text p)
 
 -- the same fault at the same place. Of a syntax fault the place behind may be another one: no external declaration begins with the tokens up to a later one either
 pub record IsLike (one two : Refusal) : Type 0 where

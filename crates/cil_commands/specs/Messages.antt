@@ -5,7 +5,7 @@ use Rattle.outside.specs.Named.{Told}
 use Rattle.cil_words.specs.Command.{file_of}
 use Rattle.cil_lines.specs.declared.status.Status.{Status}
 use Rattle.cil_lines.specs.Messages.{HasFiles}
-use Rattle.cil_commands.specs.Several.{UnitsSay, LinksSay}
+use Rattle.cil_commands.specs.Several.{UnitsSay, LinksSay, SampledSays}
 use Rattle.cil_commands.specs.Merge.{unit_asked, IsRefused, IfRefused}
 
 -- the first name: that of the file
@@ -23,7 +23,8 @@ pub record AreNames (told : Option Told) (words : List (List ℕ)) (status : Sta
   pub files : HasFiles (length names) status
   pub refused : IfSome (unit_asked told words) (λ unit. IfRefused status (λ refusal. IsRefused unit refusal names))
 
--- what a status says of the units with the names whose numbers stand in it: the file of each place is named as the tokens of its unit have it
-pub record SaysWith (told : Option Told) (words : List (List ℕ)) (status : Status) (names : List (List ℕ)) : Type 0 where
+-- what a status says of the units and of their program with the names whose numbers stand in it, where out had taken `taken` and has taken `taken'`: the file of each place is named as the tokens of its unit have it
+pub record SaysWith (told : Option Told) (words : List (List ℕ)) (status : Status) (names : List (List ℕ)) (taken taken' : Option (List ℕ)) : Type 0 where
   pub units : UnitsSay told words names status
-  pub links : LinksSay told words names status
+  pub links : LinksSay told words names status taken taken'
+  pub sampled : SampledSays words names status taken taken'

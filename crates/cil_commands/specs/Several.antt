@@ -2,11 +2,13 @@
 use Rattle.std.specs.Prelude.{◌≡◌, ℕ, ◌<◌, None, Bool, false, List, length, Option, unwrap_or, IfSome}
 use Rattle.std.specs.Option.{option_map}
 use Rattle.cil_base.specs.declared.faults.What.{What}
+use Rattle.outside.specs.Moves.{Began, Wrote}
 use Rattle.outside.specs.Named.{Told}
 use Rattle.unit_merger.specs.Units.{AreMerged, IsRefusedAmong}
-use Rattle.unit_merger.specs.Linking.{AreLinked, LateSays}
+use Rattle.unit_merger.specs.Linking.{IsTextOfUnits, LateSays}
 use Rattle.cil_sources.specs.Files.{all_under}
 use Rattle.cil_sources.specs.Units.{kept}
+use Rattle.sample_command.specs.Answers.{SampleSays}
 use Rattle.cil_words.specs.Command.{command_of, is_common, merged_files, sample_asked}
 use Rattle.cil_lines.specs.declared.status.Status.{Status}
 use Rattle.cil_lines.specs.declared.status.Status.TheVariants.{Done, Refused, WriteFault}
@@ -22,12 +24,24 @@ SaysOfKept units over files names _ = Unit {0}
 abbrev pub SaysOfUnits : List (List ℕ) → List (List ℕ) → List (List ℕ) → Status → Type 0
 SaysOfUnits units files names status = SaysOfKept (kept 0 units).units (kept 0 units).over files names status
 
--- what a status says of the links of units of these files: where a text is written they are linked, and a refusal that is found behind all is the one that their links ask for
-abbrev pub SaysOfLinks : Bool → List (List ℕ) → List (List ℕ) → List (List ℕ) → Status → Type 0
-SaysOfLinks common units files names Done = AreLinked common units files names
-SaysOfLinks common units files names WriteFault = AreLinked common units files names
-SaysOfLinks common units files names (Refused refusal) = LateSays common units files names refusal refusal.fault
-SaysOfLinks common units files names _ = Unit {0}
+-- out took the text of the program that units of these files become
+pub record WroteUnits (common : Bool) (units files names : List (List ℕ)) (taken taken' : Option (List ℕ)) : Type 0 where
+  pub bytes : List ℕ
+  pub text : IsTextOfUnits common units files names bytes
+  pub wrote : Wrote taken taken' bytes
+
+-- a beginning of it
+pub record BeganUnits (common : Bool) (units files names : List (List ℕ)) (taken taken' : Option (List ℕ)) : Type 0 where
+  pub bytes : List ℕ
+  pub text : IsTextOfUnits common units files names bytes
+  pub began : Began taken taken' bytes
+
+-- what a status says of the program that units of these files become, where out had taken `taken` and has taken `taken'`: where a text is written the units are linked, and it is that program's; a refusal that is found behind all is the one that their links or that text ask for
+abbrev pub SaysOfLinks : Bool → (units files names : List (List ℕ)) → Status → (taken taken' : Option (List ℕ)) → Type 0
+SaysOfLinks common units files names Done taken taken' = WroteUnits common units files names taken taken'
+SaysOfLinks common units files names WriteFault taken taken' = BeganUnits common units files names taken taken'
+SaysOfLinks common units files names (Refused refusal) taken taken' = LateSays common units files names refusal refusal.fault
+SaysOfLinks common units files names _ taken taken' = Unit {0}
 
 -- whether tentative definitions of several units are one object in the merge that the words ask for
 abbrev pub common_asked : List (List ℕ) → Bool
@@ -37,6 +51,10 @@ common_asked words = unwrap_or (option_map is_common (command_of words)) false
 abbrev pub UnitsSay : Option Told → List (List ℕ) → List (List ℕ) → Status → Type 0
 UnitsSay told words names status = sample_asked words ≡ None → IfSome (all_under told (merged_files words)) (λ units. SaysOfUnits units (merged_files words) names status)
 
--- what it says of their links, where there are several
-abbrev pub LinksSay : Option Told → List (List ℕ) → List (List ℕ) → Status → Type 0
-LinksSay told words names status = 1 < length (merged_files words) → IfSome (all_under told (merged_files words)) (λ units. SaysOfLinks (common_asked words) (kept 0 units).units (merged_files words) names status)
+-- what it says of the program that they become, where there are several
+abbrev pub LinksSay : Option Told → (words names : List (List ℕ)) → Status → (taken taken' : Option (List ℕ)) → Type 0
+LinksSay told words names status taken taken' = 1 < length (merged_files words) → IfSome (all_under told (merged_files words)) (λ units. SaysOfLinks (common_asked words) (kept 0 units).units (merged_files words) names status taken taken')
+
+-- what it says of the program of the sample that the words ask for
+abbrev pub SampledSays : (words names : List (List ℕ)) → Status → (taken taken' : Option (List ℕ)) → Type 0
+SampledSays words names status taken taken' = IfSome (sample_asked words) (λ asked. SampleSays asked.seed asked.units names status taken taken')

@@ -183,7 +183,7 @@ fn merge_sources<O: Sink>(
     ensures kind { IsMergeAnswer (length asked.now) result }
     ensures files { HasFiles (length names.new) result }
     ensures units { SaysOfKept sources.now.units.items sources.now.over (map string_bytes asked.now) names.new result }
-    ensures links { SaysOfLinks common sources.now.units.items (map string_bytes asked.now) names.new result }
+    ensures links { SaysOfLinks common sources.now.units.items (map string_bytes asked.now) names.new result (O.taken out.old) (O.taken out.new) }
     ensures stays { Stays names.old names.new }
     ensures pool { result ≢ Status.Memory → (first : List ℕ) (more : List (List ℕ)) → names.old ≡ first ∷ more → (rest : List (List ℕ)) × (names.new ≡ first ∷ rest) }
     ensures done { result ≡ Status.Done → (p : Program) × IsWritten p × Wrote (O.taken out.old) (O.taken out.new) (Text p) }
@@ -217,7 +217,7 @@ pub fn merge_all<F: Files, O: Sink>(
     ensures names { result ≢ Status.Memory → (first : List ℕ) (more : List (List ℕ)) → map string_bytes asked.now ≡ first ∷ more → Begins (first ∷ []) names.new }
     ensures files { HasFiles (length names.new) result }
     ensures units { IfSome (all_under (F.told files.old) (map string_bytes asked.now)) (λ units. SaysOfUnits units (map string_bytes asked.now) names.new result) }
-    ensures links { IfSome (all_under (F.told files.old) (map string_bytes asked.now)) (λ units. SaysOfLinks common (kept 0 units).units (map string_bytes asked.now) names.new result) }
+    ensures links { IfSome (all_under (F.told files.old) (map string_bytes asked.now)) (λ units. SaysOfLinks common (kept 0 units).units (map string_bytes asked.now) names.new result (O.taken out.old) (O.taken out.new)) }
     ensures done { result ≡ Status.Done → (p : Program) × IsWritten p × Wrote (O.taken out.old) (O.taken out.new) (Text p) }
     ensures part { result ≡ Status.WriteFault → (p : Program) × IsWritten p × Began (O.taken out.old) (O.taken out.new) (Text p) }
     ensures idle { result ≢ Status.Done → result ≢ Status.WriteFault → out.new ≡ out.old }

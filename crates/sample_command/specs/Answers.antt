@@ -1,53 +1,69 @@
 -- Definition: what `sample` answers (own).
-use Rattle.std.specs.Prelude.{◌≡◌, ℕ, ◌<◌, List, Option}
-use Rattle.cil_base.specs.declared.kinds.Abi.TheVariants.{Lp64}
+use Rattle.std.specs.Prelude.{ℕ, ◌<◌, false, List, Option, None}
 use Rattle.outside.specs.Moves.{Began, Wrote}
-use Rattle.cil_tree.specs.Tree.{Program}
+use Rattle.cil_base.specs.declared.faults.Refusal.{Refusal}
+use Rattle.cil_tree.specs.declared.globals.CilUnit.{CilUnit}
+use Rattle.cil_tree.specs.View.{program_of}
 use Rattle.cil_tree.specs.Programs.{IsProgram}
 use Rattle.merge_refusals.specs.Refusals.{IsMergeFault, HasOther, PrintedIfLong}
+use Rattle.unit_merger.specs.Units.{IsRefusedAmong}
+use Rattle.unit_merger.specs.Linking.{IsProgramOf, LateSays}
+use Rattle.sample_units.specs.Units.{unit_texts, file_names}
 use Rattle.sample_summary.specs.Summary.{IsSummary, StopsSo}
 use Rattle.sample_summary.specs.declared.stop.SampleStop.{SampleStop}
 use Rattle.sample_summary.specs.declared.stop.SampleStop.TheVariants as stop
 use Rattle.cil_lines.specs.declared.status.Status.{Status}
 use Rattle.cil_lines.specs.declared.status.Status.TheVariants.{Done, Exited, StillRunning, WentUndefined, Usage, Refused, NotCil, ReadFault, WriteFault, Memory}
 
--- the lines tell a well-formed program of LP64 that is made of so many units
-pub record AreOfProgram (units : ℕ) (lines : List ℕ) : Type 0 where
-  pub program : Program
-  pub formed : IsProgram program
-  pub model : program.graph.abi ≡ Lp64
-  pub summary : IsSummary units program lines
+-- the well-formed program that so many units of a sample become, which are made from that seed
+pub record IsOfSample (seed units : ℕ) (pool : List (List ℕ)) (program : CilUnit) : Type 0 where
+  pub of : IsProgramOf false (unit_texts seed units) (file_names units) pool program
+  pub formed : IsProgram (program_of pool program)
 
--- a well-formed program of LP64 has no summary, for this cause
-pub record HasNone (cause : SampleStop) : Type 0 where
-  pub program : Program
-  pub formed : IsProgram program
-  pub model : program.graph.abi ≡ Lp64
-  pub stops : StopsSo program cause
+-- the lines tell that program
+pub record AreOfProgram (seed units : ℕ) (pool : List (List ℕ)) (lines : List ℕ) : Type 0 where
+  pub program : CilUnit
+  pub of : IsOfSample seed units pool program
+  pub summary : IsSummary units (program_of pool program) lines
 
--- the lines that out took, or a front of which it took
-pub record WroteLines (units : ℕ) (taken taken' : Option (List ℕ)) : Type 0 where
+-- that program has no summary, for this cause
+pub record HasNone (seed units : ℕ) (pool : List (List ℕ)) (cause : SampleStop) : Type 0 where
+  pub program : CilUnit
+  pub of : IsOfSample seed units pool program
+  pub stops : StopsSo (program_of pool program) cause
+
+-- the lines that out took, or a beginning of which it took
+pub record WroteLines (seed units : ℕ) (pool : List (List ℕ)) (taken taken' : Option (List ℕ)) : Type 0 where
   pub lines : List ℕ
-  pub are : AreOfProgram units lines
+  pub are : AreOfProgram seed units pool lines
   pub wrote : Wrote taken taken' lines
 
-pub record BeganLines (units : ℕ) (taken taken' : Option (List ℕ)) : Type 0 where
+pub record BeganLines (seed units : ℕ) (pool : List (List ℕ)) (taken taken' : Option (List ℕ)) : Type 0 where
   pub lines : List ℕ
-  pub are : AreOfProgram units lines
+  pub are : AreOfProgram seed units pool lines
   pub began : Began taken taken' lines
 
--- what a status of `sample` of so many units says, where out had taken `taken` and has taken `taken'`
-abbrev pub SampleSays : ℕ → Status → (taken taken' : Option (List ℕ)) → Type 0
-SampleSays units Done taken taken' = WroteLines units taken taken'
-SampleSays units (Exited status) taken taken' = ⊥
-SampleSays units StillRunning taken taken' = HasNone stop.StillRunning
-SampleSays units WentUndefined taken taken' = HasNone stop.Undefined
-SampleSays units Usage taken taken' = ⊥
-SampleSays units (Refused refusal) taken taken' = IsMergeFault refusal.fault × (refusal.at.unit.0 < units) × HasOther units refusal.fault refusal.other × PrintedIfLong refusal
-SampleSays units (NotCil byte) taken taken' = ⊥
-SampleSays units ReadFault taken taken' = ⊥
-SampleSays units WriteFault taken taken' = BeganLines units taken taken'
-SampleSays units Memory taken taken' = Unit {0}
+-- why the units of a sample are refused, as those of any merge are
+pub record IsSampleRefusal (seed units : ℕ) (pool : List (List ℕ)) (refusal : Refusal) : Type 0 where
+  pub fault : IsMergeFault refusal.fault
+  pub unit : refusal.at.unit.0 < units
+  pub other : HasOther units refusal.fault refusal.other
+  pub printed : PrintedIfLong refusal
+  pub among : IsRefusedAmong (unit_texts seed units) None (file_names units) pool refusal
+  pub links : LateSays false (unit_texts seed units) (file_names units) pool refusal refusal.fault
+
+-- what a status of `sample` says of so many units from that seed, with the texts of the names of their program, where out had taken `taken` and has taken `taken'`
+abbrev pub SampleSays : (seed units : ℕ) → (pool : List (List ℕ)) → Status → (taken taken' : Option (List ℕ)) → Type 0
+SampleSays seed units pool Done taken taken' = WroteLines seed units pool taken taken'
+SampleSays seed units pool (Exited status) taken taken' = ⊥
+SampleSays seed units pool StillRunning taken taken' = HasNone seed units pool stop.StillRunning
+SampleSays seed units pool WentUndefined taken taken' = HasNone seed units pool stop.Undefined
+SampleSays seed units pool Usage taken taken' = ⊥
+SampleSays seed units pool (Refused refusal) taken taken' = IsSampleRefusal seed units pool refusal
+SampleSays seed units pool (NotCil byte) taken taken' = ⊥
+SampleSays seed units pool ReadFault taken taken' = ⊥
+SampleSays seed units pool WriteFault taken taken' = BeganLines seed units pool taken taken'
+SampleSays seed units pool Memory taken taken' = Unit {0}
 
 -- the statuses that `sample` answers of so many units
 abbrev pub IsSampleAnswer : ℕ → Status → Type 0

@@ -1,13 +1,15 @@
-ghost use Rattle.std.specs.Prelude.{◌≡◌, ◌≢◌, ◌≤◌, ◌^◌, ◌<◌, length, map, vec_len, IfOk};
+ghost use Rattle.std.specs.Prelude.{◌≡◌, ◌≢◌, ◌≤◌, ◌<◌, ℕ, false, None, length, map, vec_len, IfOk};
 ghost use Rattle.std.specs.String.{string_bytes};
 ghost use Rattle.c_lexer.specs.Lexed.{IfRefused};
 ghost use Rattle.outside.specs.Counts.{Rose};
-ghost use Rattle.cil_base.specs.declared.kinds.Abi.TheVariants.{Lp64};
 ghost use Rattle.cil_tree.specs.View.{program_of};
 ghost use Rattle.cil_tree.specs.Programs.{IsProgram};
 ghost use Rattle.merge_refusals.specs.Refusals.{IsMergeRefusal, PrintedIfLong};
+ghost use Rattle.unit_merger.specs.Units.{IsRefusedAmong};
+ghost use Rattle.unit_merger.specs.Linking.{SaysOfLinks};
+ghost use Rattle.sample_units.specs.Units.{unit_texts, file_names};
 ghost use Rattle.cil_lines.specs.Messages.{HasFiles};
-ghost use Rattle.sample_command.specs.Answers.{SampleSays, IsSampleAnswer};
+ghost use Rattle.sample_command.specs.Answers.{IsOfSample, SampleSays};
 
 use cil_base::{NamePool, Stop};
 use cil_lines::{Status, send};
@@ -20,10 +22,11 @@ use unit_merger::units_program;
 
 /// The program of a sample.
 fn program(alloc: Global, seed: u32, units: u32, names: &mut NamePool) -> Result<CilUnit, Stop>
-    ensures program { IfOk result (λ u. IsProgram (program_of names.new u)) }
-    ensures model { IfOk result (λ u. u.graph.abi ≡ Lp64) }
+    ensures program { IfOk result (IsOfSample seed units names.new) }
     ensures refused { IfRefused result (IsMergeRefusal units (length names.new)) }
     ensures printed { IfRefused result PrintedIfLong }
+    ensures among { IfRefused result (IsRefusedAmong (unit_texts seed units) None (file_names units) names.new) }
+    ensures links { SaysOfLinks false (unit_texts seed units) (file_names units) names.new result }
 {
     let sources = unit_sources(alloc, seed, units)?;
     let files = unit_files(alloc, units)?;
@@ -39,8 +42,7 @@ fn tell<O: Sink>(
     out: &mut O,
 ) -> Status
     requires formed { IsProgram (program_of names.now program.now) }
-    requires model { program.now.graph.abi ≡ Lp64 }
-    ensures says { SampleSays units result (O.taken out.old) (O.taken out.new) }
+    ensures says { (seed : ℕ) → IsOfSample seed units names.now program.now → SampleSays seed units names.now result (O.taken out.old) (O.taken out.new) }
     ensures files { HasFiles (length names.now) result }
     ensures idle { result ≢ Status.Done → result ≢ Status.WriteFault → out.new ≡ out.old }
     ensures write { result ≡ Status.WriteFault → Rose (O.faults out.old) (O.faults out.new) }
@@ -65,7 +67,7 @@ pub fn sample<O: Sink>(
     names: &mut NamePool,
     out: &mut O,
 ) -> Status
-    ensures says { SampleSays units result (O.taken out.old) (O.taken out.new) }
+    ensures says { SampleSays seed units names.new result (O.taken out.old) (O.taken out.new) }
     ensures files { HasFiles (length names.new) result }
     ensures idle { result ≢ Status.Done → result ≢ Status.WriteFault → out.new ≡ out.old }
     ensures write { result ≡ Status.WriteFault → Rose (O.faults out.old) (O.faults out.new) }

@@ -1,7 +1,6 @@
 -- Device: units are looked at one by one.
-use Rattle.std.proofs.Common.{◌≡◌, ℕ, ◌+◌, ◌<◌, ◌≤◌, Bool, true, false, List, map, length, Option, Some, None, IfSome, Result, Ok, Err, slice_get, ◌⊎◌, inl, inr, leb, arith, ap, sym, subst, ◌∙◌}
+use Rattle.std.proofs.Common.{◌≡◌, ℕ, ◌+◌, ◌<◌, ◌≤◌, true, false, List, length, Option, Some, None, IfSome, Result, Ok, Err, slice_get, ◌⊎◌, inl, inr, leb, arith, ap, sym, subst, ◌∙◌}
 use Rattle.std.proofs.lemmas.Bool.Decides.{leb_tells}
-use Rattle.std.specs.Option.{option_map}
 use Rattle.cil_base.specs.declared.numbers.UnitNo.{UnitNo}
 use Rattle.cil_base.specs.declared.numbers.NameId.{NameId}
 use Rattle.cil_base.specs.declared.faults.Place.{Place}
@@ -9,7 +8,7 @@ use Rattle.cil_base.specs.declared.faults.Refusal.{Refusal}
 use Rattle.cil_base.specs.declared.faults.What.{What}
 use Rattle.unit_lower.specs.Externals.{HasExternals}
 use Rattle.link_names.specs.declared.units.Fronted.{Fronted}
-use Rattle.unit_front.specs.Refusals.{Source, IsGrammatical, IsFrontRefusal}
+use Rattle.unit_front.specs.Refusals.{IsGrammatical, IsFrontRefusal}
 use Rattle.unit_front.specs.Identifiers.{DeclaresIn}
 use Rattle.cil_base.specs.declared.faults.Fault.TheVariants.{Limit}
 use Rattle.cil_base.specs.declared.faults.What.TheVariants.{PrintedBytes}
@@ -19,6 +18,7 @@ use Rattle.c_lexer.specs.Lexed.{Lexed, IfRefused, place_at}
 use Rattle.cast_insert.specs.Refusals.{IsCheckedRefusal}
 use Rattle.merge_refusals.specs.Refusals.{IsLateFault, IsTooLong, IfRefusal}
 use Rattle.unit_merger.specs.Naming.{IsNamed}
+use Rattle.unit_merger.specs.Programs.{IsUnitLong}
 use Rattle.unit_merger.specs.Units.{IsUnitOf, IsGrammaticalAt, AreGrammatical, IsPlaceAmong, AreMerged, IsRefusedAmong, InUnit, Over, Behind, over_limit, IsUnitCause, OfCheck, OfLength}
 use Rattle.unit_merger.specs.Linking.{IsFrontedAt}
 
@@ -70,10 +70,11 @@ pub late : (units files pool : List (List ℕ)) (over : Option What) (refusal : 
 late units files pool over refusal merged fault at alone =
     Behind refusal merged.none merged.grammatical fault (record { at = at; other = subst (λ o. IfSome o (IsPlaceAmong units files pool)) (sym alone) tt })
 
-pub of_check : (t : Lexed) (refusal : Refusal) → IsCheckedRefusal t refusal → IsUnitCause t refusal
-of_check t refusal is = OfCheck refusal is
+pub of_check : (t : Lexed) (names : List (List ℕ)) (refusal : Refusal) → IsCheckedRefusal t refusal → IsUnitCause t names refusal
+of_check t names refusal is = OfCheck refusal is
 
-pub of_length : (A : Type 0) (stop : Stop) (t : Lexed) (at : Place) → IsTooLong at → place_at t 0 ≡ Some at → IfRefusal stop (λ r. r.fault ≡ Limit PrintedBytes) → IfRefusal stop (λ r. r.at ≡ at) → IfRefusal stop (λ r. r.other ≡ None) → IfRefused (stopped A stop) (IsUnitCause t)
-of_length A (stops.Refused refusal) t at long is fault same other =
-    OfLength refusal fault (subst IsTooLong (sym same) long) (is ∙ ap (λ (p : Place). Some p) (sym same)) other
-of_length A stops.Memory t at long is fault same other = tt
+pub of_length : (A : Type 0) (stop : Stop) (t : Lexed) (names : List (List ℕ)) (at : Place) → IsUnitLong t names → IsTooLong at → place_at t 0 ≡ Some at → IfRefusal stop (λ r. r.fault ≡ Limit PrintedBytes) → IfRefusal stop (λ r. r.at ≡ at) → IfRefusal stop (λ r. r.other ≡ None)
+    → IfRefused (stopped A stop) (IsUnitCause t names)
+of_length A (stops.Refused refusal) t names at text long is fault same other =
+    OfLength refusal fault text (subst IsTooLong (sym same) long) (is ∙ ap (λ (p : Place). Some p) (sym same)) other
+of_length A stops.Memory t names at text long is fault same other = tt

@@ -1,8 +1,8 @@
 -- Device: one unit alone has no links, so that it is refused for none.
-use Rattle.std.proofs.Common.{◌≡◌, ℕ, zero, suc, ◌+◌, ◌<◌, ◌≤◌, Bool, true, false, cond, List, [], ◌∷◌, ◌++◌, map, length, filter, Option, Some, None, slice_get, nat_eq, refl, sym, ap, subst, ◌∙◌, append-nil, arith}
+use Rattle.std.proofs.Common.{◌≡◌, ℕ, zero, suc, ◌+◌, ◌≤◌, Bool, true, false, cond, List, [], ◌∷◌, ◌++◌, map, length, filter, Option, Some, None, slice_get, nat_eq, refl, sym, ap, subst, ◌∙◌, append-nil, arith}
 use Rattle.std.specs.List.{IsDistinct, AllByRecursion, filter_map, cons_option}
 use Rattle.std.proofs.lemmas.Option.{same_Some}
-use Rattle.std.proofs.lemmas.Bool.{eqb-true, eq-eqb}
+use Rattle.std.proofs.lemmas.Bool.{eqb-true}
 use Rattle.cil_base.specs.declared.numbers.NameId.{NameId}
 use Rattle.cil_base.specs.declared.numbers.UnitNo.{UnitNo}
 use Rattle.cil_base.specs.declared.faults.Place.{Place}
@@ -15,7 +15,7 @@ use Rattle.type_graph.specs.Arena.{Graph}
 use Rattle.link_names.specs.declared.units.Site.{Site}
 use Rattle.link_names.specs.declared.units.Fronted.{Fronted}
 use Rattle.link_names.specs.declared.names.LinkedSite.{LinkedSite}
-use Rattle.link_names.specs.Linking.{Declared, Linked, same_name, declared_at, declared_in, declared_from, once_each, said_of, grouped, strong, first_two, twice, first_twice}
+use Rattle.link_names.specs.Linking.{Declared, Linked, same_name, declared_at, declared_in, declared_from, once_each, said_of, strong, first_two, first_twice}
 use Rattle.unit_lower.specs.Externals.{HasExternals, number, external_places, external_names}
 use Rattle.cil_merge.specs.Merging.{IsSiteOf, IsClash, IsRefusal, IsMergeRefusal}
 use Rattle.unit_merger.specs.Linking.{names_in}
@@ -140,6 +140,7 @@ one_unit_links common names gs fs f refusal one has is =
     let few : AreFew (names_in fs) = subst (λ (us : List Fronted). AreFew (names_in us)) (sym one) (few_in_one f has) in
     none_refused (first_twice common (names_in fs)) names gs (names_in fs) refusal (none_twice common (names_in fs) few) few is
 
-pub never_refused : (A : Type 0) (stop : Stop) (t : Lexed) (common : Bool) (names : List (List ℕ)) (gs : List Graph) (fs : List Fronted) (f : Fronted) → fs ≡ f ∷ [] → HasExternals f → IsMergeRefusal common names gs (names_in fs) stop → IfRefused (stopped A stop) (IsUnitCause t)
-never_refused A (stops.Refused refusal) t common names gs fs f one has is = absurd (one_unit_links common names gs fs f refusal one has is)
-never_refused A stops.Memory t common names gs fs f one has is = tt
+pub never_refused : (A : Type 0) (stop : Stop) (t : Lexed) (before : List (List ℕ)) (common : Bool) (names : List (List ℕ)) (gs : List Graph) (fs : List Fronted) (f : Fronted) → fs ≡ f ∷ [] → HasExternals f → IsMergeRefusal common names gs (names_in fs) stop
+    → IfRefused (stopped A stop) (IsUnitCause t before)
+never_refused A (stops.Refused refusal) t before common names gs fs f one has is = absurd (one_unit_links common names gs fs f refusal one has is)
+never_refused A stops.Memory t before common names gs fs f one has is = tt

@@ -1,3 +1,4 @@
 pub mod Linking
 pub mod Naming
+pub mod Programs
 pub mod Units

@@ -1,7 +1,8 @@
--- Definition: what is said of the links of units that become a program, and of their refusals behind all units (C11 6.2.2p2, 6.2.7p2, 6.9p5).
-use Rattle.std.specs.Prelude.{◌≡◌, ℕ, Bool, List, length, Some, None, IfSome, Result, Ok, Err, slice_get}
+-- Definition: the program that units become, what is said of their links, and of their refusals behind all units (C11 5.1.1.1, 6.2.2p2, 6.2.7p2, 6.9p5).
+use Rattle.std.specs.Prelude.{◌≡◌, ◌<◌, ℕ, Bool, List, length, Some, None, IfSome, Result, Ok, Err, slice_get}
 use Rattle.cil_base.specs.NamePool.{Stays}
 use Rattle.cil_base.specs.declared.numbers.NameId.{NameId}
+use Rattle.cil_base.specs.declared.kinds.Abi.TheVariants.{Lp64}
 use Rattle.cil_base.specs.declared.faults.Fault.{Fault}
 use Rattle.cil_base.specs.declared.faults.Fault.TheVariants.{Limit, Duplicate, Incompatible}
 use Rattle.cil_base.specs.declared.faults.What.TheVariants.{PrintedBytes}
@@ -9,12 +10,17 @@ use Rattle.cil_base.specs.declared.faults.Place.{Place}
 use Rattle.cil_base.specs.declared.faults.Refusal.{Refusal}
 use Rattle.cil_base.specs.declared.faults.Stop.{Stop}
 use Rattle.cil_base.specs.declared.faults.Stop.TheVariants.{Refused, Memory}
+use Rattle.cil_tree.specs.declared.globals.CilUnit.{CilUnit}
+use Rattle.cil_tree.specs.View.{program_of}
+use Rattle.cil_tree.specs.Text.{Text}
+use Rattle.cil_tree.specs.Programs.{IsProgram, IsTextOf, text_limit}
 use Rattle.link_names.specs.declared.units.Fronted.{Fronted}
 use Rattle.link_names.specs.Linking.{Linked, declared_from, grouped, first_twice}
 use Rattle.unit_lower.specs.Externals.{HasExternals}
 use Rattle.unit_front.specs.Refusals.{Source}
 use Rattle.unit_front.specs.Identifiers.{IsIdentifier, DeclaresIn}
 use Rattle.cil_merge.specs.Merging.{graphs_of, Correspond, IsRefusal}
+use Rattle.cil_merge.specs.Merged.{IsMerged}
 use Rattle.unit_merger.specs.Units.{IsUnitOf, IsPlaceAmong}
 
 -- the CIL program of the unit of a number: it has the external names of a program, each declared and defined at identifiers of that unit
@@ -55,6 +61,29 @@ pub record AreLinked (common : Bool) (units files pool : List (List ℕ)) : Type
   pub once : first_twice common (names_in fronted) ≡ None
   pub correspond : Correspond names (graphs_of fronted) (names_in fronted)
 
+-- the program of LP64 that the units become: their CIL programs are linked, and are merged to it in their order; the texts of all names behind that stay in the pool
+pub record IsProgramOf (common : Bool) (units files pool : List (List ℕ)) (program : CilUnit) : Type 0 where
+  pub linked : AreLinked common units files pool
+  pub named : List (List ℕ)
+  pub stays : Stays named pool
+  pub merged : IsMerged common linked.names named linked.fronted program
+  pub model : program.graph.abi ≡ Lp64
+
+-- the bytes are the text of the program that the units become
+pub record IsTextOfUnits (common : Bool) (units files pool : List (List ℕ)) (bytes : List ℕ) : Type 0 where
+  pub program : CilUnit
+  pub of : IsProgramOf common units files pool program
+  pub text : IsTextOf bytes (program_of pool program)
+
+-- the text of the program that the units become is too long; names are the texts of all names when it is measured, which stay in the pool
+pub record AreLong (common : Bool) (units files pool : List (List ℕ)) : Type 0 where
+  pub names : List (List ℕ)
+  pub stays : Stays names pool
+  pub program : CilUnit
+  pub of : IsProgramOf common units files names program
+  pub formed : IsProgram (program_of names program)
+  pub long : text_limit < length (Text (program_of names program))
+
 -- in the CIL programs of the units the first name is refused that is defined twice; or no name is, and the first link is refused that lets the links up to it correspond in no way. Both places are those of one identifier
 pub record IsUnlinked (common : Bool) (units files pool : List (List ℕ)) (refusal : Refusal) : Type 0 where
   pub fronted : List Fronted
@@ -70,9 +99,9 @@ LinkSays common units files pool refusal Duplicate = IsUnlinked common units fil
 LinkSays common units files pool refusal Incompatible = IsUnlinked common units files pool refusal
 LinkSays common units files pool refusal _ = Unit {0}
 
--- the text of a program is too long only where the units are linked
+-- a text is too long only where that of the program is which the units become
 abbrev pub LateSays : Bool → List (List ℕ) → List (List ℕ) → List (List ℕ) → Refusal → Fault → Type 0
-LateSays common units files pool refusal (Limit PrintedBytes) = AreLinked common units files pool
+LateSays common units files pool refusal (Limit PrintedBytes) = AreLong common units files pool
 LateSays common units files pool refusal fault = LinkSays common units files pool refusal fault
 
 -- what an answer says of the links

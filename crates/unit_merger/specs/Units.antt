@@ -10,6 +10,7 @@ use Rattle.c_lexer.specs.Lexed.{Lexed, place_at, place_of}
 use Rattle.cast_insert.specs.Refusals.{IsPlaceIn, IsCheckedRefusal}
 use Rattle.unit_front.specs.Refusals.{Source, HasTokens, IsGrammatical, KeepsFile, IsFrontRefusal}
 use Rattle.merge_refusals.specs.Refusals.{IsLateFault, IsTooLong}
+use Rattle.unit_merger.specs.Programs.{IsUnitLong}
 
 -- the unit stands among units of these bytes, whose files have these names, at its number
 pub record IsUnitOf (units files : List (List ℕ)) (s : Source) : Type 0 where
@@ -58,7 +59,7 @@ pub record AreMerged (units : List (List ℕ)) (over : Option What) (files : Lis
   pub none : over ≡ None
   pub grammatical : AreGrammatical units files (length units)
 
--- why a grammatical unit of these tokens is refused that is merged alone: as its walk says, or for the length of its program's text
-pub data IsUnitCause (t : Lexed) : Refusal → Type 0 where
-  OfCheck : (refusal : Refusal) → IsCheckedRefusal t refusal → IsUnitCause t refusal
-  OfLength : (refusal : Refusal) → refusal.fault ≡ Limit PrintedBytes → IsTooLong refusal.at → place_at t 0 ≡ Some refusal.at → refusal.other ≡ None → IsUnitCause t refusal
+-- why a grammatical unit of these tokens, which have these names, is refused that is merged alone: as its walk says, or for the length of its program's text
+pub data IsUnitCause (t : Lexed) (names : List (List ℕ)) : Refusal → Type 0 where
+  OfCheck : (refusal : Refusal) → IsCheckedRefusal t refusal → IsUnitCause t names refusal
+  OfLength : (refusal : Refusal) → refusal.fault ≡ Limit PrintedBytes → IsUnitLong t names → IsTooLong refusal.at → place_at t 0 ≡ Some refusal.at → refusal.other ≡ None → IsUnitCause t names refusal

@@ -1,7 +1,8 @@
 //! The text of the CIL program that translation units become.
 //!
-//! Its public contract says that what it answers is the text of one well-formed CIL program, or that program itself; else the units are
-//! refused, at places of their tokens, and for their links as the CIL programs ask that they become; and that the pool keeps its names.
+//! Its public contract says that what it answers is the text of one well-formed CIL program, or that program itself, which is what the
+//! CIL programs of the units are merged to, in their order; else the units are refused, at places of their tokens, and for their links
+//! and the length of the text as those programs ask; and that the pool keeps its names.
 //!
 //! The limits are own.
 #![tactic(auto)]

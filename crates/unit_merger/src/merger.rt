@@ -1,15 +1,15 @@
 ghost use Rattle.std.specs.Prelude.{◌≡◌, ◌+◌, ◌<◌, ℕ, List, map, length, IfOk, OnOk, None, Some, false};
 ghost use Rattle.std.specs.String.{string_bytes};
 ghost use Rattle.c_lexer.specs.Lexed.{IfRefused};
-ghost use Rattle.cil_tree.specs.Tree.{Program};
 ghost use Rattle.cil_tree.specs.View.{program_of};
-ghost use Rattle.cil_tree.specs.Programs.{IsProgram, IsTextOf};
+ghost use Rattle.cil_tree.specs.Programs.{IsProgram};
 ghost use Rattle.cil_base.specs.NamePool.{Stays};
 ghost use Rattle.cil_base.specs.declared.kinds.Abi.TheVariants.{Lp64};
 ghost use Rattle.merge_refusals.specs.Refusals.{IsUnitRefusal, IsMergeRefusal, PrintedIfLong, IfRefusal};
 ghost use Rattle.unit_merger.specs.Units.{AreGrammatical, AreMerged, IsRefusedAmong, IsUnitCause, over_limit};
 ghost use Rattle.unit_front.specs.Refusals.{IsFrontFault};
-ghost use Rattle.unit_merger.specs.Linking.{AreFronted, SaysFirst, SaysOfLinks};
+ghost use Rattle.unit_merger.specs.Linking.{AreFronted, IsProgramOf, IsTextOfUnits, SaysFirst, SaysOfLinks};
+ghost use Rattle.unit_merger.specs.Programs.{IsProgramOfUnit, IsTextOfUnit};
 
 use crate::naming::named;
 use crate::printing::{unit_printed, units_printed};
@@ -30,16 +30,16 @@ use unit_front::{front, parsed_front};
 /// It is refused for an excluded form, a constraint or a limit, at one of its tokens or at its end, or for a text of more than
 /// 268,435,456 bytes, at its first token. `Memory` comes where memory is wanting, and where the program is not well-formed, which ought
 /// never to be. Own.
-#[tactic(auto, using(crate::proofs::Texts::text_in))]
+#[tactic(auto)]
 pub fn unit_text(
     alloc: Global,
     unit: &Unit,
     tokens: &Tokens<'_>,
     names: &mut NamePool,
 ) -> Result<Bytes, Stop>
-    ensures text { IfOk result (λ b. (p : Program) × IsTextOf b p × (p.graph.abi ≡ Lp64)) }
+    ensures text { IfOk result (IsTextOfUnit tokens.now names.old) }
     ensures refused { IfRefused result (IsUnitRefusal (length names.new)) }
-    ensures cause { IfRefused result (IsUnitCause tokens.now) }
+    ensures cause { IfRefused result (IsUnitCause tokens.now names.old) }
     ensures printed { IfRefused result PrintedIfLong }
     ensures stays { Stays names.old names.new }
 {
@@ -52,7 +52,7 @@ pub fn unit_text(
 ///
 /// They are refused for the first fault of the first unit that has one, then for that limit, then with `Duplicate` (6.9p5) or
 /// `Incompatible` (6.2.7p2) as the links of their programs ask, then for the length of the text. `Memory` comes as of `unit_text`. Own.
-#[tactic(auto, using(crate::proofs::Texts::text_in, crate::proofs::InOrder::late, crate::proofs::Links::of_printing, crate::proofs::Links::linked_later, cil_base::proofs::PoolLemmas::stays_then))]
+#[tactic(auto, using(crate::proofs::InOrder::late, crate::proofs::Links::of_printing, crate::proofs::Links::linked_later, cil_base::proofs::PoolLemmas::stays_then))]
 pub fn units_text(
     alloc: Global,
     sources: &Sources,
@@ -60,7 +60,7 @@ pub fn units_text(
     common: bool,
     names: &mut NamePool,
 ) -> Result<Bytes, Stop>
-    ensures text { IfOk result (λ b. (p : Program) × IsTextOf b p × (p.graph.abi ≡ Lp64)) }
+    ensures text { IfOk result (IsTextOfUnits common sources.now.units.items (map string_bytes files.now) names.new) }
     ensures refused { IfRefused result (IsMergeRefusal (length files.now) (length names.new)) }
     ensures merged { IfOk result (λ _. AreMerged sources.now.units.items sources.now.over (map string_bytes files.now)) }
     ensures cause { IfRefused result (IsRefusedAmong sources.now.units.items sources.now.over (map string_bytes files.now) names.new) }
@@ -75,7 +75,7 @@ pub fn units_text(
 
 /// The CIL program that translation units in memory become, of files of these names, without common definitions; they are refused as by
 /// `units_text`. Own.
-#[tactic(auto, using(crate::proofs::InOrder::late, crate::proofs::Links::of_long, crate::proofs::Links::linked_later, cil_base::proofs::PoolLemmas::stays_then))]
+#[tactic(auto, using(crate::proofs::Texts::made_later, crate::proofs::InOrder::late, crate::proofs::Links::of_long, crate::proofs::Links::linked_later, cil_base::proofs::PoolLemmas::stays_then))]
 pub fn units_program(
     alloc: Global,
     units: &[Bytes],
@@ -83,6 +83,7 @@ pub fn units_program(
     names: &mut NamePool,
 ) -> Result<CilUnit, Stop>
     ensures program { IfOk result (λ u. IsProgram (program_of names.new u)) }
+    ensures of { IfOk result (IsProgramOf false units.now (map string_bytes files.now) names.new) }
     ensures model { IfOk result (λ u. u.graph.abi ≡ Lp64) }
     ensures refused { IfRefused result (IsMergeRefusal (length files.now) (length names.new)) }
     ensures merged { IfOk result (λ _. AreMerged units.now None (map string_bytes files.now)) }
@@ -103,9 +104,10 @@ fn merged_unit(
     tokens: &Tokens<'_>,
     names: &mut NamePool,
 ) -> Result<CilUnit, Stop>
+    ensures program { IfOk result (IsProgramOfUnit tokens.now names.old names.new) }
     ensures model { IfOk result (λ u. u.graph.abi ≡ Lp64) }
     ensures refused { IfRefused result (IsUnitRefusal (length names.new)) }
-    ensures cause { IfRefused result (IsUnitCause tokens.now) }
+    ensures cause { IfRefused result (IsUnitCause tokens.now names.old) }
     ensures printed { IfRefused result PrintedIfLong }
     ensures stays { Stays names.old names.new }
 {
@@ -126,6 +128,7 @@ fn merged(
     common: bool,
     names: &mut NamePool,
 ) -> Result<CilUnit, Stop>
+    ensures program { IfOk result (IsProgramOf common units.now (map string_bytes files.now) names.new) }
     ensures model { IfOk result (λ u. u.graph.abi ≡ Lp64) }
     ensures refused { IfRefused result (IsMergeRefusal (length files.now) (length names.new)) }
     ensures merged { IfOk result (λ _. AreMerged units.now over (map string_bytes files.now)) }
@@ -149,8 +152,9 @@ fn program_of_unit(
     tokens: &Tokens<'_>,
     names: &mut NamePool,
 ) -> Result<CilUnit, Stop>
+    ensures program { IfOk result (IsProgramOfUnit tokens.now names.old names.new) }
     ensures model { IfOk result (λ u. u.graph.abi ≡ Lp64) }
-    ensures cause { IfRefused result (IsUnitCause tokens.now) }
+    ensures cause { IfRefused result (IsUnitCause tokens.now names.old) }
     ensures stays { Stays names.old names.new }
 {
     let mode = Mode {
@@ -176,6 +180,7 @@ fn program_of_units(
     common: bool,
     names: &mut NamePool,
 ) -> Result<CilUnit, Stop>
+    ensures program { IfOk result (IsProgramOf common units.now (map string_bytes files.now) names.new) }
     ensures model { IfOk result (λ u. u.graph.abi ≡ Lp64) }
     ensures merged { IfOk result (λ _. AreMerged units.now over (map string_bytes files.now)) }
     ensures cause { IfRefused result (IsRefusedAmong units.now over (map string_bytes files.now) names.new) }

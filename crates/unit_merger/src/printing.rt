@@ -1,4 +1,4 @@
-ghost use Rattle.std.specs.Prelude.{◌≡◌, ◌≤◌, ◌<◌, Some, None, length, map, MatchOption, IfOk, OnOk};
+ghost use Rattle.std.specs.Prelude.{◌≡◌, ◌≤◌, ◌<◌, ℕ, Bool, List, Some, None, length, map, MatchOption, IfOk, OnOk};
 ghost use Rattle.std.specs.String.{string_bytes};
 ghost use Rattle.cil_base.specs.NamePool.{Stays};
 ghost use Rattle.cil_base.specs.declared.kinds.Abi.TheVariants.{Lp64};
@@ -8,6 +8,8 @@ ghost use Rattle.c_lexer.specs.Lexed.{IfRefused, place_at};
 ghost use Rattle.cil_tree.specs.Text.{Text};
 ghost use Rattle.cil_tree.specs.View.{program_of};
 ghost use Rattle.cil_tree.specs.Programs.{IsProgram, IsTextOf, text_limit};
+ghost use Rattle.unit_merger.specs.Linking.{IsProgramOf, AreLong};
+ghost use Rattle.unit_merger.specs.Programs.{IsProgramOfUnit};
 ghost use Rattle.unit_merger.specs.Units.{IsPlaceAmong, IsUnitCause};
 ghost use Rattle.merge_refusals.specs.Refusals.{IsLateFault, IsUnitRefusal, IsMergeRefusal, PrintedIfLong};
 
@@ -63,7 +65,7 @@ pub(crate) fn unit_printed(
     requires { program.now.graph.abi ≡ Lp64 }
     ensures text { IfOk result (λ b. IsTextOf b (program_of names.now program.now)) }
     ensures refused { IfRefused result (IsUnitRefusal (length names.now)) }
-    ensures cause { IfRefused result (IsUnitCause tokens.now) }
+    ensures cause { (before : List (List ℕ)) → IsProgramOfUnit tokens.now before names.now program.now → IfRefused result (IsUnitCause tokens.now before) }
     ensures printed { IfRefused result PrintedIfLong }
 {
     match printed(program, names)? {
@@ -118,6 +120,7 @@ pub(crate) fn units_printed(
     ensures long { IfRefused result (λ r. r.fault ≡ Limit PrintedBytes) }
     ensures placed { IfRefused result (λ r. IsPlaceAmong units.now (map string_bytes files.now) names.new r.at) }
     ensures alone { IfRefused result (λ r. r.other ≡ None) }
+    ensures are_long { (common : Bool) → IsProgramOf common units.now (map string_bytes files.now) names.old program.now → IfRefused result (λ r. AreLong common units.now (map string_bytes files.now) names.new) }
     ensures printed { IfRefused result PrintedIfLong }
     ensures stays { Stays names.old names.new }
 {

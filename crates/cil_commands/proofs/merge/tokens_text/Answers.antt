@@ -4,7 +4,10 @@ use Rattle.c_meaning.specs.View.{expression_of}
 use Rattle.c_meaning.specs.Reading.{reading}
 use Rattle.c_meaning.specs.SourceFile.{spelled_in}
 use Rattle.c_parser.specs.UnitAnswers.{IsSyntaxFault}
+use Rattle.cil_tree.specs.Tree.{Program}
+use Rattle.cil_tree.specs.View.{program_of}
 use Rattle.cil_tree.specs.Programs.{IsTextOf}
+use Rattle.unit_merger.specs.Programs.{IsTextOfUnit}
 use Rattle.cil_commands.specs.Small.{small, whole_program}
 use Rattle.cil_commands.proofs.Merging.{small-Merges, small-well_formed}
 use Rattle.cil_commands.proofs.SmallTexts.{same_text}
@@ -23,7 +26,7 @@ returns-in-Some-clause-merged c =
     (let is = found_unit file c.args.tokens.now c.args.names.now (expression_of c.in-Some.e) are (sym some) in
     let merges = small-Merges file (expression_of c.in-Some.e) is in (
       whole_program (small (expression_of c.in-Some.e)),
-      record { grammatical = found_tree file c.args.tokens.now c.args.names.now _ are c.in_ok-tree.ensures.reads; model = refl; text = merges.text; form = λ e also. merges },
+      record { grammatical = found_tree file c.args.tokens.now c.args.names.now _ are c.in_ok-tree.ensures.reads; model = refl; text = merges.text; form = λ e also. merges; alone = λ none. absurd (none (expression_of c.in-Some.e) is) },
       c.in_ok-form_text-in-Some.ensures ∙ sym (same_text (small (expression_of c.in-Some.e)) (small-well_formed file _ is)),
     ))
 
@@ -31,10 +34,17 @@ pub returns-in-Ok-clause-merged : goal.returns-in-Ok-clause-merged
 returns-in-Ok-clause-merged c =
     let none : None ≡ reading (spelled_in c.args.tokens.now.source c.args.tokens.now.entries) = rw c.in-None.is at c.in_ok-e.ensures in
     λ file are.
-    (let made = c.in-Ok.ensures.text in (
-      made.0,
-      record { grammatical = found_tree file c.args.tokens.now c.args.names.now _ are c.in_ok-tree.ensures.reads; model = made.2; text = subst (λ bytes. IsTextOf bytes made.0) made.1.text made.1; form = λ e also. absurd (found_none file c.args.tokens.now c.args.names.now are (sym none) e also) },
-      c.into_vec.ensures ∙ made.1.text,
+    (let made = c.in-Ok.ensures.text in
+    let p : Program = program_of made.pool made.program in (
+      p,
+      record {
+        grammatical = record { tokens = c.args.tokens.now; names = c.args.names.now; are = are; tree = _; reads = c.in_ok-tree.ensures.reads };
+        model = made.of.model;
+        text = subst (λ bytes. IsTextOf bytes p) made.text.text made.text;
+        form = λ e also. absurd (found_none file c.args.tokens.now c.args.names.now are (sym none) e also);
+        alone = λ other. subst (IsTextOfUnit c.args.tokens.now c.args.names.now) made.text.text made;
+      },
+      c.into_vec.ensures ∙ made.text.text,
     ))
 
 pub returns-clause-refused : goal.returns-clause-refused

@@ -28,7 +28,7 @@ returns-clause-not_cil g c =
 
 pub returns-clause-line : goal.returns-clause-line
 returns-clause-line g c =
-    let one = line_by (g.F.Files.told c.args.files.now) (map string_bytes c.args.words.now) c.run_command-status.new.names c.steps_of.result c.run_command-status.result c.run_command-status.ensures.names (record { units = c.run_command-status.ensures.units; links = c.run_command-status.ensures.links })
+    let one = line_by (g.F.Files.told c.args.files.now) (map string_bytes c.args.words.now) c.run_command-status.new.names c.steps_of.result c.run_command-status.result (g.O.Sink.taken c.args.out.now) (g.O.Sink.taken c.run_command-status.new.out) c.run_command-status.ensures.names (record { units = c.run_command-status.ensures.units; links = c.run_command-status.ensures.links; sampled = c.run_command-status.ensures.sampled })
     (c.steps_of.ensures ∙ ap (λ command. unwrap_or (option_map bound_of command) 0) c.read_words-command.ensures) in
     (one.known, one.are, one.says, subst (λ text. Sent (g.E.Sink.taken c.args.err.now) (g.E.Sink.taken c.report.new.err) (g.E.Sink.faults c.args.err.now) (g.E.Sink.faults c.report.new.err) text) one.line c.report.ensures.sent)
 
@@ -37,3 +37,6 @@ returns-clause-units g c = (c.run_command-status.new.names, c.run_command-status
 
 pub returns-clause-links : goal.returns-clause-links
 returns-clause-links g c = (c.run_command-status.new.names, c.run_command-status.ensures.links)
+
+pub returns-clause-sampled : goal.returns-clause-sampled
+returns-clause-sampled g c = (c.run_command-status.new.names, c.run_command-status.ensures.sampled)

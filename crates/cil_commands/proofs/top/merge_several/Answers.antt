@@ -1,13 +1,14 @@
-use Rattle.std.proofs.Common.{◌≡◌, ◌<◌, ◌∷◌, [], ◌⊎◌, ◌∙◌, ap, sym, subst, map, length, arith, rules, IfSome, None, List, ℕ, drop}
+use Rattle.std.proofs.Common.{◌≡◌, ◌<◌, ◌⊎◌, ◌∙◌, ap, sym, subst, map, length, arith, rules, IfSome, None}
 use Rattle.std.specs.String.{string_bytes}
 use Rattle.std.proofs.lemmas.List.{take_rest, length-drop}
-use Rattle.cil_words.specs.Command.{files_of, merged_files}
+use Rattle.cil_words.specs.Command.{merged_files}
 use Rattle.cil_sources.specs.Files.{found_all, all_under}
 use Rattle.cil_sources.specs.Units.{kept}
 use Rattle.cil_lines.specs.declared.status.Status.TheVariants.{ReadFault, Memory}
 use Rattle.cil_commands.specs.Merge.{unit_asked}
 use Rattle.cil_commands.specs.Several.{SaysOfUnits, SaysOfLinks}
 use Rattle.cil_commands.proofs.Words.{merge_within, merge_files_are, merged_several, common_is, several_asked, several_begin, if_some_by}
+use Rattle.cil_commands.proofs.Written.{program_written, none_answered}
 use Rattle.cil_commands.proofs.top.merge_several.Goals as goal
 
 pub slice_bounds-merge_all-count : goal.slice_bounds-merge_all-count
@@ -29,35 +30,6 @@ returns-clause-names g c = λ known. record {
   refused = if_some_by (unit_asked (g.F.Files.told c.args.files.now) (map string_bytes c.args.words.now)) None _ (several_asked (g.F.Files.told c.args.files.now) c.args.words.now c.args.common c.args.first c.requires.command c.requires.several) tt;
 }
 
-pub returns-clause-done : goal.returns-clause-done
-returns-clause-done g c = λ done.
-    (let made = c.merge_all.ensures.done done in
-    (made.0, made.1, made.2, if_some_by (unit_asked (g.F.Files.told c.args.files.now) (map string_bytes c.args.words.now)) None _ (several_asked (g.F.Files.told c.args.files.now) c.args.words.now c.args.common c.args.first c.requires.command c.requires.several) tt))
-
-pub returns-clause-part : goal.returns-clause-part
-returns-clause-part g c = λ part.
-    (let made = c.merge_all.ensures.part part in
-    (made.0, made.1, made.2, if_some_by (unit_asked (g.F.Files.told c.args.files.now) (map string_bytes c.args.words.now)) None _ (several_asked (g.F.Files.told c.args.files.now) c.args.words.now c.args.common c.args.first c.requires.command c.requires.several) tt))
-
-pub returns-clause-accepted : goal.returns-clause-accepted
-returns-clause-accepted g c = if_some_by (unit_asked (g.F.Files.told c.args.files.now) (map string_bytes c.args.words.now)) None _ (several_asked (g.F.Files.told c.args.files.now) c.args.words.now c.args.common c.args.first c.requires.command c.requires.several) tt
-
-pub returns-clause-refuses : goal.returns-clause-refuses
-returns-clause-refuses g c = if_some_by (unit_asked (g.F.Files.told c.args.files.now) (map string_bytes c.args.words.now)) None _ (several_asked (g.F.Files.told c.args.files.now) c.args.words.now c.args.common c.args.first c.requires.command c.requires.several) tt
-
-pub returns-clause-refused : goal.returns-clause-refused
-returns-clause-refused g c = if_some_by (unit_asked (g.F.Files.told c.args.files.now) (map string_bytes c.args.words.now)) None _ (several_asked (g.F.Files.told c.args.files.now) c.args.words.now c.args.common c.args.first c.requires.command c.requires.several) tt
-
-pub returns-clause-missing : goal.returns-clause-missing
-returns-clause-missing g c =
-    subst (λ ns. IfSome (g.F.Files.told c.args.files.now) (λ t. found_all t.names ns ≡ None → (c.merge_all.result ≡ ReadFault) ⊎ (c.merge_all.result ≡ Memory)))
-    (ap (map string_bytes) (take_rest c.args.words.now c.args.first) ∙ sym (merge_files_are c.args.words.now c.args.common c.args.first c.requires.command)) c.merge_all.ensures.missing
-
-pub returns-clause-strays : goal.returns-clause-strays
-returns-clause-strays g c =
-    subst (λ ns. IfSome (all_under (g.F.Files.told c.args.files.now) ns) (λ _. g.F.Files.strays c.merge_all.new.files ≡ g.F.Files.strays c.args.files.now))
-    (ap (map string_bytes) (take_rest c.args.words.now c.args.first) ∙ sym (merge_files_are c.args.words.now c.args.common c.args.first c.requires.command)) c.merge_all.ensures.strays
-
 pub returns-clause-units : goal.returns-clause-units
 returns-clause-units g c =
     subst (λ ns. IfSome (all_under (g.F.Files.told c.args.files.now) ns) (λ units. SaysOfUnits units ns c.merge_all.new.names c.merge_all.result))
@@ -65,7 +37,33 @@ returns-clause-units g c =
 
 pub returns-clause-links : goal.returns-clause-links
 returns-clause-links g c = λ several.
-    (subst (λ common. IfSome (all_under (g.F.Files.told c.args.files.now) (merged_files (map string_bytes c.args.words.now))) (λ units. SaysOfLinks common (kept 0 units).units (merged_files (map string_bytes c.args.words.now)) c.merge_all.new.names c.merge_all.result))
+    (subst (λ common. IfSome (all_under (g.F.Files.told c.args.files.now) (merged_files (map string_bytes c.args.words.now))) (λ units. SaysOfLinks common (kept 0 units).units (merged_files (map string_bytes c.args.words.now)) c.merge_all.new.names c.merge_all.result (g.O.Sink.taken c.args.out.now) (g.O.Sink.taken c.merge_all.new.out)))
     (sym (common_is c.args.words.now c.args.common c.args.first c.requires.command))
-    (subst (λ ns. IfSome (all_under (g.F.Files.told c.args.files.now) ns) (λ units. SaysOfLinks c.args.common (kept 0 units).units ns c.merge_all.new.names c.merge_all.result))
+    (subst (λ ns. IfSome (all_under (g.F.Files.told c.args.files.now) ns) (λ units. SaysOfLinks c.args.common (kept 0 units).units ns c.merge_all.new.names c.merge_all.result (g.O.Sink.taken c.args.out.now) (g.O.Sink.taken c.merge_all.new.out)))
     (ap (map string_bytes) (take_rest c.args.words.now c.args.first) ∙ sym (merged_several c.args.words.now c.args.common c.args.first c.requires.command)) c.merge_all.ensures.links))
+
+pub returns-clause-written : goal.returns-clause-written
+returns-clause-written g c =
+    program_written (unit_asked (g.F.Files.told c.args.files.now) (map string_bytes c.args.words.now)) None c.merge_all.result (g.O.Sink.taken c.args.out.now) (g.O.Sink.taken c.merge_all.new.out)
+    (several_asked (g.F.Files.told c.args.files.now) c.args.words.now c.args.common c.args.first c.requires.command c.requires.several)
+    (λ s. (let made = c.merge_all.ensures.done s in (made.0, made.1, made.2, tt))) (λ s. (let made = c.merge_all.ensures.part s in (made.0, made.1, made.2, tt)))
+
+pub returns-clause-unit : goal.returns-clause-unit
+returns-clause-unit g c = none_answered (unit_asked (g.F.Files.told c.args.files.now) (map string_bytes c.args.words.now)) c.merge_all.result _ _ (several_asked (g.F.Files.told c.args.files.now) c.args.words.now c.args.common c.args.first c.requires.command c.requires.several)
+
+pub returns-clause-reads : goal.returns-clause-reads
+returns-clause-reads g c = record { failed = c.merge_all.ensures.read; calm = c.merge_all.ensures.calm; later = c.merge_all.ensures.later }
+
+pub returns-clause-writes : goal.returns-clause-writes
+returns-clause-writes g c = record { failed = c.merge_all.ensures.write; calm = c.merge_all.ensures.calm_out; later = c.merge_all.ensures.later_out }
+
+pub returns-clause-leaves : goal.returns-clause-leaves
+returns-clause-leaves g c = record {
+  missing =
+      subst (λ ns. IfSome (g.F.Files.told c.args.files.now) (λ t. found_all t.names ns ≡ None → (c.merge_all.result ≡ ReadFault) ⊎ (c.merge_all.result ≡ Memory)))
+      (ap (map string_bytes) (take_rest c.args.words.now c.args.first) ∙ sym (merge_files_are c.args.words.now c.args.common c.args.first c.requires.command)) c.merge_all.ensures.missing;
+  names_stay = c.merge_all.ensures.names_stay;
+  strays_stay =
+      subst (λ ns. IfSome (all_under (g.F.Files.told c.args.files.now) ns) (λ _. g.F.Files.strays c.merge_all.new.files ≡ g.F.Files.strays c.args.files.now))
+      (ap (map string_bytes) (take_rest c.args.words.now c.args.first) ∙ sym (merge_files_are c.args.words.now c.args.common c.args.first c.requires.command)) c.merge_all.ensures.strays;
+}

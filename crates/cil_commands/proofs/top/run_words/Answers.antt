@@ -61,4 +61,4 @@ returns-clause-units g c =
 
 pub returns-clause-links : goal.returns-clause-links
 returns-clause-links g c =
-    few_links (g.F.Files.told c.args.files.now) (map string_bytes c.args.words.now) [] c.execute.new.names c.execute.result (merged_by_run (map string_bytes c.args.words.now) c.args.steps c.args.file c.requires.command) (omega arith)
+    few_links (g.F.Files.told c.args.files.now) (map string_bytes c.args.words.now) [] c.execute.new.names c.execute.result _ _ (merged_by_run (map string_bytes c.args.words.now) c.args.steps c.args.file c.requires.command) (omega arith)
