@@ -1,10 +1,11 @@
 -- Definition: what `sample` answers (own).
-use Rattle.std.specs.Prelude.{ℕ, ◌<◌, false, List, Option, None}
+use Rattle.std.specs.Prelude.{ℕ, ◌<◌, ◌≤◌, false, List, length, Option, None}
 use Rattle.outside.specs.Moves.{Began, Wrote}
 use Rattle.cil_base.specs.declared.faults.Refusal.{Refusal}
 use Rattle.cil_tree.specs.declared.globals.CilUnit.{CilUnit}
 use Rattle.cil_tree.specs.View.{program_of}
-use Rattle.cil_tree.specs.Programs.{IsProgram}
+use Rattle.cil_tree.specs.Text.{Text}
+use Rattle.cil_tree.specs.Programs.{IsProgram, text_limit}
 use Rattle.merge_refusals.specs.Refusals.{IsMergeFault, HasOther, PrintedIfLong}
 use Rattle.unit_merger.specs.Units.{IsRefusedAmong}
 use Rattle.unit_merger.specs.Linking.{IsProgramOf, LateSays}
@@ -15,10 +16,11 @@ use Rattle.sample_summary.specs.declared.stop.SampleStop.TheVariants as stop
 use Rattle.cil_lines.specs.declared.status.Status.{Status}
 use Rattle.cil_lines.specs.declared.status.Status.TheVariants.{Done, Exited, StillRunning, WentUndefined, Usage, Refused, NotCil, ReadFault, WriteFault, Memory}
 
--- the well-formed program that so many units of a sample become, which are made from that seed
+-- a well-formed program, whose text is not too long, to which CIL programs of so many units of a sample are merged, which are made from that seed
 pub record IsOfSample (seed units : ℕ) (pool : List (List ℕ)) (program : CilUnit) : Type 0 where
   pub of : IsProgramOf false (unit_texts seed units) (file_names units) pool program
   pub formed : IsProgram (program_of pool program)
+  pub short : length (Text (program_of pool program)) ≤ text_limit
 
 -- the lines tell that program
 pub record AreOfProgram (seed units : ℕ) (pool : List (List ℕ)) (lines : List ℕ) : Type 0 where
@@ -32,7 +34,7 @@ pub record HasNone (seed units : ℕ) (pool : List (List ℕ)) (cause : SampleSt
   pub of : IsOfSample seed units pool program
   pub stops : StopsSo (program_of pool program) cause
 
--- the lines that out took, or a beginning of which it took
+-- the lines that out took, or a front of which it took
 pub record WroteLines (seed units : ℕ) (pool : List (List ℕ)) (taken taken' : Option (List ℕ)) : Type 0 where
   pub lines : List ℕ
   pub are : AreOfProgram seed units pool lines

@@ -19,7 +19,7 @@ use Rattle.cil_base.specs.NamePool.{Stays}
 use Rattle.cil_base.proofs.PoolLemmas.{stays_then}
 use Rattle.unit_front.specs.Refusals.{IsFrontFault}
 use Rattle.cil_merge.specs.Merging.{graphs_of, Correspond, IsRefusal}
-use Rattle.merge_refusals.specs.Refusals.{IfRefusal, IsLateFault}
+use Rattle.merge_refusals.specs.Refusals.{IfRefusal, IsLateFault, PrintedIfLong}
 use Rattle.unit_merger.specs.Units.{over_limit, AreMerged, IsRefusedAmong, Behind}
 use Rattle.unit_merger.specs.Linking.{IsFrontedAt, AreFronted, names_in, AreNamedAmong, AreLinked, AreLong, IsUnlinked, LinkSays, LateSays, SaysOfLinks, SaysFirst}
 use Rattle.unit_merger.proofs.InOrder.{stopped}
@@ -133,11 +133,11 @@ of_first_stop A stops.Memory refusal common units files pool says same short = t
 
 -- printed, or too long
 
-pub of_printing : {A : Type 0} (r : Result A Stop) (common : Bool) (units files p q : List (List ℕ)) → AreLinked common units files p → Stays p q → IfRefused r (λ refusal. refusal.fault ≡ Limit PrintedBytes) → IfRefused r (λ refusal. AreLong common units files q) → SaysOfLinks common units files q r
-of_printing (Ok a) common units files p q are stays fault long = linked_later common units files p q stays are
-of_printing (Err (stops.Refused refusal)) common units files p q are stays fault long = subst (LateSays common units files q refusal) (sym fault) long
-of_printing (Err stops.Memory) common units files p q are stays fault long = tt
+pub of_printing : {A : Type 0} (r : Result A Stop) (common : Bool) (units files p q : List (List ℕ)) → AreLinked common units files p → Stays p q → IfRefused r (λ refusal. refusal.fault ≡ Limit PrintedBytes) → IfRefused r (λ refusal. AreLong common units files q) → IfRefused r PrintedIfLong → SaysOfLinks common units files q r
+of_printing (Ok a) common units files p q are stays fault long printed = linked_later common units files p q stays are
+of_printing (Err (stops.Refused refusal)) common units files p q are stays fault long printed = subst (LateSays common units files q refusal) (sym fault) (record { long = long; first = printed fault })
+of_printing (Err stops.Memory) common units files p q are stays fault long printed = tt
 
-pub of_long : (A B : Type 0) (stop : Stop) (common : Bool) (units files pool : List (List ℕ)) → IfRefused (stopped A stop) (λ refusal. refusal.fault ≡ Limit PrintedBytes) → IfRefused (stopped A stop) (λ refusal. AreLong common units files pool) → SaysOfLinks common units files pool (stopped B stop)
-of_long A B (stops.Refused refusal) common units files pool fault long = subst (LateSays common units files pool refusal) (sym fault) long
-of_long A B stops.Memory common units files pool fault long = tt
+pub of_long : (A B : Type 0) (stop : Stop) (common : Bool) (units files pool : List (List ℕ)) → IfRefused (stopped A stop) (λ refusal. refusal.fault ≡ Limit PrintedBytes) → IfRefused (stopped A stop) (λ refusal. AreLong common units files pool) → IfRefused (stopped A stop) PrintedIfLong → SaysOfLinks common units files pool (stopped B stop)
+of_long A B (stops.Refused refusal) common units files pool fault long printed = subst (LateSays common units files pool refusal) (sym fault) (record { long = long; first = printed fault })
+of_long A B stops.Memory common units files pool fault long printed = tt

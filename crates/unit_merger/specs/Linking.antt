@@ -21,6 +21,7 @@ use Rattle.unit_front.specs.Refusals.{Source}
 use Rattle.unit_front.specs.Identifiers.{IsIdentifier, DeclaresIn}
 use Rattle.cil_merge.specs.Merging.{graphs_of, Correspond, IsRefusal}
 use Rattle.cil_merge.specs.Merged.{IsMerged}
+use Rattle.merge_refusals.specs.Refusals.{IsTooLong}
 use Rattle.unit_merger.specs.Units.{IsUnitOf, IsPlaceAmong}
 
 -- the CIL program of the unit of a number: it has the external names of a program, each declared and defined at identifiers of that unit
@@ -61,21 +62,22 @@ pub record AreLinked (common : Bool) (units files pool : List (List ℕ)) : Type
   pub once : first_twice common (names_in fronted) ≡ None
   pub correspond : Correspond names (graphs_of fronted) (names_in fronted)
 
--- the program of LP64 that the units become: their CIL programs are linked, and are merged to it in their order; the texts of all names behind that stay in the pool
+-- a program of LP64 to which linked CIL programs of the units are merged in their order; the texts of all names behind that stay in the pool
 pub record IsProgramOf (common : Bool) (units files pool : List (List ℕ)) (program : CilUnit) : Type 0 where
   pub linked : AreLinked common units files pool
   pub named : List (List ℕ)
+  pub behind : Stays linked.names named
   pub stays : Stays named pool
   pub merged : IsMerged common linked.names named linked.fronted program
   pub model : program.graph.abi ≡ Lp64
 
--- the bytes are the text of the program that the units become
+-- the bytes are the text of such a program
 pub record IsTextOfUnits (common : Bool) (units files pool : List (List ℕ)) (bytes : List ℕ) : Type 0 where
   pub program : CilUnit
   pub of : IsProgramOf common units files pool program
   pub text : IsTextOf bytes (program_of pool program)
 
--- the text of the program that the units become is too long; names are the texts of all names when it is measured, which stay in the pool
+-- the text of such a program is too long; names are the texts of all names when it is measured, which stay in the pool
 pub record AreLong (common : Bool) (units files pool : List (List ℕ)) : Type 0 where
   pub names : List (List ℕ)
   pub stays : Stays names pool
@@ -83,6 +85,11 @@ pub record AreLong (common : Bool) (units files pool : List (List ℕ)) : Type 0
   pub of : IsProgramOf common units files names program
   pub formed : IsProgram (program_of names program)
   pub long : text_limit < length (Text (program_of names program))
+
+-- such a text is too long, and the place is that of the first token of the first unit
+pub record AreLongAt (common : Bool) (units files pool : List (List ℕ)) (at : Place) : Type 0 where
+  pub long : AreLong common units files pool
+  pub first : IsTooLong at
 
 -- in the CIL programs of the units the first name is refused that is defined twice; or no name is, and the first link is refused that lets the links up to it correspond in no way. Both places are those of one identifier
 pub record IsUnlinked (common : Bool) (units files pool : List (List ℕ)) (refusal : Refusal) : Type 0 where
@@ -99,9 +106,9 @@ LinkSays common units files pool refusal Duplicate = IsUnlinked common units fil
 LinkSays common units files pool refusal Incompatible = IsUnlinked common units files pool refusal
 LinkSays common units files pool refusal _ = Unit {0}
 
--- a text is too long only where that of the program is which the units become
+-- a text is told to be too long only where that of a program is to which the units are merged, at the first token of the first unit
 abbrev pub LateSays : Bool → List (List ℕ) → List (List ℕ) → List (List ℕ) → Refusal → Fault → Type 0
-LateSays common units files pool refusal (Limit PrintedBytes) = AreLong common units files pool
+LateSays common units files pool refusal (Limit PrintedBytes) = AreLongAt common units files pool refusal.at
 LateSays common units files pool refusal fault = LinkSays common units files pool refusal fault
 
 -- what an answer says of the links

@@ -12,11 +12,12 @@ use Rattle.unit_lower.specs.Externals.{HasExternals}
 use Rattle.unit_front.specs.Identifiers.{AreDeclared}
 use Rattle.cil_merge.specs.Merged.{IsMerged}
 
--- the program of LP64 that a unit of these tokens becomes alone: the unit's CIL program, whose external names are declared and defined at its identifiers, is merged to it. The names that its tokens have stay, and the pool has the names behind all
+-- a program of LP64 to which a CIL program of a unit of these tokens is merged alone, whose external names are declared and defined at the unit's identifiers. The names that its tokens have stay, and the pool keeps the names behind its lowering. The mode says nothing of one unit, which has each name once
 pub record IsProgramOfUnit (t : Lexed) (before pool : List (List ℕ)) (program : CilUnit) : Type 0 where
   pub fronted : Fronted
   pub names : List (List ℕ)
   pub stays : Stays before names
+  pub keeps : Stays names pool
   pub externals : HasExternals fronted
   pub declared : AreDeclared t fronted
   pub merged : IsMerged false names pool (fronted ∷ []) program

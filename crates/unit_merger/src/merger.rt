@@ -1,8 +1,9 @@
-ghost use Rattle.std.specs.Prelude.{◌≡◌, ◌+◌, ◌<◌, ℕ, List, map, length, IfOk, OnOk, None, Some, false};
+ghost use Rattle.std.specs.Prelude.{◌≡◌, ◌+◌, ◌<◌, ◌≤◌, ℕ, List, map, length, IfOk, OnOk, None, Some, false};
 ghost use Rattle.std.specs.String.{string_bytes};
 ghost use Rattle.c_lexer.specs.Lexed.{IfRefused};
 ghost use Rattle.cil_tree.specs.View.{program_of};
-ghost use Rattle.cil_tree.specs.Programs.{IsProgram};
+ghost use Rattle.cil_tree.specs.Text.{Text};
+ghost use Rattle.cil_tree.specs.Programs.{IsProgram, text_limit};
 ghost use Rattle.cil_base.specs.NamePool.{Stays};
 ghost use Rattle.cil_base.specs.declared.kinds.Abi.TheVariants.{Lp64};
 ghost use Rattle.merge_refusals.specs.Refusals.{IsUnitRefusal, IsMergeRefusal, PrintedIfLong, IfRefusal};
@@ -83,6 +84,7 @@ pub fn units_program(
     names: &mut NamePool,
 ) -> Result<CilUnit, Stop>
     ensures program { IfOk result (λ u. IsProgram (program_of names.new u)) }
+    ensures short { IfOk result (λ u. length (Text (program_of names.new u)) ≤ text_limit) }
     ensures of { IfOk result (IsProgramOf false units.now (map string_bytes files.now) names.new) }
     ensures model { IfOk result (λ u. u.graph.abi ≡ Lp64) }
     ensures refused { IfRefused result (IsMergeRefusal (length files.now) (length names.new)) }

@@ -104,7 +104,7 @@ fn place_in(
 }
 
 /// The text of the program that units of these files become, in the data model of the commands.
-#[tactic(auto, using(crate::proofs::Places::long_among))]
+#[tactic(auto, using(crate::proofs::Places::long_among, crate::proofs::Texts::short_text))]
 pub(crate) fn units_printed(
     alloc: Global,
     program: &CilUnit,
@@ -115,6 +115,7 @@ pub(crate) fn units_printed(
     requires { program.now.graph.abi ≡ Lp64 }
     ensures text { IfOk result (λ b. IsTextOf b (program_of names.new program.now)) }
     ensures program { OnOk result (IsProgram (program_of names.new program.now)) }
+    ensures short { OnOk result (length (Text (program_of names.new program.now)) ≤ text_limit) }
     ensures refused { IfRefused result (IsMergeRefusal (length files.now) (length names.new)) }
     ensures late { IfRefused result (λ r. IsLateFault r.fault) }
     ensures long { IfRefused result (λ r. r.fault ≡ Limit PrintedBytes) }

@@ -14,7 +14,7 @@ returns-clause-refused c = subst (λ n. IfRefused c.units_program.result (IsMerg
 
 pub returns-clause-program : goal.returns-clause-program
 returns-clause-program c =
-    formed_of c.args.seed c.args.units c.units_program.new.names c.units_program.result c.units_program.ensures.program
+    formed_of c.args.seed c.args.units c.units_program.new.names c.units_program.result c.units_program.ensures.program c.units_program.ensures.short
     (of_both (λ us fs. IfOk c.units_program.result (IsProgramOf false us fs c.units_program.new.names)) _ (unit_texts c.args.seed c.args.units) _ (file_names c.args.units) (c.deref.ensures.value ∙ c.in_ok-sources.ensures) (ap (map string_bytes) c.deref-2.ensures.value ∙ c.in_ok-files.ensures)
     c.units_program.ensures.of)
 

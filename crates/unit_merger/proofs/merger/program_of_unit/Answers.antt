@@ -13,4 +13,4 @@ returns-in-Err-clause-cause c =
 pub returns-in-Ok-clause-program : goal.returns-in-Ok-clause-program
 returns-in-Ok-clause-program c =
     let one : c.push.new.self.items ≡ c.in_ok-fronted.fronted ∷ [] = search rules in
-    made_alone c.args.tokens.now c.args.names.now c.parsed_front.new.names c.merge.new.names c.push.new.self.items c.in_ok-fronted.fronted c.in-Ok.program one c.parsed_front.ensures.stays c.in_ok-fronted.ensures.externals c.in_ok-fronted.ensures.declared c.in-Ok.ensures.merged c.in-Ok.ensures.model
+    made_alone c.args.tokens.now c.args.names.now c.parsed_front.new.names c.merge.new.names c.push.new.self.items c.in_ok-fronted.fronted c.in-Ok.program one c.parsed_front.ensures.stays c.merge.ensures.stays c.in_ok-fronted.ensures.externals c.in_ok-fronted.ensures.declared c.in-Ok.ensures.merged c.in-Ok.ensures.model
