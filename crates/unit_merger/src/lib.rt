@@ -1,8 +1,9 @@
 //! The text of the CIL program that translation units become.
 //!
-//! Its public contract says that what it answers is the text of one well-formed CIL program, or that program itself, which is what the
-//! CIL programs of the units are merged to, in their order; else the units are refused, at places of their tokens, and for their links
-//! and the length of the text as those programs ask; and that the pool keeps its names.
+//! Its public contract says that what it answers is the text of one well-formed CIL program, or that program itself, to which CIL
+//! programs of the units are merged, in their order, whose external names stand at identifiers of the units; else the units are refused,
+//! at places of their tokens, and for their links and the length of the text as such programs ask; and that the pool keeps its names.
+//! What else these programs have of the units is not said yet.
 //!
 //! The limits are own.
 #![tactic(auto)]
