@@ -51,7 +51,7 @@ pub data IsNoGrammar (unit : SourceFile) : Refusal → List (List ℕ) → Type 
   OfToken : (refusal : Refusal) (names : List (List ℕ)) → length unit.bytes ≤ 4194304 → IsLexed unit (Refused refusal names) → IsNoGrammar unit refusal names
   OfGrammar : (refusal : Refusal) (names : List (List ℕ)) (tokens : Lexed) → AreTokens unit tokens names → IsSyntaxFault tokens refusal → IsNoGrammar unit refusal names
 
--- why a file is refused, with the names that its places' files are numbers in: it is no grammatical unit; or it is one that is not of the form, and is refused at a token of it for an excluded form, a constraint of C11 or a limit, or because the text of its program is too long
+-- why a file is refused, with the names that its places' files are numbers in: it is no grammatical unit; or it is one that is not of the form, and is refused at a token of it for an excluded form, a constraint of C11 or a limit, or because the text of a program to which it is merged is too long
 pub data IsRefused (unit : SourceFile) : Refusal → List (List ℕ) → Type 0 where
   NoGrammar : (refusal : Refusal) (names : List (List ℕ)) → IsNoGrammar unit refusal names → IsRefused unit refusal names
   OfUnit : (refusal : Refusal) (names : List (List ℕ)) (g : IsGrammatical unit) → IsNoUnit unit → IsUnitCause g.tokens g.names refusal → KeepsFiles g.names names refusal → IsRefused unit refusal names
@@ -60,7 +60,7 @@ pub data IsRefused (unit : SourceFile) : Refusal → List (List ℕ) → Type 0 
 abbrev pub IsWritten : Program → Type 0
 IsWritten p = (p.graph.abi ≡ Lp64) × IsTextOf (Text p) p
 
--- the program that the unit is merged to: the unit is grammatical, and the program is the one of LP64 with its text; where the unit is of the form its meaning is kept, and where it is not the text is that of the program which it becomes alone
+-- a program that the unit is merged to: the unit is grammatical, and the program is the one of LP64 with its text; where the unit is of the form its meaning is kept, and where it is not the text is that of a program to which a CIL program of the unit is merged alone
 pub record IsMergedTo (unit : SourceFile) (p : Program) : Type 0 where
   pub grammatical : IsGrammatical unit
   pub model : p.graph.abi ≡ Lp64

@@ -1,4 +1,4 @@
--- Definition: what `merge` says of the units that it is asked for, in their order (own).
+-- Definition: what `merge` and `sample` say of their units, in the units' order, and of what out took (own).
 use Rattle.std.specs.Prelude.{◌≡◌, ℕ, ◌<◌, None, Bool, false, List, length, Option, unwrap_or, IfSome}
 use Rattle.std.specs.Option.{option_map}
 use Rattle.cil_base.specs.declared.faults.What.{What}
@@ -24,19 +24,19 @@ SaysOfKept units over files names _ = Unit {0}
 abbrev pub SaysOfUnits : List (List ℕ) → List (List ℕ) → List (List ℕ) → Status → Type 0
 SaysOfUnits units files names status = SaysOfKept (kept 0 units).units (kept 0 units).over files names status
 
--- out took the text of the program that units of these files become
+-- out took the text of a program to which CIL programs of units of these files are merged
 pub record WroteUnits (common : Bool) (units files names : List (List ℕ)) (taken taken' : Option (List ℕ)) : Type 0 where
   pub bytes : List ℕ
   pub text : IsTextOfUnits common units files names bytes
   pub wrote : Wrote taken taken' bytes
 
--- a beginning of it
+-- out took a front of such a text
 pub record BeganUnits (common : Bool) (units files names : List (List ℕ)) (taken taken' : Option (List ℕ)) : Type 0 where
   pub bytes : List ℕ
   pub text : IsTextOfUnits common units files names bytes
   pub began : Began taken taken' bytes
 
--- what a status says of the program that units of these files become, where out had taken `taken` and has taken `taken'`: where a text is written the units are linked, and it is that program's; a refusal that is found behind all is the one that their links or that text ask for
+-- what a status says of the links of units of these files, and of the text of a program to which their CIL programs are merged, where out had taken `taken` and has taken `taken'`: where a text is written, or a front of one, the units are linked, and it is such a text; a refusal that is found behind all has its cause in their links, or in the length of such a text
 abbrev pub SaysOfLinks : Bool → (units files names : List (List ℕ)) → Status → (taken taken' : Option (List ℕ)) → Type 0
 SaysOfLinks common units files names Done taken taken' = WroteUnits common units files names taken taken'
 SaysOfLinks common units files names WriteFault taken taken' = BeganUnits common units files names taken taken'
@@ -51,10 +51,10 @@ common_asked words = unwrap_or (option_map is_common (command_of words)) false
 abbrev pub UnitsSay : Option Told → List (List ℕ) → List (List ℕ) → Status → Type 0
 UnitsSay told words names status = sample_asked words ≡ None → IfSome (all_under told (merged_files words)) (λ units. SaysOfUnits units (merged_files words) names status)
 
--- what it says of the program that they become, where there are several
+-- what it says of their links and their text, where there are several
 abbrev pub LinksSay : Option Told → (words names : List (List ℕ)) → Status → (taken taken' : Option (List ℕ)) → Type 0
 LinksSay told words names status taken taken' = 1 < length (merged_files words) → IfSome (all_under told (merged_files words)) (λ units. SaysOfLinks (common_asked words) (kept 0 units).units (merged_files words) names status taken taken')
 
--- what it says of the program of the sample that the words ask for
+-- what it says of the sample that the words ask for
 abbrev pub SampledSays : (words names : List (List ℕ)) → Status → (taken taken' : Option (List ℕ)) → Type 0
 SampledSays words names status taken taken' = IfSome (sample_asked words) (λ asked. SampleSays asked.seed asked.units names status taken taken')

@@ -42,21 +42,22 @@ use std::alloc::Global;
 /// `merge [--common] FILE...` reads the files as C translation units and writes the text of the CIL program that they are merged to.
 /// Where it is `Done`, out took the whole text of one well-formed CIL program. Of a file that is merged alone it is further said: it is
 /// a grammatical unit (C11 6.9); where it is of the form `int main(void) { return E; }`, with E of decimal constants, binary `+` and `-`
-/// and parentheses, the program's run is, in every environment and at every bound of steps, one that the unit's run allows; where it is
-/// not, the program is the one to which its CIL program is merged; and where no call on the files failed it is `Refused` exactly for the
-/// first of these: the unit has more than 4,194,304 bytes; a token of it is a lexical fault, excluded or a name that is too long; no
-/// grammatical unit spells its tokens. Every other refusal is of one of the seven kinds, at places in the units that were asked for. A
-/// unit that is not grammatical has two places: that of the token at which, behind whole external declarations, none begins, and that of
-/// one up to which none does; a second definition and a declaration that does not go with another have two as well. Then, as in each
-/// other case but `Done` and `WriteFault`, out took nothing. Of any number of files it is said too: where a text is written each unit is
-/// grammatical and none passes a limit on bytes; and where it is `Refused`, each unit before the one of the place is grammatical, and
-/// that one has too many bytes, or the units so far have, or it is refused as its tokens and its grammar say, or behind its grammar for
-/// an excluded form, a constraint or a limit, at one of its tokens or at its end; or all units are grammatical, and the fault is one of
-/// those that are found behind all: `Duplicate`, `Incompatible`, and the limit on the bytes of the text. With `--common` tentative
-/// definitions of one name in several units are one object (J.5.11). Of several files it is said as well: each has a CIL program; where
-/// a text is written it is that of the program to which these are merged, in the order of the words, no external name is defined twice
-/// in them, and all declarations of one correspond; `Duplicate` and `Incompatible` come for the first name, or the first pair of
-/// declarations, of which that is not so; and the limit on the text where that program's is longer.
+/// and parentheses, the program's run is, in every environment and at every bound of steps, one that the unit's run allows; where the
+/// unit is not of that form, the program is one to which a CIL program of the unit is merged; and where no call on the files failed it
+/// is `Refused` exactly for the first of these: the unit has more than 4,194,304 bytes; a token of it is a lexical fault, excluded or a
+/// name that is too long; no grammatical unit spells its tokens. Every other refusal is of one of the seven kinds, at places in the
+/// units that were asked for. A unit that is not grammatical has two places: that of the token at which, behind whole external
+/// declarations, none begins, and that of one up to which none does; a second definition and a declaration that does not go with
+/// another have two as well. Then, as in each other case but `Done` and `WriteFault`, out took nothing. Of any number of files it is
+/// said too: where a text is written each unit is grammatical and none passes a limit on bytes; and where it is `Refused`, each unit
+/// before the one of the place is grammatical, and that one has too many bytes, or the units so far have, or it is refused as its tokens
+/// and its grammar say, or behind its grammar for an excluded form, a constraint or a limit, at one of its tokens or at its end; or all
+/// units are grammatical, and the fault is one of those that are found behind all: `Duplicate`, `Incompatible`, and the limit on the
+/// bytes of the text. With `--common` tentative definitions of one name in several units are one object (J.5.11). Of several files it is
+/// said as well: each has a CIL program; where a text is written it is that of a program to which these are merged, in the order of the
+/// words, no external name is defined twice in them, and all declarations of one correspond; `Duplicate` and `Incompatible` come for the
+/// first name, or the first pair of declarations, of which that is not so; and the limit on the text comes only where the text of such a
+/// program is longer, at the first token of the first unit.
 ///
 /// `run [--steps N] FILE [ARG...]` reads the file as a CIL text and runs its program with the words from FILE on, bounded by N
 /// steps: it is `Exited`, `StillRunning` or `WentUndefined` as the program's run on the bytes of input ends, and then out took just
@@ -66,10 +67,10 @@ use std::alloc::Global;
 /// of the output, whatever input has still to give. Each read of input, of at most 4,096 bytes or its end, was needed.
 ///
 /// `sample SEED UNITS` makes so many C translation units from the seed, merges them, runs their program without input, bounded by
-/// 10,000,000 steps, and writes five lines. Where it is `Done`, out took just these lines, of the program that these units become: the
-/// number of units, that of the program's structs, unions and enums, and how its run exits: how many bytes of output, with which status,
-/// and the least bound at which it does. `StillRunning` and `WentUndefined` come only where the run of that program ends so. With every
-/// status but `Done` and `WriteFault` out took nothing. The program's output is not seen.
+/// 10,000,000 steps, and writes five lines. Where it is `Done`, out took just these lines, of a well-formed program to which CIL
+/// programs of these units are merged: the number of units, that of the program's structs, unions and enums, and how its run exits: how
+/// many bytes of output, with which status, and the least bound at which it does. `StillRunning` and `WentUndefined` come only where the
+/// run of such a program ends so. With every status but `Done` and `WriteFault` out took nothing. The program's output is not seen.
 ///
 /// `Usage` comes exactly where the words are no command; `ReadFault` and `WriteFault` only where a call on files, on input or on out
 /// failed, and every such failure is told; `Memory` wherever memory is wanting. Only `run` reads input, and `sample` calls no files. Each status but `Done` and
