@@ -1,4 +1,4 @@
--- Definition: the program that units become (C11 5.1.1.1): its objects and functions in order, and its types.
+-- Definition: what a program has to which units are merged (C11 5.1.1.1): its objects and functions in order, and its types.
 use Rattle.std.specs.Prelude.{◌≡◌, ℕ, Bool, List, map}
 use Rattle.cil_base.specs.declared.numbers.NameId.{NameId}
 use Rattle.cil_tree.specs.declared.globals.CilUnit.{CilUnit}

@@ -278,16 +278,17 @@ impl Bodies {
         self.closed = None;
         let members = name_anonymous(self.alloc, b.members, names, made)?;
         laid(t.complete(a, Members::new(members)))?;
-        if quals.restricted {
-            return Err(bad(Code::Restrict));
-        }
         if !tagged {
             self.closed = Some(ClosedBody {
                 agg: a,
                 offered: b.offered,
             });
         }
+        // What no type names has its size looked at here.
         let of = laid(t.aggregate(a))?;
+        if quals.restricted {
+            return Err(bad(Code::Restrict));
+        }
         laid(t.qualified(quals, of))
     }
 
