@@ -1,4 +1,5 @@
 pub mod Answered
+pub mod Counts
 pub mod Lengths
 pub mod LongTexts
 pub mod Merging

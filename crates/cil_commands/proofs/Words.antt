@@ -182,6 +182,9 @@ one_stray told files name Says is says = subst (λ names. IfSome (all_under told
 pub no_unit_asked : (told : Option Told) (words : List (List ℕ)) (steps file : ℕ) → command_of words ≡ Some (Run steps file) → unit_asked told words ≡ None
 no_unit_asked told words steps file is = ap (λ command. option_and_then (file_under told) (alone (unwrap_or (option_map (λ at. drop at words) (option_and_then merged_position command)) []))) is
 
+pub no_unit_by_none : (told : Option Told) (words : List (List ℕ)) → command_of words ≡ None → unit_asked told words ≡ None
+no_unit_by_none told words is = ap (λ command. option_and_then (file_under told) (alone (unwrap_or (option_map (λ at. drop at words) (option_and_then merged_position command)) []))) is
+
 pub merge_file_is : (words : List (String Global)) (common : Bool) (first : ℕ) (d : String Global) → command_of (map string_bytes words) ≡ Some (Merge common first)
     → file_of (map string_bytes words) ≡ Some (string_bytes (get_or words first d))
 merge_file_is words common first d is =

@@ -11,6 +11,10 @@ use Rattle.cil_commands.specs.Written.{WritesProgram, AnswersUnit}
 use Rattle.cil_commands.proofs.Answered.{accepted_by, refuses_by, refused_by, unit_of_merged}
 use Rattle.cil_commands.proofs.Words.{if_some_by}
 
+pub written_as : (asked : Option SourceFile) (status : Status) (taken taken' : Option (List ℕ)) → (status ≡ Done → (p : Program) × IsWritten p × Wrote taken taken' (Text p) × IfSome asked (λ unit. IsMergedTo unit p))
+    → (status ≡ WriteFault → (p : Program) × IsWritten p × Began taken taken' (Text p) × IfSome asked (λ unit. IsMergedTo unit p)) → WritesProgram asked status taken taken'
+written_as asked status taken taken' done part = record { done = done; part = part }
+
 pub program_written : (asked there : Option SourceFile) (status : Status) (taken taken' : Option (List ℕ)) → asked ≡ there
     → (status ≡ Done → (p : Program) × IsWritten p × Wrote taken taken' (Text p) × IfSome there (λ unit. IsMergedTo unit p))
     → (status ≡ WriteFault → (p : Program) × IsWritten p × Began taken taken' (Text p) × IfSome there (λ unit. IsMergedTo unit p)) → WritesProgram asked status taken taken'

@@ -7,6 +7,7 @@ ghost use Rattle.outside.specs.Named.{find_file, names_of};
 ghost use Rattle.cil_sources.specs.Files.{bytes_under};
 ghost use Rattle.cil_commands.specs.Execute.{IsRunAnswer, RanAs, RunSays};
 ghost use Rattle.cil_commands.specs.RunEnds.{status_by};
+ghost use Rattle.cil_commands.specs.Calls.{CountsCalls};
 
 use cil_base::{Abi, NamePool};
 use cil_lines::Status;
@@ -38,6 +39,7 @@ fn status_of(end: RunEnd) -> Status
 }
 
 // Runs a loaded program, which is a well-formed one, and answers how that ended.
+#[tactic(auto, using(crate::proofs::Counts::counted))]
 fn run_program<I: Source, O: Sink>(
     alloc: Global,
     unit: &CilUnit,
@@ -49,12 +51,8 @@ fn run_program<I: Source, O: Sink>(
 ) -> Status
     requires { IsProgram (program_of names.now unit.now) }
     ensures ran { RanAs (program_of names.now unit.now) (map string_bytes words.now) steps result (I.left input.old) (I.left input.new) (O.taken out.old) (O.taken out.new) }
-    ensures read { result ≡ Status.ReadFault → Rose (I.faults input.old) (I.faults input.new) }
-    ensures calm { result ≢ Status.ReadFault → I.faults input.new ≡ I.faults input.old }
-    ensures later { I.faults input.old ≤ I.faults input.new }
-    ensures write { result ≡ Status.WriteFault → Rose (O.faults out.old) (O.faults out.new) }
-    ensures calm_out { result ≢ Status.WriteFault → O.faults out.new ≡ O.faults out.old }
-    ensures later_out { O.faults out.old ≤ O.faults out.new }
+    ensures reads { CountsCalls Status.ReadFault result (I.faults input.old) (I.faults input.new) }
+    ensures writes { CountsCalls Status.WriteFault result (O.faults out.old) (O.faults out.new) }
 {
     let Ok(machine) = Machine::load(alloc, unit, names, words) else {
         return Status::Memory;
@@ -64,6 +62,7 @@ fn run_program<I: Source, O: Sink>(
 }
 
 // Runs the program of LP64 whose text the bytes are, with its argument words.
+#[tactic(auto, using(crate::proofs::Counts::counted))]
 fn run_text<I: Source, O: Sink>(
     alloc: Global,
     bytes: &[u8],
@@ -75,9 +74,7 @@ fn run_text<I: Source, O: Sink>(
     ensures says { RunSays ((input.new ≡ input.old) × (out.new ≡ out.old)) ⊥ (Rose (I.faults input.old) (I.faults input.new)) (Some bytes.now) (map string_bytes words.now) steps result (I.left input.old) (I.left input.new) (O.taken out.old) (O.taken out.new) }
     ensures calm { result ≢ Status.ReadFault → I.faults input.new ≡ I.faults input.old }
     ensures later { I.faults input.old ≤ I.faults input.new }
-    ensures write { result ≡ Status.WriteFault → Rose (O.faults out.old) (O.faults out.new) }
-    ensures calm_out { result ≢ Status.WriteFault → O.faults out.new ≡ O.faults out.old }
-    ensures later_out { O.faults out.old ≤ O.faults out.new }
+    ensures writes { CountsCalls Status.WriteFault result (O.faults out.old) (O.faults out.new) }
 {
     if bytes.len() > TEXT_LIMIT {
         return Status::NotCil(TEXT_LIMIT);
@@ -92,6 +89,7 @@ fn run_text<I: Source, O: Sink>(
 
 /// Runs the text of the file of that name, which becomes the first name of the pool, with its argument words
 /// and so many steps. Own.
+#[tactic(auto, using(crate::proofs::Counts::counted))]
 pub fn execute<F: Files, I: Source, O: Sink>(
     alloc: Global,
     name: &str,
@@ -108,11 +106,9 @@ pub fn execute<F: Files, I: Source, O: Sink>(
     ensures calm { result ≢ Status.ReadFault → F.faults files.new ≡ F.faults files.old }
     ensures calm_input { result ≢ Status.ReadFault → I.faults input.new ≡ I.faults input.old }
     ensures missing { IfSome (F.told files.old) (λ t. find_file name.now t.names ≡ None → (result ≡ Status.ReadFault) ⊎ (result ≡ Status.Memory)) }
-    ensures write { result ≡ Status.WriteFault → Rose (O.faults out.old) (O.faults out.new) }
-    ensures calm_out { result ≢ Status.WriteFault → O.faults out.new ≡ O.faults out.old }
+    ensures writes { CountsCalls Status.WriteFault result (O.faults out.old) (O.faults out.new) }
     ensures later { F.faults files.old ≤ F.faults files.new }
     ensures later_input { I.faults input.old ≤ I.faults input.new }
-    ensures later_out { O.faults out.old ≤ O.faults out.new }
     ensures names_stay { names_of (F.told files.new) ≡ names_of (F.told files.old) }
     ensures strays { IfSome (bytes_under (F.told files.old) name.now) (λ _. F.strays files.new ≡ F.strays files.old) }
 {

@@ -16,6 +16,8 @@ ghost use Rattle.cil_sources.specs.Units.{kept};
 ghost use Rattle.cil_commands.specs.Grammatical.{AreTokens};
 ghost use Rattle.cil_commands.specs.Merge.{file_under, IsMergeAnswer, IsWritten, IsMergedTo, IsRefused, IfRefused};
 ghost use Rattle.cil_commands.specs.Merged.{file_in, IsAlone};
+ghost use Rattle.cil_commands.specs.Calls.{CountsCalls, LeavesFiles};
+ghost use Rattle.cil_commands.specs.Written.{WritesProgram};
 ghost use Rattle.cil_commands.specs.Several.{SaysOfKept, SaysOfUnits, SaysOfLinks};
 ghost use Rattle.cil_commands.specs.Small.{small};
 ghost use Rattle.cil_lines.specs.Messages.{HasFiles};
@@ -107,6 +109,7 @@ fn merged_text(
 }
 
 // Merges the first unit, whose file is the only name of the pool, and writes the text.
+#[tactic(auto, using(crate::proofs::Counts::counted))]
 fn merge_unit<O: Sink>(
     alloc: Global,
     unit: &[u8],
@@ -124,9 +127,7 @@ fn merge_unit<O: Sink>(
     ensures idle { result ≢ Status.Done → result ≢ Status.WriteFault → out.new ≡ out.old }
     ensures refused { IfRefused result (λ refusal. IsRefused (file_in names.old unit.now) refusal names.new) }
     ensures no_read { result ≢ Status.ReadFault }
-    ensures write { result ≡ Status.WriteFault → Rose (O.faults out.old) (O.faults out.new) }
-    ensures calm_out { result ≢ Status.WriteFault → O.faults out.new ≡ O.faults out.old }
-    ensures later_out { O.faults out.old ≤ O.faults out.new }
+    ensures writes { CountsCalls Status.WriteFault result (O.faults out.old) (O.faults out.new) }
 {
     match merged_text(alloc, unit, file, names) {
         Ok(text) => send(out, &text),
@@ -136,6 +137,7 @@ fn merge_unit<O: Sink>(
 }
 
 // Merges the file of that name, which becomes the first name of the pool, and writes the text.
+#[tactic(auto, using(crate::proofs::Counts::counted))]
 pub fn merge<F: Files, O: Sink>(
     alloc: Global,
     name: &str,
@@ -151,13 +153,9 @@ pub fn merge<F: Files, O: Sink>(
     ensures part { result ≡ Status.WriteFault → (p : Program) × IsWritten p × Began (O.taken out.old) (O.taken out.new) (Text p) × IfSome (file_under (F.told files.old) name.now) (λ unit. IsMergedTo unit p) }
     ensures idle { result ≢ Status.Done → result ≢ Status.WriteFault → out.new ≡ out.old }
     ensures refused { IfSome (file_under (F.told files.old) name.now) (λ unit. IfRefused result (λ refusal. IsRefused unit refusal names.new)) }
-    ensures read { result ≡ Status.ReadFault → Rose (F.faults files.old) (F.faults files.new) }
-    ensures calm { result ≢ Status.ReadFault → F.faults files.new ≡ F.faults files.old }
-    ensures write { result ≡ Status.WriteFault → Rose (O.faults out.old) (O.faults out.new) }
-    ensures calm_out { result ≢ Status.WriteFault → O.faults out.new ≡ O.faults out.old }
-    ensures later_out { O.faults out.old ≤ O.faults out.new }
+    ensures reads { CountsCalls Status.ReadFault result (F.faults files.old) (F.faults files.new) }
+    ensures writes { CountsCalls Status.WriteFault result (O.faults out.old) (O.faults out.new) }
     ensures missing { IfSome (F.told files.old) (λ t. find_file name.now t.names ≡ None → (result ≡ Status.ReadFault) ⊎ (result ≡ Status.Memory)) }
-    ensures later { F.faults files.old ≤ F.faults files.new }
     ensures names_stay { names_of (F.told files.new) ≡ names_of (F.told files.old) }
     ensures strays { IfSome (bytes_under (F.told files.old) name.now) (λ _. F.strays files.new ≡ F.strays files.old) }
 {
@@ -172,6 +170,7 @@ pub fn merge<F: Files, O: Sink>(
 }
 
 // Merges units of these files, and writes the text.
+#[tactic(auto, using(crate::proofs::Counts::counted, crate::proofs::Written::written_as))]
 fn merge_sources<O: Sink>(
     alloc: Global,
     sources: &Sources,
@@ -186,13 +185,10 @@ fn merge_sources<O: Sink>(
     ensures links { SaysOfLinks common sources.now.units.items (map string_bytes asked.now) names.new result (O.taken out.old) (O.taken out.new) }
     ensures stays { Stays names.old names.new }
     ensures pool { result ≢ Status.Memory → (first : List ℕ) (more : List (List ℕ)) → names.old ≡ first ∷ more → (rest : List (List ℕ)) × (names.new ≡ first ∷ rest) }
-    ensures done { result ≡ Status.Done → (p : Program) × IsWritten p × Wrote (O.taken out.old) (O.taken out.new) (Text p) }
-    ensures part { result ≡ Status.WriteFault → (p : Program) × IsWritten p × Began (O.taken out.old) (O.taken out.new) (Text p) }
+    ensures written { WritesProgram None result (O.taken out.old) (O.taken out.new) }
     ensures idle { result ≢ Status.Done → result ≢ Status.WriteFault → out.new ≡ out.old }
     ensures no_read { result ≢ Status.ReadFault }
-    ensures write { result ≡ Status.WriteFault → Rose (O.faults out.old) (O.faults out.new) }
-    ensures calm_out { result ≢ Status.WriteFault → O.faults out.new ≡ O.faults out.old }
-    ensures later_out { O.faults out.old ≤ O.faults out.new }
+    ensures writes { CountsCalls Status.WriteFault result (O.faults out.old) (O.faults out.new) }
 {
     match units_text(alloc, sources, asked, common, names) {
         Ok(text) => send(out, text.as_slice()),
@@ -202,7 +198,7 @@ fn merge_sources<O: Sink>(
 }
 
 // Merges the files of these names, of which the first becomes the first name of the pool, and writes the text.
-#[tactic(auto, using(crate::proofs::Several::says_read, crate::proofs::Several::links_read))]
+#[tactic(auto, using(crate::proofs::Counts::counted, crate::proofs::Written::written_as, crate::proofs::Counts::left_alone, crate::proofs::Several::says_read, crate::proofs::Several::links_read))]
 pub fn merge_all<F: Files, O: Sink>(
     alloc: Global,
     asked: &[String],
@@ -218,18 +214,11 @@ pub fn merge_all<F: Files, O: Sink>(
     ensures files { HasFiles (length names.new) result }
     ensures units { IfSome (all_under (F.told files.old) (map string_bytes asked.now)) (λ units. SaysOfUnits units (map string_bytes asked.now) names.new result) }
     ensures links { IfSome (all_under (F.told files.old) (map string_bytes asked.now)) (λ units. SaysOfLinks common (kept 0 units).units (map string_bytes asked.now) names.new result (O.taken out.old) (O.taken out.new)) }
-    ensures done { result ≡ Status.Done → (p : Program) × IsWritten p × Wrote (O.taken out.old) (O.taken out.new) (Text p) }
-    ensures part { result ≡ Status.WriteFault → (p : Program) × IsWritten p × Began (O.taken out.old) (O.taken out.new) (Text p) }
+    ensures written { WritesProgram None result (O.taken out.old) (O.taken out.new) }
     ensures idle { result ≢ Status.Done → result ≢ Status.WriteFault → out.new ≡ out.old }
-    ensures read { result ≡ Status.ReadFault → Rose (F.faults files.old) (F.faults files.new) }
-    ensures calm { result ≢ Status.ReadFault → F.faults files.new ≡ F.faults files.old }
-    ensures write { result ≡ Status.WriteFault → Rose (O.faults out.old) (O.faults out.new) }
-    ensures calm_out { result ≢ Status.WriteFault → O.faults out.new ≡ O.faults out.old }
-    ensures later_out { O.faults out.old ≤ O.faults out.new }
-    ensures missing { IfSome (F.told files.old) (λ t. found_all t.names (map string_bytes asked.now) ≡ None → (result ≡ Status.ReadFault) ⊎ (result ≡ Status.Memory)) }
-    ensures later { F.faults files.old ≤ F.faults files.new }
-    ensures names_stay { names_of (F.told files.new) ≡ names_of (F.told files.old) }
-    ensures strays { IfSome (all_under (F.told files.old) (map string_bytes asked.now)) (λ _. F.strays files.new ≡ F.strays files.old) }
+    ensures reads { CountsCalls Status.ReadFault result (F.faults files.old) (F.faults files.new) }
+    ensures writes { CountsCalls Status.WriteFault result (O.faults out.old) (O.faults out.new) }
+    ensures leaves { LeavesFiles result (map string_bytes asked.now) (F.told files.old) (F.told files.new) (F.strays files.old) (F.strays files.new) }
 {
     if names.intern(asked[0].as_bytes()).is_err() {
         return Status::Memory;

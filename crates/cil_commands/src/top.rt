@@ -149,7 +149,7 @@ fn steps_of(command: &Option<Command>) -> u64
 }
 
 // Does what the command asks for; the files of places in the answer are numbers in `names`.
-#[tactic(auto, using(crate::proofs::Words::is_asked))]
+#[tactic(auto, using(crate::proofs::Counts::counted, crate::proofs::Words::is_asked))]
 fn run_command<F: Files, I: Source, O: Sink>(
     alloc: Global,
     words: &[String],
@@ -166,16 +166,13 @@ fn run_command<F: Files, I: Source, O: Sink>(
     ensures names { result ≢ Status.Memory → AreNames (F.told files.old) (map string_bytes words.now) result names.new }
     ensures files { HasFiles (length names.new) result }
     ensures done { sample_asked (map string_bytes words.now) ≡ None → result ≡ Status.Done → (p : Program) × IsWritten p × Wrote (O.taken out.old) (O.taken out.new) (Text p) × IfSome (unit_asked (F.told files.old) (map string_bytes words.now)) (λ unit. IsMergedTo unit p) }
-    ensures accepted { IfSome (unit_asked (F.told files.old) (map string_bytes words.now)) (λ unit. (e : Expression) → IsUnit unit e → ¬ (Rose (F.faults files.old) (F.faults files.new)) → ¬ (Rose (O.faults out.old) (O.faults out.new)) → (result ≡ Status.Done) ⊎ (result ≡ Status.Memory)) }
-    ensures refuses { IfSome (unit_asked (F.told files.old) (map string_bytes words.now)) (λ unit. (refusal : Refusal) (names : List (List ℕ)) → IsNoGrammar unit refusal names → ¬ (Rose (F.faults files.old) (F.faults files.new)) → IsRefusedLike result refusal ⊎ (result ≡ Status.Memory)) }
-    ensures refused { IfSome (unit_asked (F.told files.old) (map string_bytes words.now)) (λ unit. IfRefused result (λ refusal. (others : List (List ℕ)) × IsRefused unit refusal others)) }
+    ensures unit { AnswersUnit (unit_asked (F.told files.old) (map string_bytes words.now)) result (Rose (F.faults files.old) (F.faults files.new)) (Rose (O.faults out.old) (O.faults out.new)) }
     ensures ran { IfSome (run_file (map string_bytes words.now)) (λ name. RunSays ((input.new ≡ input.old) × (out.new ≡ out.old)) (Rose (F.faults files.old) (F.faults files.new)) ((F.faults files.new ≡ F.faults files.old) × Rose (I.faults input.old) (I.faults input.new)) (bytes_under (F.told files.old) name) (words_given (map string_bytes words.now)) (steps_asked (map string_bytes words.now)) result (I.left input.old) (I.left input.new) (O.taken out.old) (O.taken out.new)) }
     ensures sampled { SampledSays (map string_bytes words.now) names.new result (O.taken out.old) (O.taken out.new) }
     ensures read { result ≡ Status.ReadFault → Rose (F.faults files.old) (F.faults files.new) ⊎ (IsSome (run_file (map string_bytes words.now)) × Rose (I.faults input.old) (I.faults input.new)) }
     ensures read_told { result ≢ Status.ReadFault → F.faults files.new ≡ F.faults files.old }
     ensures input_told { result ≢ Status.ReadFault → I.faults input.new ≡ I.faults input.old }
-    ensures write { result ≡ Status.WriteFault → Rose (O.faults out.old) (O.faults out.new) }
-    ensures write_told { result ≢ Status.WriteFault → O.faults out.new ≡ O.faults out.old }
+    ensures writes { CountsCalls Status.WriteFault result (O.faults out.old) (O.faults out.new) }
     ensures units { UnitsSay (F.told files.old) (map string_bytes words.now) names.new result }
     ensures links { LinksSay (F.told files.old) (map string_bytes words.now) names.new result (O.taken out.old) (O.taken out.new) }
     ensures part { run_file (map string_bytes words.now) ≡ None → sample_asked (map string_bytes words.now) ≡ None → result ≡ Status.WriteFault → (p : Program) × IsWritten p × Began (O.taken out.old) (O.taken out.new) (Text p) × IfSome (unit_asked (F.told files.old) (map string_bytes words.now)) (λ unit. IsMergedTo unit p) }
@@ -183,12 +180,9 @@ fn run_command<F: Files, I: Source, O: Sink>(
     ensures nothing_read { result ≡ Status.Usage → files.new ≡ files.old }
     ensures no_files { IfSome (sample_asked (map string_bytes words.now)) (λ _. files.new ≡ files.old) }
     ensures input { run_file (map string_bytes words.now) ≡ None → input.new ≡ input.old }
-    ensures missing { IfSome (F.told files.old) (λ t. found_all t.names (files_of (map string_bytes words.now)) ≡ None → (result ≡ Status.ReadFault) ⊎ (result ≡ Status.Memory)) }
     ensures files_later { F.faults files.old ≤ F.faults files.new }
     ensures input_later { I.faults input.old ≤ I.faults input.new }
-    ensures names_stay { names_of (F.told files.new) ≡ names_of (F.told files.old) }
-    ensures out_later { O.faults out.old ≤ O.faults out.new }
-    ensures strays { IfSome (all_under (F.told files.old) (files_of (map string_bytes words.now))) (λ _. F.strays files.new ≡ F.strays files.old) }
+    ensures leaves { LeavesFiles result (files_of (map string_bytes words.now)) (F.told files.old) (F.told files.new) (F.strays files.old) (F.strays files.new) }
 {
     match command {
         None => Status::Usage,
@@ -205,6 +199,7 @@ fn run_command<F: Files, I: Source, O: Sink>(
 }
 
 // Makes a sample of so many units.
+#[tactic(auto, using(crate::proofs::Counts::counted))]
 fn sample_words<O: Sink>(
     alloc: Global,
     _words: &[String],
@@ -226,10 +221,8 @@ fn sample_words<O: Sink>(
     ensures no_file { files_of (map string_bytes _words.now) ≡ [] }
     ensures links { (told : Option Told) → LinksSay told (map string_bytes _words.now) names.new result (O.taken out.old) (O.taken out.new) }
     ensures no_read { result ≢ Status.ReadFault }
-    ensures write { result ≡ Status.WriteFault → Rose (O.faults out.old) (O.faults out.new) }
-    ensures write_told { result ≢ Status.WriteFault → O.faults out.new ≡ O.faults out.old }
+    ensures writes { CountsCalls Status.WriteFault result (O.faults out.old) (O.faults out.new) }
     ensures nothing_written { result ≢ Status.Done → result ≢ Status.WriteFault → out.new ≡ out.old }
-    ensures out_later { O.faults out.old ≤ O.faults out.new }
 {
     sample(alloc, seed, units, names, out)
 }
@@ -342,20 +335,17 @@ fn run_words<F: Files, I: Source, O: Sink>(
     ensures names { result ≢ Status.Memory → AreNames (F.told files.old) (map string_bytes words.now) result names.new }
     ensures files { HasFiles (length names.new) result }
     ensures named { IsSome (run_file (map string_bytes words.now)) }
+    ensures no_unit { unit_asked (F.told files.old) (map string_bytes words.now) ≡ None }
     ensures units { IfSome (all_under (F.told files.old) (merged_files (map string_bytes words.now))) (λ units. SaysOfUnits units (merged_files (map string_bytes words.now)) names.new result) }
     ensures links { LinksSay (F.told files.old) (map string_bytes words.now) names.new result (O.taken out.old) (O.taken out.new) }
     ensures ran { IfSome (run_file (map string_bytes words.now)) (λ name. RunSays ((input.new ≡ input.old) × (out.new ≡ out.old)) (Rose (F.faults files.old) (F.faults files.new)) ((F.faults files.new ≡ F.faults files.old) × Rose (I.faults input.old) (I.faults input.new)) (bytes_under (F.told files.old) name) (words_given (map string_bytes words.now)) (steps_asked (map string_bytes words.now)) result (I.left input.old) (I.left input.new) (O.taken out.old) (O.taken out.new)) }
     ensures read { result ≡ Status.ReadFault → Rose (F.faults files.old) (F.faults files.new) ⊎ (IsSome (run_file (map string_bytes words.now)) × Rose (I.faults input.old) (I.faults input.new)) }
     ensures read_told { result ≢ Status.ReadFault → F.faults files.new ≡ F.faults files.old }
     ensures input_told { result ≢ Status.ReadFault → I.faults input.new ≡ I.faults input.old }
-    ensures write { result ≡ Status.WriteFault → Rose (O.faults out.old) (O.faults out.new) }
-    ensures write_told { result ≢ Status.WriteFault → O.faults out.new ≡ O.faults out.old }
-    ensures missing { IfSome (F.told files.old) (λ t. found_all t.names (files_of (map string_bytes words.now)) ≡ None → (result ≡ Status.ReadFault) ⊎ (result ≡ Status.Memory)) }
+    ensures writes { CountsCalls Status.WriteFault result (O.faults out.old) (O.faults out.new) }
     ensures files_later { F.faults files.old ≤ F.faults files.new }
     ensures input_later { I.faults input.old ≤ I.faults input.new }
-    ensures out_later { O.faults out.old ≤ O.faults out.new }
-    ensures names_stay { names_of (F.told files.new) ≡ names_of (F.told files.old) }
-    ensures strays { IfSome (all_under (F.told files.old) (files_of (map string_bytes words.now))) (λ _. F.strays files.new ≡ F.strays files.old) }
+    ensures leaves { LeavesFiles result (files_of (map string_bytes words.now)) (F.told files.old) (F.told files.new) (F.strays files.old) (F.strays files.new) }
 {
     let args = &words[file as usize..];
     execute(

@@ -8,7 +8,7 @@ use Rattle.cil_tree.specs.View.{program_of}
 use Rattle.cil_tree.specs.Text.{Text}
 use Rattle.cil_tree.specs.Programs.{IsProgram, text_limit}
 use Rattle.merge_refusals.specs.Refusals.{IsMergeRefusal, PrintedIfLong}
-use Rattle.unit_merger.specs.Units.{IsRefusedAmong}
+use Rattle.unit_merger.specs.Units.{AreMerged, IsRefusedAmong}
 use Rattle.unit_merger.specs.Linking.{IsProgramOf, LateSays}
 use Rattle.sample_units.specs.Units.{unit_texts, file_names}
 use Rattle.sample_summary.specs.Summary.{IsSummary}
@@ -16,9 +16,9 @@ use Rattle.cil_lines.specs.declared.status.Status.{Status}
 use Rattle.cil_lines.specs.declared.status.Status.TheVariants.{Done, Exited, StillRunning, WentUndefined, Usage, Refused, NotCil, ReadFault, WriteFault, Memory}
 use Rattle.sample_command.specs.Answers.{IsOfSample, IsSampleRefusal, SampleSays}
 
-pub formed_of : (seed units : ℕ) (pool : List (List ℕ)) (r : Result CilUnit Stop) → IfOk r (λ u. IsProgram (program_of pool u)) → IfOk r (λ u. length (Text (program_of pool u)) ≤ text_limit) → IfOk r (IsProgramOf false (unit_texts seed units) (file_names units) pool) → IfOk r (IsOfSample seed units pool)
-formed_of seed units pool (Ok u) formed short of = record { of = of; formed = formed; short = short }
-formed_of seed units pool (Err stop) formed short of = tt
+pub formed_of : (seed units : ℕ) (pool : List (List ℕ)) (r : Result CilUnit Stop) → IfOk r (λ _. AreMerged (unit_texts seed units) None (file_names units)) → IfOk r (λ u. IsProgram (program_of pool u)) → IfOk r (λ u. length (Text (program_of pool u)) ≤ text_limit) → IfOk r (IsProgramOf false (unit_texts seed units) (file_names units) pool) → IfOk r (IsOfSample seed units pool)
+formed_of seed units pool (Ok u) grammatical formed short of = record { grammatical = grammatical; of = of; formed = formed; short = short }
+formed_of seed units pool (Err stop) grammatical formed short of = tt
 
 -- what stops, as a result
 abbrev pub stopped : Stop → Result CilUnit Stop

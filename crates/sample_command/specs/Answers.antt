@@ -7,7 +7,7 @@ use Rattle.cil_tree.specs.View.{program_of}
 use Rattle.cil_tree.specs.Text.{Text}
 use Rattle.cil_tree.specs.Programs.{IsProgram, text_limit}
 use Rattle.merge_refusals.specs.Refusals.{IsMergeFault, HasOther, PrintedIfLong}
-use Rattle.unit_merger.specs.Units.{IsRefusedAmong}
+use Rattle.unit_merger.specs.Units.{AreMerged, IsRefusedAmong}
 use Rattle.unit_merger.specs.Linking.{IsProgramOf, LateSays}
 use Rattle.sample_units.specs.Units.{unit_texts, file_names}
 use Rattle.sample_summary.specs.Summary.{IsSummary, StopsSo}
@@ -16,8 +16,9 @@ use Rattle.sample_summary.specs.declared.stop.SampleStop.TheVariants as stop
 use Rattle.cil_lines.specs.declared.status.Status.{Status}
 use Rattle.cil_lines.specs.declared.status.Status.TheVariants.{Done, Exited, StillRunning, WentUndefined, Usage, Refused, NotCil, ReadFault, WriteFault, Memory}
 
--- a well-formed program, whose text is not too long, to which CIL programs of so many units of a sample are merged, which are made from that seed
+-- a well-formed program, whose text is not too long, to which CIL programs of so many units of a sample are merged, which are made from that seed; each of these units is grammatical (C11 6.9)
 pub record IsOfSample (seed units : ℕ) (pool : List (List ℕ)) (program : CilUnit) : Type 0 where
+  pub grammatical : AreMerged (unit_texts seed units) None (file_names units)
   pub of : IsProgramOf false (unit_texts seed units) (file_names units) pool program
   pub formed : IsProgram (program_of pool program)
   pub short : length (Text (program_of pool program)) ≤ text_limit

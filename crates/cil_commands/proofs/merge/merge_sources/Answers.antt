@@ -16,12 +16,10 @@ returns-in-Ok-clause-links g c =
     units_sent c.args.common c.args.sources.now.units.items (map string_bytes c.args.asked.now) c.units_text.new.names c.in-Ok.text c.send.result (g.O.Sink.taken c.args.out.now) (g.O.Sink.taken c.send.new.out) c.in-Ok.ensures.text
     (λ done. subst (Wrote (g.O.Sink.taken c.args.out.now) (g.O.Sink.taken c.send.new.out)) c.as_slice.ensures (c.send.ensures.done done)) (subst (Began (g.O.Sink.taken c.args.out.now) (g.O.Sink.taken c.send.new.out)) c.as_slice.ensures c.send.ensures.began) c.send.ensures.two
 
-pub returns-in-Ok-clause-done : goal.returns-in-Ok-clause-done
-returns-in-Ok-clause-done g c = λ done.
-    (let w = units_written c.args.common c.args.sources.now.units.items (map string_bytes c.args.asked.now) c.units_text.new.names c.in-Ok.text c.in-Ok.ensures.text in
-    (w.0, w.1, subst (Wrote (g.O.Sink.taken c.args.out.now) (g.O.Sink.taken c.send.new.out)) (c.as_slice.ensures ∙ w.2) (c.send.ensures.done done)))
-
-pub returns-in-Ok-clause-part : goal.returns-in-Ok-clause-part
-returns-in-Ok-clause-part g c = λ failed.
-    (let w = units_written c.args.common c.args.sources.now.units.items (map string_bytes c.args.asked.now) c.units_text.new.names c.in-Ok.text c.in-Ok.ensures.text in
-    (w.0, w.1, subst (Began (g.O.Sink.taken c.args.out.now) (g.O.Sink.taken c.send.new.out)) (c.as_slice.ensures ∙ w.2) c.send.ensures.began))
+pub returns-in-Ok-clause-written : goal.returns-in-Ok-clause-written
+returns-in-Ok-clause-written g c =
+    let w = units_written c.args.common c.args.sources.now.units.items (map string_bytes c.args.asked.now) c.units_text.new.names c.in-Ok.text c.in-Ok.ensures.text in
+    record {
+      done = λ done. (w.0, w.1, subst (Wrote (g.O.Sink.taken c.args.out.now) (g.O.Sink.taken c.send.new.out)) (c.as_slice.ensures ∙ w.2) (c.send.ensures.done done), tt);
+      part = λ failed. (w.0, w.1, subst (Began (g.O.Sink.taken c.args.out.now) (g.O.Sink.taken c.send.new.out)) (c.as_slice.ensures ∙ w.2) c.send.ensures.began, tt);
+    }

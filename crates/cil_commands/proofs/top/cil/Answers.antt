@@ -14,7 +14,7 @@ pub returns-clause-runs : goal.returns-clause-runs
 returns-clause-runs g c =
     runs_asked _ _ _ (Rose (g.I.Source.faults c.args.input.now) (g.I.Source.faults c.run_command-status.new.input)) (Rose (g.O.Sink.faults c.args.out.now) (g.O.Sink.faults c.run_command-status.new.out))
     (bytes_under (g.F.Files.told c.args.files.now)) (run_file (map string_bytes c.args.words.now)) (words_given (map string_bytes c.args.words.now)) (steps_asked (map string_bytes c.args.words.now))
-    c.run_command-status.result _ _ _ _ c.run_command-status.ensures.write c.run_command-status.ensures.ran
+    c.run_command-status.result _ _ _ _ c.run_command-status.ensures.writes.failed c.run_command-status.ensures.ran
 
 pub returns-clause-answers : goal.returns-clause-answers
 returns-clause-answers g c =
@@ -40,3 +40,30 @@ returns-clause-links g c = (c.run_command-status.new.names, c.run_command-status
 
 pub returns-clause-sampled : goal.returns-clause-sampled
 returns-clause-sampled g c = (c.run_command-status.new.names, c.run_command-status.ensures.sampled)
+
+pub returns-clause-accepted : goal.returns-clause-accepted
+returns-clause-accepted g c = c.run_command-status.ensures.unit.accepted
+
+pub returns-clause-refuses : goal.returns-clause-refuses
+returns-clause-refuses g c = c.run_command-status.ensures.unit.refuses
+
+pub returns-clause-refused : goal.returns-clause-refused
+returns-clause-refused g c = c.run_command-status.ensures.unit.refused
+
+pub returns-clause-write : goal.returns-clause-write
+returns-clause-write g c = c.run_command-status.ensures.writes.failed
+
+pub returns-clause-write_told : goal.returns-clause-write_told
+returns-clause-write_told g c = c.run_command-status.ensures.writes.calm
+
+pub returns-clause-out_later : goal.returns-clause-out_later
+returns-clause-out_later g c = c.run_command-status.ensures.writes.later
+
+pub returns-clause-missing : goal.returns-clause-missing
+returns-clause-missing g c = c.run_command-status.ensures.leaves.missing
+
+pub returns-clause-names_stay : goal.returns-clause-names_stay
+returns-clause-names_stay g c = c.run_command-status.ensures.leaves.names_stay
+
+pub returns-clause-strays : goal.returns-clause-strays
+returns-clause-strays g c = c.run_command-status.ensures.leaves.strays_stay

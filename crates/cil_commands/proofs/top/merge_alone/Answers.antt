@@ -50,13 +50,7 @@ returns-clause-unit g c =
     unit_answered 1 (unit_asked (g.F.Files.told c.args.files.now) (map string_bytes c.args.words.now)) (file_under (g.F.Files.told c.args.files.now) c.as_str.result.now) c.merge.result c.merge.new.names _ _ (g.O.Sink.taken c.args.out.now) (g.O.Sink.taken c.merge.new.out)
     (unit_asked_is (g.F.Files.told c.args.files.now) c.args.words.now c.args._common c.args.first c.index-words-first.result c.requires.command c.requires.last
     ∙ ap (λ name. file_under (g.F.Files.told c.args.files.now) name) (sym (c.as_str.ensures.value ∙ ap string_bytes c.index-words-first.is)))
-    c.merge.ensures.kind c.merge.ensures.read c.merge.ensures.write c.merge.ensures.done c.merge.ensures.part c.merge.ensures.refused
-
-pub returns-clause-reads : goal.returns-clause-reads
-returns-clause-reads g c = record { failed = c.merge.ensures.read; calm = c.merge.ensures.calm; later = c.merge.ensures.later }
-
-pub returns-clause-writes : goal.returns-clause-writes
-returns-clause-writes g c = record { failed = c.merge.ensures.write; calm = c.merge.ensures.calm_out; later = c.merge.ensures.later_out }
+    c.merge.ensures.kind c.merge.ensures.reads.failed c.merge.ensures.writes.failed c.merge.ensures.done c.merge.ensures.part c.merge.ensures.refused
 
 pub returns-clause-leaves : goal.returns-clause-leaves
 returns-clause-leaves g c =

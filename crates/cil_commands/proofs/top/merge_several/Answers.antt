@@ -1,14 +1,15 @@
-use Rattle.std.proofs.Common.{◌≡◌, ◌<◌, ◌⊎◌, ◌∙◌, ap, sym, subst, map, length, arith, rules, IfSome, None}
+use Rattle.std.proofs.Common.{◌<◌, ◌∙◌, ap, sym, subst, map, length, arith, rules, IfSome, None}
 use Rattle.std.specs.String.{string_bytes}
 use Rattle.std.proofs.lemmas.List.{take_rest, length-drop}
 use Rattle.cil_words.specs.Command.{merged_files}
-use Rattle.cil_sources.specs.Files.{found_all, all_under}
+use Rattle.cil_sources.specs.Files.{all_under}
 use Rattle.cil_sources.specs.Units.{kept}
-use Rattle.cil_lines.specs.declared.status.Status.TheVariants.{ReadFault, Memory}
 use Rattle.cil_commands.specs.Merge.{unit_asked}
+use Rattle.cil_commands.specs.Calls.{LeavesFiles}
+use Rattle.cil_commands.specs.Written.{WritesProgram}
 use Rattle.cil_commands.specs.Several.{SaysOfUnits, SaysOfLinks}
 use Rattle.cil_commands.proofs.Words.{merge_within, merge_files_are, merged_several, common_is, several_asked, several_begin, if_some_by}
-use Rattle.cil_commands.proofs.Written.{program_written, none_answered}
+use Rattle.cil_commands.proofs.Written.{none_answered}
 use Rattle.cil_commands.proofs.top.merge_several.Goals as goal
 
 pub slice_bounds-merge_all-count : goal.slice_bounds-merge_all-count
@@ -42,28 +43,15 @@ returns-clause-links g c = λ several.
     (subst (λ ns. IfSome (all_under (g.F.Files.told c.args.files.now) ns) (λ units. SaysOfLinks c.args.common (kept 0 units).units ns c.merge_all.new.names c.merge_all.result (g.O.Sink.taken c.args.out.now) (g.O.Sink.taken c.merge_all.new.out)))
     (ap (map string_bytes) (take_rest c.args.words.now c.args.first) ∙ sym (merged_several c.args.words.now c.args.common c.args.first c.requires.command)) c.merge_all.ensures.links))
 
-pub returns-clause-written : goal.returns-clause-written
-returns-clause-written g c =
-    program_written (unit_asked (g.F.Files.told c.args.files.now) (map string_bytes c.args.words.now)) None c.merge_all.result (g.O.Sink.taken c.args.out.now) (g.O.Sink.taken c.merge_all.new.out)
-    (several_asked (g.F.Files.told c.args.files.now) c.args.words.now c.args.common c.args.first c.requires.command c.requires.several)
-    (λ s. (let made = c.merge_all.ensures.done s in (made.0, made.1, made.2, tt))) (λ s. (let made = c.merge_all.ensures.part s in (made.0, made.1, made.2, tt)))
-
 pub returns-clause-unit : goal.returns-clause-unit
 returns-clause-unit g c = none_answered (unit_asked (g.F.Files.told c.args.files.now) (map string_bytes c.args.words.now)) c.merge_all.result _ _ (several_asked (g.F.Files.told c.args.files.now) c.args.words.now c.args.common c.args.first c.requires.command c.requires.several)
 
-pub returns-clause-reads : goal.returns-clause-reads
-returns-clause-reads g c = record { failed = c.merge_all.ensures.read; calm = c.merge_all.ensures.calm; later = c.merge_all.ensures.later }
-
-pub returns-clause-writes : goal.returns-clause-writes
-returns-clause-writes g c = record { failed = c.merge_all.ensures.write; calm = c.merge_all.ensures.calm_out; later = c.merge_all.ensures.later_out }
+pub returns-clause-written : goal.returns-clause-written
+returns-clause-written g c =
+    subst (λ asked. WritesProgram asked c.merge_all.result (g.O.Sink.taken c.args.out.now) (g.O.Sink.taken c.merge_all.new.out))
+    (sym (several_asked (g.F.Files.told c.args.files.now) c.args.words.now c.args.common c.args.first c.requires.command c.requires.several)) c.merge_all.ensures.written
 
 pub returns-clause-leaves : goal.returns-clause-leaves
-returns-clause-leaves g c = record {
-  missing =
-      subst (λ ns. IfSome (g.F.Files.told c.args.files.now) (λ t. found_all t.names ns ≡ None → (c.merge_all.result ≡ ReadFault) ⊎ (c.merge_all.result ≡ Memory)))
-      (ap (map string_bytes) (take_rest c.args.words.now c.args.first) ∙ sym (merge_files_are c.args.words.now c.args.common c.args.first c.requires.command)) c.merge_all.ensures.missing;
-  names_stay = c.merge_all.ensures.names_stay;
-  strays_stay =
-      subst (λ ns. IfSome (all_under (g.F.Files.told c.args.files.now) ns) (λ _. g.F.Files.strays c.merge_all.new.files ≡ g.F.Files.strays c.args.files.now))
-      (ap (map string_bytes) (take_rest c.args.words.now c.args.first) ∙ sym (merge_files_are c.args.words.now c.args.common c.args.first c.requires.command)) c.merge_all.ensures.strays;
-}
+returns-clause-leaves g c =
+    subst (λ ns. LeavesFiles c.merge_all.result ns (g.F.Files.told c.args.files.now) (g.F.Files.told c.merge_all.new.files) (g.F.Files.strays c.args.files.now) (g.F.Files.strays c.merge_all.new.files))
+    (ap (map string_bytes) (take_rest c.args.words.now c.args.first) ∙ sym (merge_files_are c.args.words.now c.args.common c.args.first c.requires.command)) c.merge_all.ensures.leaves

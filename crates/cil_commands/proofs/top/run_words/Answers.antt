@@ -4,7 +4,7 @@ use Rattle.std.specs.String.{string_bytes}
 use Rattle.cil_words.specs.Command.{files_of}
 use Rattle.cil_lines.specs.declared.status.Status.TheVariants.{ReadFault, Memory}
 use Rattle.cil_commands.proofs.Ran.{run_kind, run_files, read_failed}
-use Rattle.cil_commands.proofs.Words.{run_within, run_file_is, run_files_are, run_is_asked, asked_run, one_missing, one_stray, run_names}
+use Rattle.cil_commands.proofs.Words.{run_within, run_file_is, run_files_are, run_is_asked, no_unit_asked, asked_run, one_missing, one_stray, run_names}
 use Rattle.cil_commands.proofs.Several.{says_other, run_not_refused, few_links}
 use Rattle.cil_commands.proofs.Words.{merged_by_run}
 use Rattle.cil_commands.proofs.top.run_words.Goals as goal
@@ -32,18 +32,6 @@ returns-clause-named g c = run_is_asked c.args.words.now c.args.steps c.args.fil
 pub returns-clause-read : goal.returns-clause-read
 returns-clause-read g c = read_failed _ _ _ _ _ _ _ _ c.execute.result _ _ _ _ c.execute.ensures.says (returns-clause-named g c)
 
-pub returns-clause-missing : goal.returns-clause-missing
-returns-clause-missing g c =
-    one_missing (g.F.Files.told c.args.files.now) (files_of (map string_bytes c.args.words.now)) c.as_str.result.now ((c.execute.result ≡ ReadFault) ⊎ (c.execute.result ≡ Memory))
-    (run_files_are c.args.words.now c.args.steps c.args.file c.index-words-file.result c.requires.command ∙ ap (λ name. name ∷ []) (sym (c.as_str.ensures.value ∙ ap string_bytes c.index-words-file.is)))
-    c.execute.ensures.missing
-
-pub returns-clause-strays : goal.returns-clause-strays
-returns-clause-strays g c =
-    one_stray (g.F.Files.told c.args.files.now) (files_of (map string_bytes c.args.words.now)) c.as_str.result.now (g.F.Files.strays c.execute.new.files ≡ g.F.Files.strays c.args.files.now)
-    (run_files_are c.args.words.now c.args.steps c.args.file c.index-words-file.result c.requires.command ∙ ap (λ name. name ∷ []) (sym (c.as_str.ensures.value ∙ ap string_bytes c.index-words-file.is)))
-    c.execute.ensures.strays
-
 pub slice_bounds-args-count : goal.slice_bounds-args-count
 slice_bounds-args-count g c = omega (arith, run_within c.args.words.now c.args.steps c.args.file c.requires.command)
 
@@ -62,3 +50,19 @@ returns-clause-units g c =
 pub returns-clause-links : goal.returns-clause-links
 returns-clause-links g c =
     few_links (g.F.Files.told c.args.files.now) (map string_bytes c.args.words.now) [] c.execute.new.names c.execute.result _ _ (merged_by_run (map string_bytes c.args.words.now) c.args.steps c.args.file c.requires.command) (omega arith)
+
+pub returns-clause-leaves : goal.returns-clause-leaves
+returns-clause-leaves g c = record {
+  missing =
+      one_missing (g.F.Files.told c.args.files.now) (files_of (map string_bytes c.args.words.now)) c.as_str.result.now ((c.execute.result ≡ ReadFault) ⊎ (c.execute.result ≡ Memory))
+      (run_files_are c.args.words.now c.args.steps c.args.file c.index-words-file.result c.requires.command ∙ ap (λ name. name ∷ []) (sym (c.as_str.ensures.value ∙ ap string_bytes c.index-words-file.is)))
+      c.execute.ensures.missing;
+  names_stay = c.execute.ensures.names_stay;
+  strays_stay =
+      one_stray (g.F.Files.told c.args.files.now) (files_of (map string_bytes c.args.words.now)) c.as_str.result.now (g.F.Files.strays c.execute.new.files ≡ g.F.Files.strays c.args.files.now)
+      (run_files_are c.args.words.now c.args.steps c.args.file c.index-words-file.result c.requires.command ∙ ap (λ name. name ∷ []) (sym (c.as_str.ensures.value ∙ ap string_bytes c.index-words-file.is)))
+      c.execute.ensures.strays;
+}
+
+pub returns-clause-no_unit : goal.returns-clause-no_unit
+returns-clause-no_unit g c = no_unit_asked (g.F.Files.told c.args.files.now) (map string_bytes c.args.words.now) c.args.steps c.args.file c.requires.command

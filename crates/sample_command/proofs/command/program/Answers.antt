@@ -2,7 +2,7 @@ use Rattle.std.proofs.Common.{◌∙◌, None, length, map, ap, subst, IfOk, fal
 use Rattle.std.specs.String.{string_bytes}
 use Rattle.c_lexer.specs.Lexed.{IfRefused}
 use Rattle.merge_refusals.specs.Refusals.{IsMergeRefusal}
-use Rattle.unit_merger.specs.Units.{IsRefusedAmong}
+use Rattle.unit_merger.specs.Units.{AreMerged, IsRefusedAmong}
 use Rattle.unit_merger.specs.Linking.{IsProgramOf, SaysOfLinks}
 use Rattle.sample_units.specs.Units.{unit_texts, file_names}
 use Rattle.sample_command.proofs.Files.{as_many, of_both}
@@ -14,7 +14,10 @@ returns-clause-refused c = subst (λ n. IfRefused c.units_program.result (IsMerg
 
 pub returns-clause-program : goal.returns-clause-program
 returns-clause-program c =
-    formed_of c.args.seed c.args.units c.units_program.new.names c.units_program.result c.units_program.ensures.program c.units_program.ensures.short
+    formed_of c.args.seed c.args.units c.units_program.new.names c.units_program.result
+    (of_both (λ us fs. IfOk c.units_program.result (λ _. AreMerged us None fs)) _ (unit_texts c.args.seed c.args.units) _ (file_names c.args.units) (c.deref.ensures.value ∙ c.in_ok-sources.ensures) (ap (map string_bytes) c.deref-2.ensures.value ∙ c.in_ok-files.ensures)
+    c.units_program.ensures.merged)
+    c.units_program.ensures.program c.units_program.ensures.short
     (of_both (λ us fs. IfOk c.units_program.result (IsProgramOf false us fs c.units_program.new.names)) _ (unit_texts c.args.seed c.args.units) _ (file_names c.args.units) (c.deref.ensures.value ∙ c.in_ok-sources.ensures) (ap (map string_bytes) c.deref-2.ensures.value ∙ c.in_ok-files.ensures)
     c.units_program.ensures.of)
 
