@@ -3,7 +3,7 @@ ghost use Rattle.type_graph.specs.declared.aggregates.AggKind.{AggKind};
 ghost use Rattle.type_graph.specs.Arena.{NamesBelow, HasKind, EachType, complete, members_of, members_fit};
 
 use crate::stop::Stop;
-use cil_base::{AggId, EntityId, IntKind, NameId, NamePool, TypeId};
+use cil_base::{AggId, IntKind, NameId, NamePool, TypeId};
 use cil_check::check;
 use cil_printer::print;
 use cil_tree::{CilUnit, GlobalDecl, GlobalDef};
@@ -18,21 +18,48 @@ pub(crate) struct Builder {
     pub alloc: Global,
 }
 
-/// A member or an enumerator: its name, its type and its value, and whether it is an anonymous member with a made name.
-#[derive(Clone, Copy)]
-pub(crate) struct Part {
-    pub name: &'static [u8],
-    pub anonymous: bool,
-    pub ty: TypeId,
-    pub value: i32,
+/// A member or an enumerator: its name, and the place of its type in a list.
+pub(crate) enum Part {
+    Member(&'static [u8], usize),
+    /// An anonymous member with an assigned name (C11 6.7.2.1p13).
+    Anonymous(&'static [u8], usize),
+    /// An enumerator and its value.
+    Enumerator(&'static [u8], usize, i32),
+}
+
+/// How a function type says what it takes (C11 6.7.6.3).
+#[derive(Clone, Copy, PartialEq, Eq)]
+pub(crate) enum Form {
+    Prototype,
+    Variadic,
+    Unprototyped,
+}
+
+/// The type at a place of a list. Where the list is shorter it is one that no graph has.
+pub(crate) fn type_at(types: &[TypeId], place: usize) -> TypeId {
+    match types.get(place) {
+        Some(t) => *t,
+        None => TypeId(u32::MAX),
+    }
+}
+
+/// The name of a member or an enumerator.
+fn name_of(part: &Part) -> &'static [u8] {
+    match part {
+        Part::Member(name, _) => *name,
+        Part::Anonymous(name, _) => *name,
+        Part::Enumerator(name, ..) => *name,
+    }
 }
 
 /// A member or an enumerator under its name.
-fn member_of(part: &Part, name: NameId) -> Member {
-    if part.anonymous {
-        Member::unnamed(name, unqualified(part.ty))
-    } else {
-        Member::named(name, unqualified(part.ty), part.value)
+fn member_of(part: &Part, name: NameId, types: &[TypeId]) -> Member {
+    match part {
+        Part::Member(_, ty) => Member::named(name, unqualified(type_at(types, *ty)), 0),
+        Part::Anonymous(_, ty) => Member::unnamed(name, unqualified(type_at(types, *ty))),
+        Part::Enumerator(_, ty, value) => {
+            Member::named(name, unqualified(type_at(types, *ty)), *value)
+        }
     }
 }
 
@@ -129,53 +156,32 @@ impl Builder {
         self.node(Node::Array(unqualified(of), bound))
     }
 
-    /// A function type with a prototype.
-    pub fn function(&mut self, ret: TypeId, params: &[TypeId]) -> Result<TypeId, Stop> {
+    /// A function type.
+    pub fn function(&mut self, form: Form, ret: TypeId, params: &[TypeId]) -> Result<TypeId, Stop> {
         let params = TypeList::new(params.to_vec(self.alloc)?);
         self.node(Node::Func {
-            proto: true,
-            variadic: false,
+            proto: form != Form::Unprototyped,
+            variadic: form == Form::Variadic,
             ret,
             params,
         })
     }
 
-    /// A function type that takes more arguments.
-    pub fn variadic(&mut self, ret: TypeId, params: &[TypeId]) -> Result<TypeId, Stop> {
-        let params = TypeList::new(params.to_vec(self.alloc)?);
-        self.node(Node::Func {
-            proto: true,
-            variadic: true,
-            ret,
-            params,
-        })
-    }
-
-    /// A function type without a prototype.
-    pub fn unprototyped(&mut self, ret: TypeId) -> Result<TypeId, Stop> {
-        let params = TypeList::new(Vec::new(self.alloc));
-        self.node(Node::Func {
-            proto: false,
-            variadic: false,
-            ret,
-            params,
-        })
-    }
-
-    /// An incomplete aggregate.
-    pub fn tag(&mut self, kind: AggKind, tag: &[u8]) -> Result<AggId, Stop> {
+    /// The type of a new incomplete aggregate.
+    pub fn tag(&mut self, kind: AggKind, tag: &[u8]) -> Result<TypeId, Stop> {
         let tag = self.name(tag)?;
-        Ok(self.unit.graph.add_agg(kind, Some(tag))?)
-    }
-
-    /// The type of an aggregate.
-    pub fn tagged(&mut self, a: AggId) -> Result<TypeId, Stop> {
+        let a = self.unit.graph.add_agg(kind, Some(tag))?;
         self.node(Node::Agg(a))
     }
 
-    /// Gives an aggregate its members.
-    pub fn complete(&mut self, a: AggId, parts: &[Part]) -> Result<(), Stop> {
-        let members = self.members(parts)?;
+    /// The type of an aggregate, which gets its members; their types stand in a list.
+    pub fn complete(&mut self, a: AggId, types: &[TypeId], parts: &[Part]) -> Result<TypeId, Stop> {
+        let members = self.members(types, parts)?;
+        self.finish(a, members)?;
+        self.node(Node::Agg(a))
+    }
+
+    fn finish(&mut self, a: AggId, members: Vec<Member>) -> Result<(), Stop> {
         if !is_open(&self.unit.graph, a) || !are_complete(&self.unit.graph, &members) {
             return Err(Stop::Wrong);
         }
@@ -183,44 +189,30 @@ impl Builder {
         Ok(())
     }
 
-    fn members(&mut self, parts: &[Part]) -> Result<Vec<Member>, Stop> {
+    fn members(&mut self, types: &[TypeId], parts: &[Part]) -> Result<Vec<Member>, Stop> {
         let mut members = Vec::new(self.alloc);
         for part in parts {
-            let name = self.name(part.name)?;
-            members.push(member_of(part, name))?;
+            let name = self.name(name_of(part))?;
+            members.push(member_of(part, name, types))?;
         }
         Ok(members)
     }
 
-    /// Adds a global of external linkage.
-    pub fn external(&mut self, name: &[u8], ty: TypeId, def: GlobalDef) -> Result<EntityId, Stop> {
-        self.global(name, ty, false, def)
-    }
-
-    /// Adds a global of internal linkage.
-    pub fn internal(&mut self, name: &[u8], ty: TypeId, def: GlobalDef) -> Result<EntityId, Stop> {
-        self.global(name, ty, true, def)
-    }
-
-    fn global(
+    /// Adds a global.
+    pub fn global(
         &mut self,
-        name: &[u8],
+        name: NameId,
         ty: TypeId,
         internal: bool,
         def: GlobalDef,
-    ) -> Result<EntityId, Stop> {
-        let number = match u32::try_from(self.unit.globals.len()) {
-            Ok(number) => number,
-            Err(_) => return Err(Stop::Memory),
-        };
-        let name = self.name(name)?;
+    ) -> Result<(), Stop> {
         self.unit.globals.push(GlobalDecl {
             name,
             ty,
             internal,
             def,
         })?;
-        Ok(EntityId(number))
+        Ok(())
     }
 
     /// The text of the program, if it is well-formed and the text is not too long.

@@ -10,6 +10,8 @@ mod aggregate_tests;
 #[cfg(test)]
 mod builder;
 #[cfg(test)]
+mod equal;
+#[cfg(test)]
 mod functions;
 #[cfg(test)]
 mod objects;
@@ -23,8 +25,6 @@ mod sample_text;
 mod stop;
 #[cfg(test)]
 mod tests;
-#[cfg(test)]
-mod trees;
 #[cfg(test)]
 mod types;
 #[cfg(test)]

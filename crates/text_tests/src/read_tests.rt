@@ -1,10 +1,12 @@
-use crate::program::text_of;
+use crate::equal::equal;
+use crate::program::sample_text;
 use crate::sample_text::SAMPLE;
 use crate::stop::Stop;
 use cil_base::{Abi, NamePool};
 use cil_layout::bad_place;
 use cil_reader::{ReadStop, read};
 use std::alloc::Global;
+use std::process::Abort;
 use std::test::Fail;
 
 /// The place that is named for bytes in a data model, or none where they are read.
@@ -32,12 +34,17 @@ fn sample_lines(alloc: Global) -> Result<Vec<u8>, Stop> {
     Ok(text)
 }
 
+fn is_the_sample(rt: &impl Abort, alloc: Global, text: &[u8]) -> Result<(), Stop> {
+    let lines = sample_lines(alloc)?;
+    equal(rt, &"text", &text, &lines.as_slice());
+    equal(rt, &"place", &place_of(alloc, text), &Ok(None));
+    Ok(())
+}
+
 #[test]
 fn the_sample_is_printed_and_read(rt: HostRuntime) -> Result<(), Fail> {
-    let text = text_of(rt.alloc())?;
-    let lines = sample_lines(rt.alloc())?;
-    assert!(rt; text.as_slice() == lines.as_slice());
-    assert_eq!(rt; place_of(rt.alloc(), &text)?, None);
+    let text = sample_text(rt.alloc())?;
+    is_the_sample(&rt, rt.alloc(), &text)?;
     Ok(())
 }
 
@@ -71,11 +78,10 @@ fn texts() -> &'static [&'static str] {
 }
 
 #[test]
-fn texts_are_read(rt: HostRuntime) -> Result<(), Fail> {
+fn texts_are_read(rt: HostRuntime) {
     for text in texts() {
-        assert_eq!(rt; place_of(rt.alloc(), text.as_bytes())?, None, "{text}");
+        equal(&rt, text, &place_of(rt.alloc(), text.as_bytes()), &Ok(None));
     }
-    Ok(())
 }
 
 /// Bytes that are no text of a program, and the place that is named for them.
@@ -147,16 +153,12 @@ fn refused() -> &'static [(&'static str, usize)] {
 }
 
 #[test]
-fn other_bytes_are_refused(rt: HostRuntime) -> Result<(), Fail> {
+fn other_bytes_are_refused(rt: HostRuntime) {
     for (text, place) in refused() {
-        assert_eq!(rt; bad_place(text.as_bytes()), *place, "{text}");
-        assert_eq!(rt;
-            place_of(rt.alloc(), text.as_bytes())?,
-            Some(*place),
-            "{text}"
-        );
+        equal(&rt, text, &bad_place(text.as_bytes()), place);
+        let found = place_of(rt.alloc(), text.as_bytes());
+        equal(&rt, text, &found, &Ok(Some(*place)));
     }
-    Ok(())
 }
 
 /// Expressions (C11 6.5), and whether they are spelled as in a text.
@@ -201,7 +203,7 @@ fn expressions_are_read(rt: HostRuntime) -> Result<(), Fail> {
     for (expression, spelled) in expressions() {
         let text = returning(rt.alloc(), expression)?;
         let place = if *spelled { None } else { Some(text.len()) };
-        assert_eq!(rt; place_of(rt.alloc(), &text)?, place, "{expression}");
+        equal(&rt, expression, &place_of(rt.alloc(), &text), &Ok(place));
     }
     Ok(())
 }
@@ -286,11 +288,17 @@ fn with_body(alloc: Global, lines: &str) -> Result<Vec<u8>, Stop> {
     Ok(text)
 }
 
+/// Whether these lines of a body are those of a text in a data model.
+fn is_body(alloc: Global, lines: &str, abi: Abi) -> Result<bool, Fail> {
+    let text = with_body(alloc, lines)?;
+    Ok(place_in(alloc, &text, abi)?.is_none())
+}
+
 #[test]
 fn bodies_are_read(rt: HostRuntime) -> Result<(), Fail> {
     for (lines, spelled) in bodies() {
-        let text = with_body(rt.alloc(), lines)?;
-        assert_eq!(rt; place_of(rt.alloc(), &text)?.is_none(), *spelled, "{lines}");
+        let found = is_body(rt.alloc(), lines, Abi::Lp64)?;
+        equal(&rt, lines, &found, spelled);
     }
     Ok(())
 }
@@ -345,16 +353,14 @@ fn models() -> &'static [(&'static str, bool, bool)] {
 #[test]
 fn bodies_are_read_in_a_model(rt: HostRuntime) -> Result<(), Fail> {
     for (lines, eight, four) in models() {
-        let text = with_body(rt.alloc(), lines)?;
-        assert_eq!(rt;
-            place_in(rt.alloc(), &text, Abi::Lp64)?.is_none(),
-            *eight,
-            "{lines}"
-        );
-        assert_eq!(rt;
-            place_in(rt.alloc(), &text, Abi::Ilp32)?.is_none(),
-            *four,
-            "{lines}"
+        equal(
+            &rt,
+            lines,
+            &[
+                is_body(rt.alloc(), lines, Abi::Lp64)?,
+                is_body(rt.alloc(), lines, Abi::Ilp32)?,
+            ],
+            &[*eight, *four],
         );
     }
     Ok(())
@@ -372,13 +378,12 @@ fn place_of_cut(length: usize) -> Option<usize> {
 }
 
 #[test]
-fn cuts_are_refused(rt: HostRuntime) -> Result<(), Fail> {
+fn cuts_are_refused(rt: HostRuntime) {
     let text = b"int main ( void ) ;\nint main ( void ) {\n  return ( 2 + 3 ) ;\n}\n";
     for length in 0..text.len() {
-        let place = place_of(rt.alloc(), &text[..length])?;
-        assert_eq!(rt; place, place_of_cut(length), "{length}");
+        let place = place_of(rt.alloc(), &text[..length]);
+        equal(&rt, &length, &place, &Ok(place_of_cut(length)));
     }
-    Ok(())
 }
 
 /// The text of a program with a call that has so many arguments (C11 6.5.2.2).
@@ -397,6 +402,6 @@ fn calling(alloc: Global, arguments: usize) -> Result<Vec<u8>, Stop> {
 #[test]
 fn a_call_of_any_length_is_read(rt: HostRuntime) -> Result<(), Fail> {
     let text = calling(rt.alloc(), 1_000_000)?;
-    assert_eq!(rt; place_of(rt.alloc(), &text)?, None);
+    equal(&rt, &"place", &place_of(rt.alloc(), &text), &Ok(None));
     Ok(())
 }

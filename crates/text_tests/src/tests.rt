@@ -1,52 +1,82 @@
-use crate::builder::Builder;
+use crate::builder::{Builder, Form, type_at};
+use crate::equal::equal;
+use crate::objects::alone;
 use crate::stop::Stop;
 use cil_base::{Constant, IntKind, TypeId};
-use cil_tree::{GlobalDef, ImageItem};
+use cil_tree::GlobalDef;
 use std::alloc::Global;
 use std::test::Fail;
 
+/// A pointer to a function that takes two of a type.
+fn taking(b: &mut Builder, void: TypeId, of: TypeId) -> Result<TypeId, Stop> {
+    let function = b.function(Form::Prototype, void, &[of, of])?;
+    b.pointer(function)
+}
+
 /// `void ( * ) ( void )`, and so many types more, each a pointer to a function that takes two of the one before.
-fn chain(b: &mut Builder, more: u32) -> Result<Vec<TypeId>, Stop> {
+fn add_chain(b: &mut Builder, types: &mut Vec<TypeId>, more: u32) -> Result<(), Stop> {
     let void = b.void()?;
-    let first = b.function(void, &[])?;
+    let first = b.function(Form::Prototype, void, &[])?;
     let mut last = b.pointer(first)?;
-    let mut types = vec![in b.alloc; last]?;
+    types.push(last)?;
     for _i in 0..more {
-        let taking = b.function(void, &[last, last])?;
-        last = b.pointer(taking)?;
+        last = taking(b, void, last)?;
         types.push(last)?;
     }
-    Ok(types)
+    Ok(())
+}
+
+/// The length of the text of a program with one declaration.
+fn declared_length(b: &mut Builder, name: &[u8], ty: TypeId) -> Result<usize, Stop> {
+    let name = b.name(name)?;
+    b.global(name, ty, false, GlobalDef::Declared)?;
+    let text = b.text()?;
+    Ok(text.len())
+}
+
+fn chain_length_in(b: &mut Builder, more: u32) -> Result<usize, Stop> {
+    let mut types = Vec::new(b.alloc);
+    add_chain(b, &mut types, more)?;
+    match types.as_slice() {
+        [.., last] => declared_length(b, b"x", *last),
+        [] => Err(Stop::Wrong),
+    }
 }
 
 /// The length of the text `extern T x ;` with the last type of such a chain.
 fn chain_length(alloc: Global, more: u32) -> Result<usize, Stop> {
     let mut b = Builder::new(alloc);
-    let types = chain(&mut b, more)?;
-    match types.as_slice() {
-        [.., last] => b.external(b"x", *last, GlobalDef::Declared)?,
-        [] => return Err(Stop::Wrong),
-    };
-    Ok(b.text()?.len())
+    chain_length_in(&mut b, more)
 }
 
-/// The length of the text `void NAME ( T , .. ) ;`, with a name of so many letters, and with seven parameters of such
-/// a chain whose declarations have 268,246,914 bytes together.
-fn function_length(alloc: Global, letters: usize) -> Result<usize, Stop> {
-    let mut b = Builder::new(alloc);
-    let types = chain(&mut b, 22)?;
-    let mut params = Vec::new(alloc);
+/// Seven types of a chain, whose declarations have 268,246,914 bytes together.
+fn add_seven(b: &mut Builder, params: &mut Vec<TypeId>) -> Result<(), Stop> {
+    let mut types = Vec::new(b.alloc);
+    add_chain(b, &mut types, 22)?;
     for number in [22, 21, 19, 18, 17, 15, 13] {
-        match types.get(number) {
-            Some(t) => params.push(*t)?,
-            None => return Err(Stop::Wrong),
-        }
+        params.push(type_at(&types, number))?;
     }
+    Ok(())
+}
+
+/// `void ( T , .. )`, with seven parameters.
+fn seven_taking(b: &mut Builder) -> Result<TypeId, Stop> {
+    let mut params = Vec::new(b.alloc);
+    add_seven(b, &mut params)?;
     let void = b.void()?;
-    let function = b.function(void, &params)?;
+    b.function(Form::Prototype, void, &params)
+}
+
+fn function_length_in(b: &mut Builder, name: &[u8]) -> Result<usize, Stop> {
+    let function = seven_taking(b)?;
+    declared_length(b, name, function)
+}
+
+/// The length of the text `void NAME ( T , .. ) ;`, with a name of so many letters, and with seven parameters.
+fn function_length(alloc: Global, letters: usize) -> Result<usize, Stop> {
     let name = vec![in alloc; b'a'; letters]?;
-    b.external(&name, function, GlobalDef::Declared)?;
-    Ok(b.text()?.len())
+    let mut b = Builder::new(alloc);
+    function_length_in(&mut b, &name)
 }
 
 /// A chain of so many types more, and the length of its text; none where that is too long.
@@ -91,21 +121,19 @@ fn short(length: Result<usize, Stop>) -> Result<Option<usize>, Stop> {
 }
 
 #[test]
-fn a_length_is_known_without_the_text(rt: HostRuntime) -> Result<(), Fail> {
+fn a_length_is_known_without_the_text(rt: HostRuntime) {
     for row in chain_rows() {
-        let length = short(chain_length(rt.alloc(), row.more))?;
-        assert_eq!(rt; length, row.length, "{}", row.more);
+        let length = short(chain_length(rt.alloc(), row.more));
+        equal(&rt, &row.more, &length, &Ok(row.length));
     }
-    Ok(())
 }
 
 #[test]
-fn a_text_is_too_long_from_one_byte_above_the_limit(rt: HostRuntime) -> Result<(), Fail> {
-    let length = short(function_length(rt.alloc(), 188511))?;
-    assert_eq!(rt; length, Some(268435456));
-    let length = short(function_length(rt.alloc(), 188512))?;
-    assert_eq!(rt; length, None);
-    Ok(())
+fn a_text_is_too_long_from_one_byte_above_the_limit(rt: HostRuntime) {
+    for (letters, length) in [(188511, Some(268435456)), (188512, None)] {
+        let found = short(function_length(rt.alloc(), letters));
+        equal(&rt, &letters, &found, &Ok(length));
+    }
 }
 
 /// A number, its kind, and the definition of an object that has it.
@@ -181,22 +209,25 @@ fn number_rows() -> &'static [NumberRow] {
     ]
 }
 
+fn object_text_in(b: &mut Builder, kind: IntKind, value: i128) -> Result<Vec<u8>, Stop> {
+    let name = b.name(b"x")?;
+    let ty = b.int(kind)?;
+    let image = alone(b.alloc, Constant::Int(kind, value))?;
+    b.global(name, ty, false, GlobalDef::Image(image))?;
+    b.text()
+}
+
 /// The text of a program of one object `x` with that value.
 fn object_text(alloc: Global, kind: IntKind, value: i128) -> Result<Vec<u8>, Stop> {
     let mut b = Builder::new(alloc);
-    let ty = b.int(kind)?;
-    let value = Constant::Int(kind, value);
-    let path = Vec::new(alloc);
-    let image = vec![in alloc; ImageItem { path, value }]?;
-    b.external(b"x", ty, GlobalDef::Image(image))?;
-    b.text()
+    object_text_in(&mut b, kind, value)
 }
 
 #[test]
 fn numbers_have_their_suffixes(rt: HostRuntime) -> Result<(), Fail> {
     for row in number_rows() {
         let text = object_text(rt.alloc(), row.kind, row.value)?;
-        assert_eq!(rt; text.as_slice(), row.text);
+        equal(&rt, &row.text, &text.as_slice(), &row.text);
     }
     Ok(())
 }

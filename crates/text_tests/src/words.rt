@@ -1,8 +1,13 @@
+use crate::builder::type_at;
 use crate::stop::Stop;
-use crate::trees::{binary, cast, element, field, global, local, pointed, set, unary};
-use cil_base::{BinOp, EntityId, IntKind, TypeId, UnOp};
-use cil_tree::{Callee, Exp, Instr, Lval, Stmt};
+use cil_base::{BinOp, EntityId, IntKind, LabelId, LocalId, TypeId, UnOp};
+use cil_nodes::{
+    add_element, add_field, at, binary, boxed, direct, if_else, looped, push_argument,
+    return_value, set, switch, through, whole, zero,
+};
+use cil_tree::{Exp, Host, Instr, Lval, Stmt};
 use std::alloc::Global;
+use std::mem;
 
 /// A step of building statements: each takes its parts from what was built last, and puts what it makes behind the rest.
 #[derive(Clone, Copy)]
@@ -41,22 +46,40 @@ pub(crate) enum Word {
     Through,
     /// A place becomes zero.
     Zero,
+    /// What follows stands in the statement whose word ends it.
+    Begin,
+    /// An `if` with the last two lists that were begun.
+    If,
+    /// A loop, a switch, a block with the last list that was begun.
+    Loop,
+    Switch,
+    Block,
+    Label(LabelId),
+    Case(IntKind, i128),
+    Default,
+    Goto(LabelId),
+    Break,
+    /// A return of a value, and one of none.
+    Return,
+    Leave,
 }
 
-/// Places, expressions and statements that are built.
+/// Places, expressions and statements that are built: each list but the last is one in which the next one stands.
 #[derive(Drop)]
-pub(crate) struct Stack {
+struct Stack {
     places: Vec<Lval>,
-    exps: Vec<Exp>,
+    exps: Vec<Box<Exp>>,
+    outer: Vec<Vec<Stmt>>,
     stmts: Vec<Stmt>,
     alloc: Global,
 }
 
 impl Stack {
-    pub fn new(alloc: Global) -> Self {
+    fn new(alloc: Global) -> Self {
         Stack {
             places: Vec::new(alloc),
             exps: Vec::new(alloc),
+            outer: Vec::new(alloc),
             stmts: Vec::new(alloc),
             alloc,
         }
@@ -69,20 +92,20 @@ impl Stack {
         }
     }
 
-    /// The expression that was built last.
-    pub fn exp(&mut self) -> Result<Exp, Stop> {
+    fn exp(&mut self) -> Result<Box<Exp>, Stop> {
         match self.exps.pop() {
             Some(e) => Ok(e),
             None => Err(Stop::Wrong),
         }
     }
 
-    fn add_place(&mut self, place: Lval) -> Result<(), Stop> {
-        self.places.push(place)?;
+    fn add_place(&mut self, host: Host) -> Result<(), Stop> {
+        self.places.push(whole(self.alloc, host))?;
         Ok(())
     }
 
     fn add_exp(&mut self, e: Exp) -> Result<(), Stop> {
+        let e = boxed(self.alloc, e)?;
         self.exps.push(e)?;
         Ok(())
     }
@@ -94,18 +117,22 @@ impl Stack {
 
     fn add_pointed(&mut self) -> Result<(), Stop> {
         let pointer = self.exp()?;
-        self.add_place(pointed(self.alloc, pointer)?)
+        self.add_place(at(pointer))
     }
 
-    fn add_field(&mut self, member: u32) -> Result<(), Stop> {
-        let place = self.place()?;
-        self.add_place(field(place, member)?)
+    fn step_to_field(&mut self, member: u32) -> Result<(), Stop> {
+        match self.places.last_mut() {
+            Some(place) => Ok(add_field(place, member)?),
+            None => Err(Stop::Wrong),
+        }
     }
 
-    fn add_element(&mut self) -> Result<(), Stop> {
+    fn step_to_element(&mut self) -> Result<(), Stop> {
         let index = self.exp()?;
-        let place = self.place()?;
-        self.add_place(element(self.alloc, place, index)?)
+        match self.places.last_mut() {
+            Some(place) => Ok(add_element(place, index)?),
+            None => Err(Stop::Wrong),
+        }
     }
 
     fn add_value(&mut self) -> Result<(), Stop> {
@@ -125,27 +152,33 @@ impl Stack {
 
     fn add_unary(&mut self, op: UnOp) -> Result<(), Stop> {
         let operand = self.exp()?;
-        self.add_exp(unary(self.alloc, op, operand)?)
+        self.add_exp(Exp::Un(op, operand))
     }
 
     fn add_binary(&mut self, op: BinOp) -> Result<(), Stop> {
         let right = self.exp()?;
         let left = self.exp()?;
-        self.add_exp(binary(self.alloc, left, op, right)?)
+        self.add_exp(binary(op, left, right))
     }
 
-    fn add_cast(&mut self, types: &[TypeId], number: usize) -> Result<(), Stop> {
+    fn add_cast(&mut self, to: TypeId) -> Result<(), Stop> {
         let operand = self.exp()?;
-        match types.get(number) {
-            Some(t) => self.add_exp(cast(self.alloc, *t, operand)?),
-            None => Err(Stop::Wrong),
-        }
+        self.add_exp(Exp::Cast(to, operand))
+    }
+
+    fn add_instr(&mut self, instr: Instr) -> Result<(), Stop> {
+        self.add_stmt(Stmt::Instr(instr))
     }
 
     fn add_set(&mut self) -> Result<(), Stop> {
         let value = self.exp()?;
         let place = self.place()?;
-        self.add_stmt(set(place, value))
+        self.add_instr(set(place, value))
+    }
+
+    fn add_zero(&mut self) -> Result<(), Stop> {
+        let place = self.place()?;
+        self.add_instr(zero(place))
     }
 
     /// So many arguments, in the order in which they were built.
@@ -153,7 +186,7 @@ impl Stack {
         let mut arguments = Vec::new(self.alloc);
         for _i in 0..count {
             let e = self.exp()?;
-            arguments.push(e)?;
+            push_argument(&mut arguments, e)?;
         }
         arguments.reverse();
         Ok(arguments)
@@ -161,70 +194,136 @@ impl Stack {
 
     fn add_call(&mut self, function: EntityId, count: usize) -> Result<(), Stop> {
         let arguments = self.arguments(count)?;
-        let callee = Callee::Direct(function);
-        self.add_stmt(Stmt::Instr(Instr::Call(None, callee, arguments)))
+        self.add_instr(Instr::Call(None, direct(function), arguments))
     }
 
     fn add_call_to(&mut self, function: EntityId, count: usize) -> Result<(), Stop> {
         let arguments = self.arguments(count)?;
         let to = self.place()?;
-        let callee = Callee::Direct(function);
-        self.add_stmt(Stmt::Instr(Instr::Call(Some(to), callee, arguments)))
+        self.add_instr(Instr::Call(Some(to), direct(function), arguments))
+    }
+
+    fn add_through(&mut self) -> Result<(), Stop> {
+        let arguments = self.arguments(1)?;
+        let pointer = self.exp()?;
+        self.add_instr(Instr::Call(None, through(pointer), arguments))
     }
 
     fn add_through_to(&mut self) -> Result<(), Stop> {
         let arguments = self.arguments(1)?;
         let pointer = self.exp()?;
         let to = self.place()?;
-        let callee = Callee::Through(pointer);
-        self.add_stmt(Stmt::Instr(Instr::Call(Some(to), callee, arguments)))
+        self.add_instr(Instr::Call(Some(to), through(pointer), arguments))
     }
 
-    fn add_through(&mut self) -> Result<(), Stop> {
-        let arguments = self.arguments(1)?;
-        let pointer = self.exp()?;
-        let callee = Callee::Through(pointer);
-        self.add_stmt(Stmt::Instr(Instr::Call(None, callee, arguments)))
+    fn begin(&mut self) -> Result<(), Stop> {
+        let outer = mem::replace(&mut self.stmts, Vec::new(self.alloc));
+        self.outer.push(outer)?;
+        Ok(())
     }
 
-    fn add_zero(&mut self) -> Result<(), Stop> {
-        let place = self.place()?;
-        self.add_stmt(Stmt::Instr(Instr::Zero(place)))
+    /// The list that was begun last.
+    fn end(&mut self) -> Result<Vec<Stmt>, Stop> {
+        match self.outer.pop() {
+            Some(outer) => Ok(mem::replace(&mut self.stmts, outer)),
+            None => Err(Stop::Wrong),
+        }
+    }
+
+    fn add_if(&mut self) -> Result<(), Stop> {
+        let fails = self.end()?;
+        let holds = self.end()?;
+        let test = self.exp()?;
+        self.add_stmt(if_else(test, holds, fails))
+    }
+
+    fn add_loop(&mut self) -> Result<(), Stop> {
+        let body = self.end()?;
+        self.add_stmt(looped(body))
+    }
+
+    fn add_switch(&mut self) -> Result<(), Stop> {
+        let body = self.end()?;
+        let value = self.exp()?;
+        self.add_stmt(switch(value, body))
+    }
+
+    fn add_block(&mut self) -> Result<(), Stop> {
+        let body = self.end()?;
+        self.add_stmt(Stmt::Block(body))
+    }
+
+    fn add_return(&mut self) -> Result<(), Stop> {
+        let value = self.exp()?;
+        self.add_stmt(return_value(value))
+    }
+
+    /// A word of statements.
+    fn statement(&mut self, w: Word) -> Result<(), Stop> {
+        match w {
+            Word::Set => self.add_set(),
+            Word::Zero => self.add_zero(),
+            Word::Call(function, count) => self.add_call(function, count),
+            Word::CallTo(function, count) => self.add_call_to(function, count),
+            Word::ThroughTo => self.add_through_to(),
+            Word::Through => self.add_through(),
+            Word::Begin => self.begin(),
+            Word::If => self.add_if(),
+            Word::Loop => self.add_loop(),
+            Word::Switch => self.add_switch(),
+            Word::Block => self.add_block(),
+            Word::Label(number) => self.add_stmt(Stmt::Label(number)),
+            Word::Case(kind, value) => self.add_stmt(Stmt::Case(kind, value)),
+            Word::Default => self.add_stmt(Stmt::Default),
+            Word::Goto(number) => self.add_stmt(Stmt::Goto(number)),
+            Word::Break => self.add_stmt(Stmt::Break),
+            Word::Return => self.add_return(),
+            _ => self.add_stmt(Stmt::Return(None)),
+        }
     }
 
     fn word(&mut self, types: &[TypeId], w: Word) -> Result<(), Stop> {
         match w {
             Word::Const(kind, value) => self.add_exp(Exp::Const(kind, value)),
-            Word::Local(number) => self.add_place(local(self.alloc, number)),
-            Word::Global(number) => self.add_place(global(self.alloc, number)),
+            Word::Local(number) => self.add_place(Host::Var(LocalId(number))),
+            Word::Global(number) => self.add_place(Host::Global(number)),
             Word::Pointed => self.add_pointed(),
-            Word::Field(member) => self.add_field(member),
-            Word::Element => self.add_element(),
+            Word::Field(member) => self.step_to_field(member),
+            Word::Element => self.step_to_element(),
             Word::Value => self.add_value(),
             Word::Address => self.add_address(),
             Word::Start => self.add_start(),
             Word::Un(op) => self.add_unary(op),
             Word::Bin(op) => self.add_binary(op),
-            Word::Cast(number) => self.add_cast(types, number),
-            Word::Set => self.add_set(),
-            Word::Call(function, count) => self.add_call(function, count),
-            Word::CallTo(function, count) => self.add_call_to(function, count),
-            Word::ThroughTo => self.add_through_to(),
-            Word::Through => self.add_through(),
-            Word::Zero => self.add_zero(),
+            Word::Cast(place) => self.add_cast(type_at(types, place)),
+            _ => self.statement(w),
         }
     }
 
-    /// The statements that were built.
-    pub fn into_stmts(self) -> Vec<Stmt> {
-        self.stmts
-    }
-
     /// Builds what the words say.
-    pub fn build(&mut self, types: &[TypeId], words: &[Word]) -> Result<(), Stop> {
+    fn build(&mut self, types: &[TypeId], words: &[Word]) -> Result<(), Stop> {
         for w in words {
             self.word(types, *w)?;
         }
         Ok(())
     }
+
+    /// Builds what the words of each part say.
+    fn build_all(&mut self, types: &[TypeId], parts: &[&[Word]]) -> Result<(), Stop> {
+        for words in parts {
+            self.build(types, words)?;
+        }
+        Ok(())
+    }
+}
+
+/// The statements that the words of each part build.
+pub(crate) fn statements(
+    alloc: Global,
+    types: &[TypeId],
+    parts: &[&[Word]],
+) -> Result<Vec<Stmt>, Stop> {
+    let mut stack = Stack::new(alloc);
+    stack.build_all(types, parts)?;
+    Ok(stack.stmts)
 }
