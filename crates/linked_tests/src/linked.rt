@@ -3,13 +3,13 @@ ghost use Rattle.cil_base.specs.declared.kinds.Abi.TheVariants.{Lp64};
 ghost use Rattle.cil_tree.specs.View.{program_of};
 ghost use Rattle.cil_tree.specs.Programs.{IsProgram};
 
-use crate::units::{Digit, Form, Locals, Row, unit};
+use crate::equal::equal;
+use crate::units::{Digit, Form, Locals, Row, Unit, add_unit};
 use cil_base::{Abi, Bytes, Env, Memory, NamePool, Outcome};
 use cil_check::check;
 use cil_runner::run_cil;
 use cil_tree::CilUnit;
 use std::alloc::Global;
-use std::test::Fail;
 
 /// The exit status of an outcome, if it is one.
 fn status(o: &Outcome) -> Option<u8> {
@@ -45,11 +45,13 @@ fn all_alike(units: &[CilUnit]) -> bool
 
 /// One word, and the input `A`.
 fn environment(alloc: Global) -> Result<Env, Memory> {
+    let input = b"A".to_vec(alloc)?;
+    let word = b"p".to_vec(alloc)?;
     let mut args = Vec::new(alloc);
-    args.push(Bytes::new(b"p".to_vec(alloc)?))?;
+    args.push(Bytes::new(word))?;
     Ok(Env {
         args,
-        input: Bytes::new(b"A".to_vec(alloc)?),
+        input: Bytes::new(input),
     })
 }
 
@@ -63,38 +65,55 @@ fn run_units(alloc: Global, units: &[CilUnit], names: &NamePool) -> Result<Optio
     Ok(status(&run_cil(alloc, units, names, &env, 10)?))
 }
 
-/// The names of locals that no global of the rows has.
-fn own_locals() -> Locals<'static> {
-    Locals {
-        sum: b"sum",
-        digit: b"digit",
+fn run_in(
+    names: &mut NamePool,
+    made: &mut Vec<CilUnit>,
+    alloc: Global,
+    units: &[Unit],
+) -> Result<Option<u8>, Memory> {
+    for unit in units {
+        add_unit(made, alloc, names, unit)?;
     }
+    run_units(alloc, made, names)
 }
 
-/// The status of the run of units with these globals.
-fn run(alloc: Global, rows: &[&[Row]]) -> Result<Option<u8>, Memory> {
+/// The status of the run of these units.
+fn run(alloc: Global, units: &[Unit]) -> Result<Option<u8>, Memory> {
     let mut names = NamePool::new(alloc);
-    let mut units = Vec::new(alloc);
-    for unit_rows in rows {
-        units.push(unit(alloc, &mut names, own_locals(), *unit_rows)?)?;
-    }
-    run_units(alloc, &units, &names)
+    let mut made = Vec::new(alloc);
+    run_in(&mut names, &mut made, alloc, units)
+}
+
+/// Names of locals that no global has.
+const OWN: Locals = Locals {
+    sum: b"sum",
+    digit: b"digit",
+};
+
+/// Units that are linked, and the status of their run.
+struct Linked {
+    name: &'static str,
+    units: &'static [Unit],
+    status: Option<u8>,
 }
 
 /// An external object and an external function are one in both units (6.2.2p2).
-#[test]
-fn external_names_are_one_in_all_units(rt: HostRuntime) -> Result<(), Fail> {
-    let status = run(
-        rt.alloc(),
-        &[
-            &[
+const EXTERNAL: Linked = Linked {
+    name: "external names are one in all units",
+    units: &[
+        Unit {
+            locals: OWN,
+            rows: &[
                 Row::External(b"n", Form::Object(Some(1))),
                 Row::External(
                     b"f",
                     Form::Function(Some(&[Digit::Set(0, 2), Digit::Number(1)])),
                 ),
             ],
-            &[
+        },
+        Unit {
+            locals: OWN,
+            rows: &[
                 Row::External(b"f", Form::Function(None)),
                 Row::External(b"n", Form::Object(None)),
                 Row::External(
@@ -102,24 +121,26 @@ fn external_names_are_one_in_all_units(rt: HostRuntime) -> Result<(), Fail> {
                     Form::Function(Some(&[Digit::Value(1), Digit::Call(0), Digit::Value(1)])),
                 ),
             ],
-        ],
-    )?;
-    assert_eq!(rt; status, Some(112));
-    Ok(())
-}
+        },
+    ],
+    status: Some(112),
+};
 
 /// An internal object and an internal function are those of their unit (6.2.2p2).
-#[test]
-fn internal_names_are_those_of_their_unit(rt: HostRuntime) -> Result<(), Fail> {
-    let status = run(
-        rt.alloc(),
-        &[
-            &[
+const INTERNAL: Linked = Linked {
+    name: "internal names are those of their unit",
+    units: &[
+        Unit {
+            locals: OWN,
+            rows: &[
                 Row::Internal(b"n", Form::Object(Some(1))),
                 Row::Internal(b"g", Form::Function(Some(&[Digit::Value(0)]))),
                 Row::External(b"f", Form::Function(Some(&[Digit::Call(1)]))),
             ],
-            &[
+        },
+        Unit {
+            locals: OWN,
+            rows: &[
                 Row::Internal(b"n", Form::Object(Some(2))),
                 Row::Internal(b"g", Form::Function(Some(&[Digit::Value(0)]))),
                 Row::External(b"f", Form::Function(None)),
@@ -128,98 +149,118 @@ fn internal_names_are_those_of_their_unit(rt: HostRuntime) -> Result<(), Fail> {
                     Form::Function(Some(&[Digit::Call(2), Digit::Call(1)])),
                 ),
             ],
-        ],
-    )?;
-    assert_eq!(rt; status, Some(12));
-    Ok(())
-}
+        },
+    ],
+    status: Some(12),
+};
 
 /// A declared function of the host's name is the host's.
-#[test]
-fn a_declared_function_is_the_hosts(rt: HostRuntime) -> Result<(), Fail> {
-    let status = run(
-        rt.alloc(),
-        &[&[
+const DECLARED: Linked = Linked {
+    name: "a declared function is the host's",
+    units: &[Unit {
+        locals: OWN,
+        rows: &[
             Row::External(b"getchar", Form::Function(None)),
             Row::External(b"main", Form::Function(Some(&[Digit::Call(0)]))),
-        ]],
-    )?;
-    assert_eq!(rt; status, Some(65));
-    Ok(())
-}
+        ],
+    }],
+    status: Some(65),
+};
 
 /// A unit's definition counts before the host's function (own).
-#[test]
-fn a_definition_counts_before_the_host(rt: HostRuntime) -> Result<(), Fail> {
-    let status = run(
-        rt.alloc(),
-        &[
-            &[
+const DEFINED: Linked = Linked {
+    name: "a definition counts before the host",
+    units: &[
+        Unit {
+            locals: OWN,
+            rows: &[
                 Row::External(b"getchar", Form::Function(None)),
                 Row::External(b"main", Form::Function(Some(&[Digit::Call(0)]))),
             ],
-            &[Row::External(b"getchar", Form::Function(Some(&[Digit::Number(7)])))],
-        ],
-    )?;
-    assert_eq!(rt; status, Some(7));
-    Ok(())
-}
+        },
+        Unit {
+            locals: OWN,
+            rows: &[Row::External(b"getchar", Form::Function(Some(&[Digit::Number(7)])))],
+        },
+    ],
+    status: Some(7),
+};
 
 /// An internal main begins no run (5.1.2.2.1p1).
-#[test]
-fn an_internal_main_begins_no_run(rt: HostRuntime) -> Result<(), Fail> {
-    let status = run(
-        rt.alloc(),
-        &[
-            &[Row::Internal(b"main", Form::Function(Some(&[Digit::Number(1)])))],
-            &[Row::External(b"main", Form::Function(Some(&[Digit::Number(2)])))],
-        ],
-    )?;
-    assert_eq!(rt; status, Some(2));
-    Ok(())
-}
+const INTERNAL_MAIN: Linked = Linked {
+    name: "an internal main begins no run",
+    units: &[
+        Unit {
+            locals: OWN,
+            rows: &[Row::Internal(b"main", Form::Function(Some(&[Digit::Number(1)])))],
+        },
+        Unit {
+            locals: OWN,
+            rows: &[Row::External(b"main", Form::Function(Some(&[Digit::Number(2)])))],
+        },
+    ],
+    status: Some(2),
+};
 
 /// What no unit defines is undefined where it is called.
-#[test]
-fn what_no_unit_defines_is_undefined(rt: HostRuntime) -> Result<(), Fail> {
-    let status = run(
-        rt.alloc(),
-        &[&[
+const UNDEFINED: Linked = Linked {
+    name: "what no unit defines is undefined",
+    units: &[Unit {
+        locals: OWN,
+        rows: &[
             Row::External(b"f", Form::Function(None)),
             Row::External(b"main", Form::Function(Some(&[Digit::Call(0)]))),
-        ]],
-    )?;
-    assert_eq!(rt; status, None);
-    Ok(())
-}
+        ],
+    }],
+    status: None,
+};
 
 /// Locals have names of globals of another unit, which they neither hide nor are (6.2.1p4, 6.2.2p6).
+const LOCALS: Linked = Linked {
+    name: "locals are no globals of another unit",
+    units: &[
+        Unit {
+            locals: OWN,
+            rows: &[
+                Row::External(b"n", Form::Object(Some(1))),
+                Row::External(b"g", Form::Function(Some(&[Digit::Number(2)]))),
+                Row::External(
+                    b"f",
+                    Form::Function(Some(&[Digit::Value(0), Digit::Call(1)])),
+                ),
+            ],
+        },
+        Unit {
+            locals: Locals {
+                sum: b"n",
+                digit: b"g",
+            },
+            rows: &[
+                Row::External(b"f", Form::Function(None)),
+                Row::External(
+                    b"main",
+                    Form::Function(Some(&[Digit::Number(2), Digit::Call(0)])),
+                ),
+            ],
+        },
+    ],
+    status: Some(32),
+};
+
+const ALL: [Linked; 7] = [
+    EXTERNAL,
+    INTERNAL,
+    DECLARED,
+    DEFINED,
+    INTERNAL_MAIN,
+    UNDEFINED,
+    LOCALS,
+];
+
 #[test]
-fn locals_are_no_globals_of_another_unit(rt: HostRuntime) -> Result<(), Fail> {
-    let alloc = rt.alloc();
-    let mut names = NamePool::new(alloc);
-    let mut units = Vec::new(alloc);
-    let defining = [
-        Row::External(b"n", Form::Object(Some(1))),
-        Row::External(b"g", Form::Function(Some(&[Digit::Number(2)]))),
-        Row::External(
-            b"f",
-            Form::Function(Some(&[Digit::Value(0), Digit::Call(1)])),
-        ),
-    ];
-    units.push(unit(alloc, &mut names, own_locals(), &defining)?)?;
-    let calling = [
-        Row::External(b"f", Form::Function(None)),
-        Row::External(
-            b"main",
-            Form::Function(Some(&[Digit::Number(2), Digit::Call(0)])),
-        ),
-    ];
-    let locals = Locals {
-        sum: b"n",
-        digit: b"g",
-    };
-    units.push(unit(alloc, &mut names, locals, &calling)?)?;
-    assert_eq!(rt; run_units(alloc, &units, &names)?, Some(32));
-    Ok(())
+fn linked_units_run(rt: HostRuntime) {
+    for linked in &ALL {
+        let status = run(rt.alloc(), linked.units);
+        equal(&rt, &linked.name, &status, &Ok(linked.status));
+    }
 }

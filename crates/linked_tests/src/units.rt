@@ -8,7 +8,7 @@ use std::alloc::Global;
 use type_graph::{Node, TypeGraph, TypeList};
 
 /// A step of a function that makes a number of digits.
-#[derive(Clone, Copy, Debug)]
+#[derive(Clone, Copy)]
 pub(crate) enum Digit {
     /// The digit itself.
     Number(u64),
@@ -21,31 +21,37 @@ pub(crate) enum Digit {
 }
 
 /// What a global is.
-#[derive(Clone, Copy, Debug)]
-pub(crate) enum Form<'a> {
+#[derive(Clone, Copy)]
+pub(crate) enum Form {
     /// `int name ;` or, where it is declared alone, `extern int name ;`
     Object(Option<i128>),
     /// `int name ( void )`, which gives the number with these digits.
-    Function(Option<&'a [Digit]>),
+    Function(Option<&'static [Digit]>),
 }
 
 /// A global of a unit, by its linkage.
-#[derive(Clone, Copy, Debug)]
-pub(crate) enum Row<'a> {
-    External(&'a [u8], Form<'a>),
-    Internal(&'a [u8], Form<'a>),
+#[derive(Clone, Copy)]
+pub(crate) enum Row {
+    External(&'static [u8], Form),
+    Internal(&'static [u8], Form),
 }
 
 /// The names of the two locals that each function of a unit has.
-#[derive(Clone, Copy, Debug)]
-pub(crate) struct Locals<'a> {
-    pub(crate) sum: &'a [u8],
-    pub(crate) digit: &'a [u8],
+pub(crate) struct Locals {
+    pub(crate) sum: &'static [u8],
+    pub(crate) digit: &'static [u8],
 }
 
-/// The numbers of the types `int` and `int ( void )`, and of the names of the two locals.
-#[derive(Clone, Copy, Debug)]
+/// A unit, by its globals.
+pub(crate) struct Unit {
+    pub(crate) locals: Locals,
+    pub(crate) rows: &'static [Row],
+}
+
+/// The numbers of the types `int` and `int ( void )`, and of the names of the two locals, and where what is made comes from.
+#[derive(Clone, Copy)]
 struct Numbers {
+    alloc: Global,
     int: TypeId,
     function: TypeId,
     sum: NameId,
@@ -71,19 +77,32 @@ fn number(n: u64) -> Exp {
     Exp::Const(IntKind::Int, n)
 }
 
-fn binary(alloc: Global, op: BinOp, a: Exp, b: Exp) -> Result<Exp, Memory> {
-    Ok(Exp::Bin(op, Box::new(alloc, a)?, Box::new(alloc, b)?))
+fn boxed(alloc: Global, e: Exp) -> Result<Box<Exp>, Memory> {
+    Ok(Box::new(alloc, e)?)
 }
 
-fn set(alloc: Global, host: Host, e: Exp) -> Stmt {
-    Stmt::Instr(Instr::Set(place(alloc, host), e))
+fn set(alloc: Global, host: Host, e: Box<Exp>) -> Stmt {
+    Stmt::Instr(Instr::Set(place(alloc, host), Box::into_inner(e)))
 }
 
-/// `sum = sum * 10 + e`
-fn push_digit(alloc: Global, e: Exp) -> Result<Stmt, Memory> {
-    let tens = binary(alloc, BinOp::Mul, value(alloc, Host::Var(SUM)), number(10))?;
-    let sum = binary(alloc, BinOp::Add, tens, e)?;
-    Ok(set(alloc, Host::Var(SUM), sum))
+fn add(stmts: &mut Vec<Stmt>, s: Stmt) -> Result<(), Memory> {
+    stmts.push(s)?;
+    Ok(())
+}
+
+/// `sum * 10`
+fn tens(alloc: Global) -> Result<Box<Exp>, Memory> {
+    let sum = boxed(alloc, value(alloc, Host::Var(SUM)))?;
+    let ten = boxed(alloc, number(10))?;
+    boxed(alloc, Exp::Bin(BinOp::Mul, sum, ten))
+}
+
+/// Adds `sum = sum * 10 + e`.
+fn add_digit(stmts: &mut Vec<Stmt>, alloc: Global, e: Exp) -> Result<(), Memory> {
+    let e = boxed(alloc, e)?;
+    let tens = tens(alloc)?;
+    let sum = boxed(alloc, Exp::Bin(BinOp::Add, tens, e))?;
+    add(stmts, set(alloc, Host::Var(SUM), sum))
 }
 
 /// `digit = f ( )`
@@ -92,47 +111,54 @@ fn call(alloc: Global, f: u32) -> Stmt {
     Stmt::Instr(Instr::Call(Some(to), Callee::Direct(EntityId(f)), Vec::new(alloc)))
 }
 
-fn push_step(alloc: Global, d: Digit, stmts: &mut Vec<Stmt>) -> Result<(), Memory> {
+/// Adds a call, and its result as a digit.
+fn add_call(stmts: &mut Vec<Stmt>, alloc: Global, f: u32) -> Result<(), Memory> {
+    add(stmts, call(alloc, f))?;
+    add_digit(stmts, alloc, value(alloc, Host::Var(DIGIT)))
+}
+
+/// Adds `host = n`.
+fn add_set(stmts: &mut Vec<Stmt>, alloc: Global, host: Host, n: u64) -> Result<(), Memory> {
+    let e = boxed(alloc, number(n))?;
+    add(stmts, set(alloc, host, e))
+}
+
+fn add_step(stmts: &mut Vec<Stmt>, alloc: Global, d: Digit) -> Result<(), Memory> {
     match d {
-        Digit::Number(n) => stmts.push(push_digit(alloc, number(n))?)?,
-        Digit::Value(x) => {
-            let e = value(alloc, Host::Global(EntityId(x)));
-            stmts.push(push_digit(alloc, e)?)?;
-        }
-        Digit::Call(f) => {
-            stmts.push(call(alloc, f))?;
-            stmts.push(push_digit(alloc, value(alloc, Host::Var(DIGIT)))?)?;
-        }
-        Digit::Set(x, n) => stmts.push(set(alloc, Host::Global(EntityId(x)), number(n)))?,
+        Digit::Number(n) => add_digit(stmts, alloc, number(n)),
+        Digit::Value(x) => add_digit(stmts, alloc, value(alloc, Host::Global(EntityId(x)))),
+        Digit::Call(f) => add_call(stmts, alloc, f),
+        Digit::Set(x, n) => add_set(stmts, alloc, Host::Global(EntityId(x)), n),
     }
-    Ok(())
 }
 
 fn statements(alloc: Global, digits: &[Digit]) -> Result<Vec<Stmt>, Memory> {
     let mut stmts = Vec::new(alloc);
-    stmts.push(set(alloc, Host::Var(SUM), number(0)))?;
+    add_set(&mut stmts, alloc, Host::Var(SUM), 0)?;
     for d in digits {
-        push_step(alloc, *d, &mut stmts)?;
+        add_step(&mut stmts, alloc, *d)?;
     }
-    stmts.push(Stmt::Return(Some(value(alloc, Host::Var(SUM)))))?;
+    add(&mut stmts, Stmt::Return(Some(value(alloc, Host::Var(SUM)))))?;
     Ok(stmts)
 }
 
-fn body(alloc: Global, n: Numbers, digits: &[Digit]) -> Result<Body, Memory> {
-    let mut locals = Vec::new(alloc);
-    locals.push(Local {
-        name: n.sum,
-        ty: n.int,
-    })?;
-    locals.push(Local {
-        name: n.digit,
-        ty: n.int,
-    })?;
+/// The two locals.
+fn two_locals(n: Numbers) -> Result<Vec<Local>, Memory> {
+    let mut locals = Vec::new(n.alloc);
+    for name in [n.sum, n.digit] {
+        locals.push(Local { name, ty: n.int })?;
+    }
+    Ok(locals)
+}
+
+fn body_of(n: Numbers, digits: &[Digit]) -> Result<Body, Memory> {
+    let locals = two_locals(n)?;
+    let stmts = statements(n.alloc, digits)?;
     Ok(Body {
-        params: Vec::new(alloc),
+        params: Vec::new(n.alloc),
         locals,
-        labels: Vec::new(alloc),
-        stmts: statements(alloc, digits)?,
+        labels: Vec::new(n.alloc),
+        stmts,
     })
 }
 
@@ -145,11 +171,14 @@ fn image(alloc: Global, v: i128) -> Result<GlobalDef, Memory> {
     Ok(GlobalDef::Image(items))
 }
 
-fn definition(alloc: Global, n: Numbers, form: Form) -> Result<GlobalDef, Memory> {
+fn definition(n: Numbers, form: Form) -> Result<GlobalDef, Memory> {
     match form {
         Form::Object(None) | Form::Function(None) => Ok(GlobalDef::Declared),
-        Form::Object(Some(v)) => image(alloc, v),
-        Form::Function(Some(digits)) => Ok(GlobalDef::Body(body(alloc, n, digits)?)),
+        Form::Object(Some(v)) => image(n.alloc, v),
+        Form::Function(Some(digits)) => {
+            let body = body_of(n, digits)?;
+            Ok(GlobalDef::Body(body))
+        }
     }
 }
 
@@ -160,17 +189,25 @@ fn type_of(n: Numbers, form: Form) -> TypeId {
     }
 }
 
-fn global(alloc: Global, names: &mut NamePool, n: Numbers, row: Row) -> Result<GlobalDecl, Memory> {
+fn add_global(
+    globals: &mut Vec<GlobalDecl>,
+    names: &mut NamePool,
+    n: Numbers,
+    row: Row,
+) -> Result<(), Memory> {
     let (name, form, internal) = match row {
         Row::External(name, form) => (name, form, false),
         Row::Internal(name, form) => (name, form, true),
     };
-    Ok(GlobalDecl {
-        name: names.intern(name)?,
+    let name = names.intern(name)?;
+    let def = definition(n, form)?;
+    globals.push(GlobalDecl {
+        name,
         ty: type_of(n, form),
         internal,
-        def: definition(alloc, n, form)?,
-    })
+        def,
+    })?;
+    Ok(())
 }
 
 /// Adds `int ( void )`.
@@ -186,25 +223,50 @@ fn add_function(g: &mut TypeGraph, int: TypeId) -> Result<TypeId, Memory>
     })
 }
 
-/// The unit with these globals, whose functions have locals of these names.
-pub(crate) fn unit(
-    alloc: Global,
-    names: &mut NamePool,
-    locals: Locals,
-    rows: &[Row],
-) -> Result<CilUnit, Memory> {
-    let mut graph = TypeGraph::new(alloc);
+/// Adds the types, and the names of the locals.
+fn numbers_of(graph: &mut TypeGraph, names: &mut NamePool, unit: &Unit) -> Result<Numbers, Memory> {
     let int = graph.add_node(Node::Int(IntKind::Int))?;
-    let function = add_function(&mut graph, int)?;
-    let numbers = Numbers {
+    let function = add_function(graph, int)?;
+    let sum = names.intern(unit.locals.sum)?;
+    let digit = names.intern(unit.locals.digit)?;
+    Ok(Numbers {
+        alloc: graph.alloc(),
         int,
         function,
-        sum: names.intern(locals.sum)?,
-        digit: names.intern(locals.digit)?,
-    };
-    let mut globals = Vec::new(alloc);
+        sum,
+        digit,
+    })
+}
+
+fn add_globals(
+    globals: &mut Vec<GlobalDecl>,
+    names: &mut NamePool,
+    n: Numbers,
+    rows: &[Row],
+) -> Result<(), Memory> {
     for row in rows {
-        globals.push(global(alloc, names, numbers, *row)?)?;
+        add_global(globals, names, n, *row)?;
     }
-    Ok(CilUnit { graph, globals })
+    Ok(())
+}
+
+fn fill(made: &mut CilUnit, names: &mut NamePool, unit: &Unit) -> Result<(), Memory> {
+    let n = numbers_of(&mut made.graph, names, unit)?;
+    add_globals(&mut made.globals, names, n, unit.rows)
+}
+
+/// Adds a unit.
+pub(crate) fn add_unit(
+    units: &mut Vec<CilUnit>,
+    alloc: Global,
+    names: &mut NamePool,
+    unit: &Unit,
+) -> Result<(), Memory> {
+    let mut made = CilUnit {
+        graph: TypeGraph::new(alloc),
+        globals: Vec::new(alloc),
+    };
+    fill(&mut made, names, unit)?;
+    units.push(made)?;
+    Ok(())
 }

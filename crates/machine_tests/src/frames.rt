@@ -2,10 +2,11 @@ ghost use Rattle.std.specs.Prelude.{◌<◌, IfOk, length};
 ghost use Rattle.cil_code.specs.Leading.{LeadOn};
 
 use crate::equal::are_equal;
+use crate::trees::add_step;
 use byte_mem::{Byte, Cells, ObjName, Pointer, Scalar, Store, Value};
 use cil_base::{EntityId, IntKind, LocalId, Memory};
 use cil_code::{Call, Datum, Kind, Operand, Receiver, Step};
-use cil_frames::{Argument, Automatic, Stop, enter, evaluate, keep, leave, run_course};
+use cil_frames::{Argument, Automatic, Evaluated, Stop, enter, evaluate, keep, leave, run_course};
 use cil_machine::{Spot, Term};
 use std::alloc::{AllocError, Global};
 use std::process::Abort;
@@ -28,11 +29,11 @@ fn straight(alloc: Global) -> Result<Vec<Step>, AllocError>
 {
     let mut code = Vec::new(alloc);
     let seven = Operand::Single(INT, Term::Number(7));
-    code.push(Step::Set(Spot::Local(LocalId(0)), seven))?;
-    code.push(Step::Forward(3))?;
-    code.push(Step::Stuck)?;
+    add_step(&mut code, Step::Set(Spot::Local(LocalId(0)), seven))?;
+    add_step(&mut code, Step::Forward(3))?;
+    add_step(&mut code, Step::Stuck)?;
     let value = Term::Load(Spot::Local(LocalId(0)));
-    code.push(Step::Leave(Some(Operand::Single(INT, value))))?;
+    add_step(&mut code, Step::Leave(Some(Operand::Single(INT, value))))?;
     Ok(code)
 }
 
@@ -78,36 +79,60 @@ fn a_course_goes_to_the_end(rt: HostRuntime) -> Result<(), Fail> {
     Ok(())
 }
 
+// `while (1) { }`
+fn looped(alloc: Global) -> Result<Vec<Step>, AllocError>
+    ensures leads { IfOk result (λ code. LeadOn code.items) }
+    ensures there { IfOk result (λ code. 0 < length code.items) }
+{
+    let mut code = Vec::new(alloc);
+    add_step(&mut code, Step::Back(0))?;
+    Ok(code)
+}
+
 #[test]
 fn a_loop_spends_its_units(rt: HostRuntime) -> Result<(), Fail> {
-    let mut code = Vec::new(rt.alloc());
-    code.push(Step::Back(0))?;
+    let code = looped(rt.alloc())?;
     let found = course(rt.alloc(), &code);
     are_equal(&rt, &[(found, Ok(("running", None, 0)))]);
     Ok(())
 }
 
+// `if ( l0 ) { } return;`
+fn tested(alloc: Global) -> Result<Vec<Step>, AllocError>
+    ensures leads { IfOk result (λ code. LeadOn code.items) }
+    ensures there { IfOk result (λ code. 0 < length code.items) }
+{
+    let mut code = Vec::new(alloc);
+    let value = Term::Load(Spot::Local(LocalId(0)));
+    add_step(&mut code, Step::Test(INT, value, 1))?;
+    add_step(&mut code, Step::Leave(None))?;
+    Ok(code)
+}
+
 #[test]
 fn what_is_unknown_has_no_test(rt: HostRuntime) -> Result<(), Fail> {
-    let mut code = Vec::new(rt.alloc());
-    let value = Term::Load(Spot::Local(LocalId(0)));
-    code.push(Step::Test(INT, value, 1))?;
-    code.push(Step::Leave(None))?;
+    let code = tested(rt.alloc())?;
     let found = course(rt.alloc(), &code);
     are_equal(&rt, &[(found, Ok(("undefined", None, 3)))]);
     Ok(())
 }
 
+// Adds a constant.
+fn add_number(arguments: &mut Vec<Operand>, n: u64) -> Result<(), AllocError> {
+    arguments.push(Operand::Single(INT, Term::Number(n)))?;
+    Ok(())
+}
+
 // 1 and 2.
-fn arguments(alloc: Global) -> Result<Vec<Operand>, AllocError> {
+fn numbers(alloc: Global) -> Result<Vec<Operand>, AllocError> {
     let mut arguments = Vec::new(alloc);
-    arguments.push(Operand::Single(INT, Term::Number(1)))?;
-    arguments.push(Operand::Single(INT, Term::Number(2)))?;
+    add_number(&mut arguments, 1)?;
+    add_number(&mut arguments, 2)?;
     Ok(arguments)
 }
 
 // A call of the entity 3 with arguments, whose result goes to the local 0.
-fn call(arguments: Vec<Operand>) -> Call {
+fn call_with(arguments: Vec<Operand>) -> Call {
     Call {
         to: Some(Receiver {
             place: Spot::Local(LocalId(0)),
@@ -119,13 +144,22 @@ fn call(arguments: Vec<Operand>) -> Call {
     }
 }
 
+// That call with 1 and 2, behind a jump to it.
+fn calling(alloc: Global) -> Result<Vec<Step>, AllocError>
+    ensures leads { IfOk result (λ code. LeadOn code.items) }
+    ensures there { IfOk result (λ code. 0 < length code.items) }
+{
+    let arguments = numbers(alloc)?;
+    let mut code = Vec::new(alloc);
+    add_step(&mut code, Step::Forward(1))?;
+    add_step(&mut code, Step::Call(call_with(arguments)))?;
+    add_step(&mut code, Step::Leave(None))?;
+    Ok(code)
+}
+
 #[test]
 fn a_course_stops_at_a_call(rt: HostRuntime) -> Result<(), Fail> {
-    let arguments = arguments(rt.alloc())?;
-    let mut code = Vec::new(rt.alloc());
-    code.push(Step::Forward(1))?;
-    code.push(Step::Call(call(arguments)))?;
-    code.push(Step::Leave(None))?;
+    let code = calling(rt.alloc())?;
     let found = course(rt.alloc(), &code);
     are_equal(&rt, &[(found, Ok(("call", Some(1), 3)))]);
     Ok(())
@@ -144,33 +178,48 @@ fn number(a: Option<&Argument>) -> Option<i128> {
     }
 }
 
-// The numbers of a call's arguments in a store, and what is kept where its result is 9.
-fn passed(
-    alloc: Global,
-    mem: &mut Store,
-    k: &Call,
-) -> Result<([Option<i128>; 2], Option<()>), Fail> {
-    mem.make(ObjName::Local(5, LocalId(0)), 4, Byte::Unknown, false)?;
-    let parts = evaluate(alloc, mem, 5, k)?.ok_or("no parts")?;
+// The numbers of a call's arguments, and what is kept where its result is 9.
+fn kept(mem: &mut Store, parts: &Evaluated) -> ([Option<i128>; 2], Option<()>) {
     let first = number(parts.arguments.get(0));
     let second = number(parts.arguments.get(1));
     let kept = keep(mem, parts.to, &Datum::Single(Value::Int(9)));
-    Ok(([first, second], kept))
+    ([first, second], kept)
 }
 
-fn parts_are(rt: &impl Abort, alloc: Global, mem: &mut Store, k: &Call) -> Result<(), Fail> {
-    let (numbers, kept) = passed(alloc, mem, k)?;
-    are_equal(rt, &[(numbers, [Some(1), Some(2)])]);
-    are_equal(rt, &[(kept, Some(()))]);
+// These of the step that is a call.
+fn passed(
+    alloc: Global,
+    mem: &mut Store,
+    step: Option<&Step>,
+) -> Result<Option<([Option<i128>; 2], Option<()>)>, Memory> {
+    let Some(Step::Call(k)) = step else {
+        return Ok(None);
+    };
+    match evaluate(alloc, mem, 5, k)? {
+        Some(parts) => Ok(Some(kept(mem, &parts))),
+        None => Ok(None),
+    }
+}
+
+// The local 0 begins in the activation 5.
+fn begin(mem: &mut Store) -> Result<(), Memory> {
+    mem.make(ObjName::Local(5, LocalId(0)), 4, Byte::Unknown, false)
+}
+
+fn parts_are(rt: &impl Abort, alloc: Global, mem: &mut Store, step: Option<&Step>) {
+    let begun = begin(mem);
+    let found = passed(alloc, mem, step);
+    are_equal(rt, &[(begun, Ok(()))]);
+    are_equal(rt, &[(found, Ok(Some(([Some(1), Some(2)], Some(())))))]);
     are_equal(rt, &[(mem.load(local(0), INT), Some(Value::Int(9)))]);
-    Ok(())
 }
 
 #[test]
 fn the_parts_of_a_call_are_in_order(rt: HostRuntime) -> Result<(), Fail> {
     let alloc = rt.alloc();
-    let k = call(arguments(alloc)?);
-    parts_are(&rt, alloc, &mut Store::new(alloc), &k)
+    let code = calling(alloc)?;
+    parts_are(&rt, alloc, &mut Store::new(alloc), code.get(1));
+    Ok(())
 }
 
 // A struct of two bytes, of which the second is unknown.
@@ -181,27 +230,29 @@ fn bytes(alloc: Global) -> Result<Cells, AllocError> {
     Ok(Cells::new(bytes))
 }
 
-// An int that is -2, and the struct.
-fn int_and_struct(alloc: Global) -> Result<Vec<Argument>, AllocError> {
-    let mut arguments = Vec::new(alloc);
+// Adds an argument.
+fn add_argument(arguments: &mut Vec<Argument>, kind: Kind, datum: Datum) -> Result<(), AllocError> {
     arguments.push(Argument {
-        kind: Some(Kind::Single(INT)),
-        datum: Datum::Single(Value::Int(-2)),
-    })?;
-    let datum = Datum::Bytes(bytes(alloc)?);
-    arguments.push(Argument {
-        kind: Some(Kind::Bytes(2)),
+        kind: Some(kind),
         datum,
     })?;
+    Ok(())
+}
+
+// An int that is -2, and the struct.
+fn int_and_struct(alloc: Global) -> Result<Vec<Argument>, AllocError> {
+    let bytes = bytes(alloc)?;
+    let mut arguments = Vec::new(alloc);
+    add_argument(
+        &mut arguments,
+        Kind::Single(INT),
+        Datum::Single(Value::Int(-2)),
+    )?;
+    add_argument(&mut arguments, Kind::Bytes(2), Datum::Bytes(bytes))?;
     Ok(arguments)
 }
 
-fn objects_live(rt: &impl Abort, mem: &mut Store, arguments: &[Argument]) -> Result<(), Fail> {
-    let object = Automatic {
-        number: LocalId(2),
-        size: 4,
-    };
-    enter(mem, 5, arguments, &[object])?;
+fn objects_begin(rt: &impl Abort, mem: &Store) {
     let char = Scalar::Int(IntKind::Char);
     are_equal(
         rt,
@@ -211,7 +262,9 @@ fn objects_live(rt: &impl Abort, mem: &mut Store, arguments: &[Argument]) -> Res
             (mem.load(local(2), INT), Some(Value::Unknown)),
         ],
     );
-    leave(mem, 5, 2, &[object]);
+}
+
+fn objects_are_gone(rt: &impl Abort, mem: &Store) {
     are_equal(
         rt,
         &[
@@ -220,11 +273,23 @@ fn objects_live(rt: &impl Abort, mem: &mut Store, arguments: &[Argument]) -> Res
             (mem.live_size(local(2).name), None),
         ],
     );
-    Ok(())
+}
+
+fn objects_live(rt: &impl Abort, mem: &mut Store, arguments: &[Argument]) {
+    let object = Automatic {
+        number: LocalId(2),
+        size: 4,
+    };
+    let entered = enter(mem, 5, arguments, &[object]);
+    are_equal(rt, &[(entered, Ok(()))]);
+    objects_begin(rt, mem);
+    leave(mem, 5, 2, &[object]);
+    objects_are_gone(rt, mem);
 }
 
 #[test]
 fn an_activation_has_its_objects_and_leaves_none(rt: HostRuntime) -> Result<(), Fail> {
     let arguments = int_and_struct(rt.alloc())?;
-    objects_live(&rt, &mut Store::new(rt.alloc()), &arguments)
+    objects_live(&rt, &mut Store::new(rt.alloc()), &arguments);
+    Ok(())
 }

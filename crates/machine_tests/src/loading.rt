@@ -1,5 +1,5 @@
 use crate::equal::are_equal;
-use crate::trees::add;
+use crate::trees::{add, boxed_exp};
 use byte_mem::Store;
 use cil_base::{IntKind, LabelId, Memory, NamePool, UnOp};
 use cil_check::Scope;
@@ -93,11 +93,9 @@ fn add_case(stmts: &mut Vec<Stmt>, value: i128) -> Result<(), AllocError> {
 // `case 4: return; case -2147483648: return; case 4: return; case 2147483647: return; case -1: return; default: return;`
 fn cases(alloc: Global) -> Result<Vec<Stmt>, AllocError> {
     let mut cases = Vec::new(alloc);
-    add_case(&mut cases, 4)?;
-    add_case(&mut cases, -2147483648)?;
-    add_case(&mut cases, 4)?;
-    add_case(&mut cases, 2147483647)?;
-    add_case(&mut cases, -1)?;
+    for value in [4, -2147483648, 4, 2147483647, -1] {
+        add_case(&mut cases, value)?;
+    }
     add(&mut cases, Stmt::Default)?;
     add(&mut cases, Stmt::Return(None))?;
     Ok(cases)
@@ -119,25 +117,32 @@ fn first_place(mem: &mut Store, code: &[Step]) -> Result<Option<usize>, Memory> 
     }
 }
 
-// The place that a switch over these cases leads to.
-fn chosen(alloc: Global, e: Exp, cases: Vec<Stmt>) -> Result<Option<usize>, Memory> {
+// A switch over these cases.
+fn switch(alloc: Global, e: Box<Exp>) -> Result<Vec<Stmt>, AllocError> {
+    let cases = cases(alloc)?;
     let mut stmts = Vec::new(alloc);
-    add(&mut stmts, Stmt::Switch(e, cases))?;
+    add(&mut stmts, Stmt::Switch(Box::into_inner(e), cases))?;
+    Ok(stmts)
+}
+
+// The place that it leads to.
+fn chosen(alloc: Global, e: Box<Exp>) -> Result<Option<usize>, Memory> {
+    let stmts = switch(alloc, e)?;
     let code = loaded(alloc, stmts)?;
     first_place(&mut Store::new(alloc), &code)
 }
 
 // The place that the switch of an int that is not negative leads to.
 fn of_number(alloc: Global, n: u64) -> Result<Option<usize>, Memory> {
-    let cases = cases(alloc)?;
-    chosen(alloc, Exp::Const(IntKind::Int, n), cases)
+    let e = boxed_exp(alloc, Exp::Const(IntKind::Int, n))?;
+    chosen(alloc, e)
 }
 
 // That of `~n`, which is `-n - 1` (C11 6.5.3.3p4).
 fn of_complement(alloc: Global, n: u64) -> Result<Option<usize>, Memory> {
-    let cases = cases(alloc)?;
-    let n = Box::new(alloc, Exp::Const(IntKind::Int, n))?;
-    chosen(alloc, Exp::Un(UnOp::Compl, n), cases)
+    let n = boxed_exp(alloc, Exp::Const(IntKind::Int, n))?;
+    let e = boxed_exp(alloc, Exp::Un(UnOp::Compl, n))?;
+    chosen(alloc, e)
 }
 
 #[test]

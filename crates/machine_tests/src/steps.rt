@@ -1,9 +1,10 @@
 use crate::equal::are_equal;
+use crate::trees::add_step;
 use byte_mem::{Byte, ObjName, Scalar, Store, Value};
 use cil_base::{IntKind, LocalId, Memory};
 use cil_code::{Call, Cases, Datum, Onward, Operand, Step, take};
 use cil_machine::{Spot, Term, term_value};
-use std::alloc::Global;
+use std::alloc::{AllocError, Global};
 use std::process::Abort;
 use std::test::Fail;
 
@@ -48,6 +49,22 @@ fn taken(mem: &mut Store, act: u64, step: &Step) -> Result<Done, Memory> {
     })
 }
 
+/// What a step of a list does so.
+fn taken_of(mem: &mut Store, act: u64, code: &[Step], n: usize) -> Result<Done, Memory> {
+    match code.get(n) {
+        Some(step) => taken(mem, act, step),
+        None => Err(Memory),
+    }
+}
+
+/// What each step of a list does in activation 3.
+fn are_taken(rt: &impl Abort, mem: &mut Store, code: &[Step], wanted: &[Done]) {
+    are_equal(rt, &[(code.len(), wanted.len())]);
+    for (n, done) in wanted.iter().enumerate() {
+        are_equal(rt, &[((n, taken_of(mem, 3, code, n)), (n, Ok(*done)))]);
+    }
+}
+
 /// The local 0, an int.
 fn local() -> Spot {
     Spot::Local(LocalId(0))
@@ -69,11 +86,20 @@ fn store(alloc: Global) -> Result<Store, Memory> {
     Ok(mem)
 }
 
-fn are_assigned(rt: &impl Abort, mem: &mut Store, set: &Step, zero: &Step) {
-    let first = taken(mem, 3, set);
+/// 7 is stored there, and zero.
+fn assignments(alloc: Global) -> Result<Vec<Step>, AllocError> {
+    let mut code = Vec::new(alloc);
+    let seven = Operand::Single(INT, Term::Number(7));
+    add_step(&mut code, Step::Set(local(), seven))?;
+    add_step(&mut code, Step::Zero(4, local()))?;
+    Ok(code)
+}
+
+fn are_assigned(rt: &impl Abort, mem: &mut Store, code: &[Step]) {
+    let first = taken_of(mem, 3, code, 0);
     let seven = loaded(mem);
-    let elsewhere = taken(mem, 4, set);
-    let second = taken(mem, 3, zero);
+    let elsewhere = taken_of(mem, 4, code, 0);
+    let second = taken_of(mem, 3, code, 1);
     are_equal(
         rt,
         &[
@@ -93,9 +119,9 @@ fn are_assigned(rt: &impl Abort, mem: &mut Store, set: &Step, zero: &Step) {
 
 #[test]
 fn an_assignment_leads_to_the_next_step(rt: HostRuntime) -> Result<(), Fail> {
+    let code = assignments(rt.alloc())?;
     let mut mem = store(rt.alloc())?;
-    let set = Step::Set(local(), Operand::Single(INT, Term::Number(7)));
-    are_assigned(&rt, &mut mem, &set, &Step::Zero(4, local()));
+    are_assigned(&rt, &mut mem, &code);
     Ok(())
 }
 
@@ -103,21 +129,43 @@ fn test(term: Term) -> Step {
     Step::Test(INT, term, 9)
 }
 
+/// Tests of two constants.
+fn add_tests(code: &mut Vec<Step>) -> Result<(), AllocError> {
+    add_step(code, test(Term::Number(2)))?;
+    add_step(code, test(Term::Number(0)))
+}
+
+/// Jumps onward and back, and what is undefined.
+fn add_jumps(code: &mut Vec<Step>) -> Result<(), AllocError> {
+    add_step(code, Step::Forward(8))?;
+    add_step(code, Step::Back(1))?;
+    add_step(code, Step::Stuck)
+}
+
+/// Tests of two constants and of what is unknown, and jumps.
+fn tests_and_jumps(alloc: Global) -> Result<Vec<Step>, AllocError> {
+    let mut code = Vec::new(alloc);
+    add_tests(&mut code)?;
+    add_step(&mut code, test(Term::Load(local())))?;
+    add_jumps(&mut code)?;
+    Ok(code)
+}
+
 #[test]
 fn tests_and_jumps_lead_to_their_places(rt: HostRuntime) -> Result<(), Fail> {
+    let code = tests_and_jumps(rt.alloc())?;
     let mut mem = store(rt.alloc())?;
-    are_equal(
+    are_taken(
         &rt,
+        &mut mem,
+        &code,
         &[
-            (taken(&mut mem, 3, &test(Term::Number(2))), Ok(Done::At(6))),
-            (taken(&mut mem, 3, &test(Term::Number(0))), Ok(Done::At(9))),
-            (
-                taken(&mut mem, 3, &test(Term::Load(local()))),
-                Ok(Done::Undefined),
-            ),
-            (taken(&mut mem, 3, &Step::Forward(8)), Ok(Done::At(8))),
-            (taken(&mut mem, 3, &Step::Back(1)), Ok(Done::Back(1))),
-            (taken(&mut mem, 3, &Step::Stuck), Ok(Done::Undefined)),
+            Done::At(6),
+            Done::At(9),
+            Done::Undefined,
+            Done::At(8),
+            Done::Back(1),
+            Done::Undefined,
         ],
     );
     Ok(())
@@ -130,11 +178,21 @@ fn cases(alloc: Global) -> Result<Cases, Memory> {
     Cases::new(table)
 }
 
-/// What a switch with `case 4` at 7 and the default at 8 does.
-fn chosen(alloc: Global, v: u64) -> Result<Done, Memory> {
+/// A switch with `case 4` at 7 and the default at 8.
+fn switch(alloc: Global, v: u64) -> Result<Vec<Step>, Memory> {
     let cases = cases(alloc)?;
-    let step = Step::Choose(IntKind::Int, Term::Number(v), cases, 8);
-    taken(&mut Store::new(alloc), 3, &step)
+    let mut code = Vec::new(alloc);
+    add_step(
+        &mut code,
+        Step::Choose(IntKind::Int, Term::Number(v), cases, 8),
+    )?;
+    Ok(code)
+}
+
+/// What it does.
+fn chosen(alloc: Global, v: u64) -> Result<Done, Memory> {
+    let code = switch(alloc, v)?;
+    taken_of(&mut Store::new(alloc), 3, &code, 0)
 }
 
 #[test]
@@ -148,23 +206,35 @@ fn a_switch_leads_to_the_case_with_the_value(rt: HostRuntime) {
     );
 }
 
-#[test]
-fn a_return_gives_its_value_and_a_call_is_none_of_its_own(rt: HostRuntime) -> Result<(), Fail> {
-    let mut mem = store(rt.alloc())?;
-    let leave = Step::Leave(Some(Operand::Single(INT, Term::Number(5))));
-    let call = Step::Call(Call {
+/// A call of what is no function.
+fn call(alloc: Global) -> Call {
+    Call {
         to: None,
         callee: Term::Number(0),
         result: None,
-        arguments: Vec::new(rt.alloc()),
-    });
-    are_equal(
+        arguments: Vec::new(alloc),
+    }
+}
+
+/// A return of a value, one of none, and a call.
+fn returns_and_call(alloc: Global) -> Result<Vec<Step>, AllocError> {
+    let mut code = Vec::new(alloc);
+    let five = Operand::Single(INT, Term::Number(5));
+    add_step(&mut code, Step::Leave(Some(five)))?;
+    add_step(&mut code, Step::Leave(None))?;
+    add_step(&mut code, Step::Call(call(alloc)))?;
+    Ok(code)
+}
+
+#[test]
+fn a_return_gives_its_value_and_a_call_is_none_of_its_own(rt: HostRuntime) -> Result<(), Fail> {
+    let code = returns_and_call(rt.alloc())?;
+    let mut mem = store(rt.alloc())?;
+    are_taken(
         &rt,
-        &[
-            (taken(&mut mem, 3, &leave), Ok(Done::Returns(Value::Int(5)))),
-            (taken(&mut mem, 3, &Step::Leave(None)), Ok(Done::Leaves)),
-            (taken(&mut mem, 3, &call), Ok(Done::Call)),
-        ],
+        &mut mem,
+        &code,
+        &[Done::Returns(Value::Int(5)), Done::Leaves, Done::Call],
     );
     Ok(())
 }

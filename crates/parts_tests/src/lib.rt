@@ -8,6 +8,8 @@ mod base;
 #[cfg(test)]
 mod devices;
 #[cfg(test)]
+mod equal;
+#[cfg(test)]
 mod literals;
 #[cfg(test)]
 mod samples;

@@ -1,7 +1,7 @@
 //! Which names are typedef names, scope by scope.
 
+use crate::equal::equal;
 use cil_base::{Memory, NameId};
-use std::test::Fail;
 use typedef_scopes::Scopes;
 
 const T: NameId = NameId(3);
@@ -14,25 +14,25 @@ fn told(scopes: &Scopes) -> (bool, bool) {
 }
 
 #[test]
-fn the_innermost_last_declaration_decides(rt: HostRuntime) -> Result<(), Fail> {
+fn the_innermost_last_declaration_decides(rt: HostRuntime) -> Result<(), Memory> {
     let mut scopes = Scopes::new(rt.alloc());
-    assert_eq!(rt; told(&scopes), (false, false));
+    equal(&rt, &"told", &told(&scopes), &(false, false));
     scopes.declare(T, true)?;
-    assert_eq!(rt; told(&scopes), (true, false));
+    equal(&rt, &"told", &told(&scopes), &(true, false));
     scopes.declare(T, false)?;
     scopes.declare(T, true)?;
     scopes.enter()?;
-    assert_eq!(rt; told(&scopes), (true, false));
+    equal(&rt, &"told", &told(&scopes), &(true, false));
     scopes.declare(T, false)?;
     scopes.declare(X, true)?;
-    assert_eq!(rt; told(&scopes), (false, true));
+    equal(&rt, &"told", &told(&scopes), &(false, true));
     scopes.leave();
-    assert_eq!(rt; told(&scopes), (true, false));
+    equal(&rt, &"told", &told(&scopes), &(true, false));
     Ok(())
 }
 
 #[test]
-fn a_scope_in_a_scope_is_left_alone(rt: HostRuntime) -> Result<(), Fail> {
+fn a_scope_in_a_scope_is_left_alone(rt: HostRuntime) -> Result<(), Memory> {
     let mut scopes = Scopes::new(rt.alloc());
     scopes.declare(T, true)?;
     scopes.enter()?;
@@ -40,8 +40,8 @@ fn a_scope_in_a_scope_is_left_alone(rt: HostRuntime) -> Result<(), Fail> {
     scopes.enter()?;
     scopes.declare(T, true)?;
     scopes.declare(X, true)?;
-    assert_eq!(rt; told(&scopes), (true, true));
+    equal(&rt, &"told", &told(&scopes), &(true, true));
     scopes.leave();
-    assert_eq!(rt; told(&scopes), (false, false));
+    equal(&rt, &"told", &told(&scopes), &(false, false));
     Ok(())
 }

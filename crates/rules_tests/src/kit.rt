@@ -1,5 +1,5 @@
 use cast_rules::Operand;
-use cil_base::{AggId, EntityId, IntKind, NameId, RuleStop, TypeId};
+use cil_base::{Abi, AggId, EntityId, IntKind, NameId, RuleStop, TypeId};
 use layout_lp64::LayoutStop;
 use std::alloc::Global;
 use type_graph::{AggKind, Member, Members, QualType, Quals, unqualified};
@@ -12,6 +12,11 @@ pub(crate) fn made<T>(r: Result<T, LayoutStop>) -> Result<T, RuleStop> {
         Ok(x) => Ok(x),
         Err(_) => Err(RuleStop::Memory),
     }
+}
+
+/// The types of one unit, in a box.
+pub(crate) fn no_types(alloc: Global) -> Result<Box<Types>, RuleStop> {
+    Ok(Box::new(alloc, Types::new(alloc, Abi::Lp64))?)
 }
 
 /// Operands of which rows are made.

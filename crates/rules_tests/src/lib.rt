@@ -5,6 +5,8 @@
 #![tactic(auto)]
 
 #[cfg(test)]
+mod equal;
+#[cfg(test)]
 mod forms;
 #[cfg(test)]
 mod kit;

@@ -1,10 +1,12 @@
+use crate::equal::equal;
 use crate::forms::{Single, Want, answer, call_single, wanted};
-use crate::kit::Kit;
 use crate::kit::Sample::{self, *};
+use crate::kit::{Kit, no_types};
 use cast_rules::{Operand, address, indirect};
-use cil_base::{Abi, Code, RuleStop, UnOp};
+use cil_base::{Code, RuleStop, UnOp};
 use std::alloc::Global;
 use std::process::Abort;
+use type_graph::QualType;
 use typed_tree::StepForm;
 use unit_types::Types;
 
@@ -184,6 +186,17 @@ const CONVERSIONS: [(Single, Sample, Want); 33] = [
     (Single::Convert(Int), Open, INCOMPLETE),
 ];
 
+/// What a row answers.
+fn answered(
+    alloc: Global,
+    row: &(Single, Sample, Want),
+    kit: &Kit,
+    t: &mut Types,
+) -> Result<QualType, RuleStop> {
+    let e = kit.operand(alloc, row.1)?;
+    answer(call_single(alloc, row.0, e, kit, t))
+}
+
 /// Each row of a table.
 fn rows_are_met(
     rt: &impl Abort,
@@ -191,49 +204,44 @@ fn rows_are_met(
     rows: &[(Single, Sample, Want)],
     kit: &Kit,
     t: &mut Types,
-) -> Result<(), RuleStop> {
-    for (form, a, want) in rows {
-        let e = kit.operand(alloc, *a)?;
-        let got = answer(call_single(alloc, *form, e, kit, t));
-        assert_eq!(rt; got, wanted(kit, *want), "of {form:?} {a:?}");
+) {
+    for row in rows {
+        let got = answered(alloc, row, kit, t);
+        equal(rt, &(row.0, row.1), &got, &wanted(kit, row.2));
     }
-    Ok(())
+}
+
+/// What `& * p` answers.
+fn undone(alloc: Global, a: Sample, kit: &Kit, t: &mut Types) -> Result<QualType, RuleStop> {
+    let p = kit.operand(alloc, a)?;
+    let e = indirect(alloc, p, t)?;
+    answer(address(alloc, Operand::plain(e), t))
 }
 
 /// `& * p` is a pointer of p's type, whatever p points to (C11 6.5.3.2p3).
-fn addresses_undo_indirections(
-    rt: &impl Abort,
-    alloc: Global,
-    kit: &Kit,
-    t: &mut Types,
-) -> Result<(), RuleStop> {
+fn addresses_undo_indirections(rt: &impl Abort, alloc: Global, kit: &Kit, t: &mut Types) {
     for a in [ToConstInt, ToVoid, ToOpen, ToFunction, ToRow] {
-        let e = indirect(alloc, kit.operand(alloc, a)?, t)?;
-        let got = answer(address(alloc, Operand::plain(e), t));
-        assert_eq!(rt; got, kit.ty(a), "of & * {a:?}");
+        equal(rt, &a, &undone(alloc, a, kit, t), &kit.ty(a));
     }
-    Ok(())
+}
+
+/// What `&` of a `register` object answers.
+fn of_register(alloc: Global, a: Sample, kit: &Kit, t: &mut Types) -> Result<QualType, RuleStop> {
+    let mut e = kit.operand(alloc, a)?;
+    e.register = true;
+    answer(address(alloc, e, t))
 }
 
 /// `&` of a `register` object (C11 6.5.3.2p1); what is no lvalue comes before.
-fn registers_have_no_address(
-    rt: &impl Abort,
-    alloc: Global,
-    kit: &Kit,
-    t: &mut Types,
-) -> Result<(), RuleStop> {
+fn registers_have_no_address(rt: &impl Abort, alloc: Global, kit: &Kit, t: &mut Types) {
     for (a, want) in [(Int, Code::Register), (Zero, Code::NotLvalue)] {
-        let mut e = kit.operand(alloc, a)?;
-        e.register = true;
-        let got = answer(address(alloc, e, t));
-        assert_eq!(rt; got, wanted(kit, Err(want)), "of & {a:?}");
+        let got = of_register(alloc, a, kit, t);
+        equal(rt, &a, &got, &wanted(kit, Err(want)));
     }
-    Ok(())
 }
 
 /// All tables, over the types of one unit.
-fn tables_are_met(rt: &impl Abort, alloc: Global, t: &mut Types) -> Result<(), RuleStop> {
-    let kit = Kit::new(alloc, t)?;
+fn tables_are_met(rt: &impl Abort, alloc: Global, kit: &Kit, t: &mut Types) {
     for rows in [
         UNARY.as_slice(),
         VALUES.as_slice(),
@@ -242,14 +250,16 @@ fn tables_are_met(rt: &impl Abort, alloc: Global, t: &mut Types) -> Result<(), R
         CASTS.as_slice(),
         CONVERSIONS.as_slice(),
     ] {
-        rows_are_met(rt, alloc, rows, &kit, t)?;
+        rows_are_met(rt, alloc, rows, kit, t);
     }
-    addresses_undo_indirections(rt, alloc, &kit, t)?;
-    registers_have_no_address(rt, alloc, &kit, t)
+    addresses_undo_indirections(rt, alloc, kit, t);
+    registers_have_no_address(rt, alloc, kit, t);
 }
 
 #[test]
 fn operators_have_their_operand(rt: HostRuntime) -> Result<(), RuleStop> {
-    let mut types = Types::new(rt.alloc(), Abi::Lp64);
-    tables_are_met(&rt, rt.alloc(), &mut types)
+    let mut types = no_types(rt.alloc())?;
+    let kit = Kit::new(rt.alloc(), &mut types)?;
+    tables_are_met(&rt, rt.alloc(), &kit, &mut types);
+    Ok(())
 }

@@ -51,11 +51,12 @@ fn sink(alloc: Global, outside: &Outside<'_, '_, '_>) -> Result<MemSink, Memory>
     MemSink::new(alloc, at_least_one(outside.taken), 10_000, fails)
 }
 
-/// A console at the start of a run.
-pub fn new_console(alloc: Global, outside: &Outside<'_, '_, '_>) -> Result<Console, Fail> {
+/// A console at the start of a run, in a box.
+pub fn new_console(alloc: Global, outside: &Outside<'_, '_, '_>) -> Result<Box<Console>, Fail> {
     let input = source(alloc, outside)?;
     let out = sink(alloc, outside)?;
-    Ok(Console::new(alloc, input, out)?)
+    let console = Console::new(alloc, input, out)?;
+    Ok(Box::new(alloc, console)?)
 }
 
 /// The streams and the store of a run, over a source and a sink in memory.
@@ -71,8 +72,8 @@ pub struct Console {
 impl Console {
     /// At the start of a run.
     fn new(alloc: Global, input: MemSource, out: MemSink) -> Result<Console, AllocError> {
-        let store = Store::new(alloc);
         let streams = Streams::new(alloc)?;
+        let store = Store::new(alloc);
         Ok(Console {
             store,
             streams,
@@ -137,7 +138,11 @@ impl Console {
     }
 
     /// The same, and the bytes that the sink has taken behind them.
-    fn written(&mut self, alloc: Global, script: &str) -> Result<(String, Vec<u8>), AllocError> {
+    pub fn written(
+        &mut self,
+        alloc: Global,
+        script: &str,
+    ) -> Result<(String, Vec<u8>), AllocError> {
         let answers = self.answers(alloc, script)?;
         Ok((answers, self.taken().to_vec(alloc)?))
     }
@@ -166,12 +171,12 @@ fn letter(end: HostEnd) -> char {
     }
 }
 
-/// What the steps of a script answer over a console, and the bytes that its sink has taken behind them.
-pub fn written(
+/// What the steps of a script answer over a console.
+pub fn answers_of(
     alloc: Global,
     outside: &Outside<'_, '_, '_>,
     script: &str,
-) -> Result<(String, Vec<u8>), Fail> {
+) -> Result<String, Fail> {
     let mut console = new_console(alloc, outside)?;
-    Ok(console.written(alloc, script)?)
+    Ok(console.answers(alloc, script)?)
 }
