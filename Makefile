@@ -11,9 +11,7 @@ program:
 
 # Builds the program with checks in the place of proofs, and merges and runs the example with it.
 try:
-	cd crates/cil && rt try -- merge data/a.c >../../examples/out.c
-	@cat examples/out.c
-	cd crates/cil && rt try --data out.c=../../examples/out.c -- run out.c; status=$$?; echo "its run ends with status $$status"; [ $$status -eq 5 ]
+	@scripts/try-first
 	@echo "nothing was proved: make first proves it"
 
 first: program
