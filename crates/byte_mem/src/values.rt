@@ -30,7 +30,7 @@ pub enum Value {
 }
 
 /// The kind of a scalar type (C11 6.2.5p21).
-#[derive(Clone, Copy, Debug, PartialEq, Eq)]
+#[derive(Clone, Copy, Debug)]
 pub enum Scalar {
     /// An integer type. An enumerated type is of the kind Int.
     Int(IntKind),

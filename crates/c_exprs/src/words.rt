@@ -4,7 +4,7 @@ use c_tree::{
 use cil_base::{BinOp, NameId};
 
 /// The first token of an expression (C11 6.5.1 to 6.5.4).
-#[derive(Clone, Copy, Debug, PartialEq, Eq)]
+#[derive(Clone, Copy)]
 pub enum Start {
     /// An identifier that is no typedef name.
     Name(NameId),
@@ -23,7 +23,7 @@ pub enum Start {
 }
 
 /// An operator between two operands, with nothing else: those of 6.5.5 to 6.5.14, assignments and the comma.
-#[derive(Clone, Copy, Debug, PartialEq, Eq)]
+#[derive(Clone, Copy)]
 pub enum Joint {
     Arithmetic(BinOp),
     Logical(LogicalOp),
@@ -33,7 +33,7 @@ pub enum Joint {
 }
 
 /// The first token behind an operand, where it goes on (C11 6.5.2, 6.5.5 to 6.5.17).
-#[derive(Clone, Copy, Debug, PartialEq, Eq)]
+#[derive(Clone, Copy)]
 pub enum Operator {
     /// `[`
     Index,
@@ -51,7 +51,7 @@ pub enum Operator {
 }
 
 /// The first token of a specifier (C11 6.7.1 to 6.7.4).
-#[derive(Clone, Copy, Debug, PartialEq, Eq)]
+#[derive(Clone, Copy)]
 pub enum Piece {
     Storage(StorageClass),
     Basic(BasicType),
@@ -66,7 +66,7 @@ pub enum Piece {
 }
 
 /// Where specifiers stand.
-#[derive(Clone, Copy, Debug, PartialEq, Eq)]
+#[derive(Clone, Copy)]
 pub enum SpecifierForm {
     /// In a declaration or a parameter (C11 6.7, 6.7.6).
     Declaration,
@@ -75,7 +75,7 @@ pub enum SpecifierForm {
 }
 
 /// Where a declarator stands.
-#[derive(Clone, Copy, Debug, PartialEq, Eq)]
+#[derive(Clone, Copy)]
 pub enum DeclaratorForm {
     /// In a declaration, or in a function's definition, whose own identifier list it may have (C11 6.7.6, 6.9.1).
     Definition,
@@ -88,7 +88,7 @@ pub enum DeclaratorForm {
 }
 
 /// The first token of a derivation of a declarator, behind what it derives from (C11 6.7.6).
-#[derive(Clone, Copy, Debug, PartialEq, Eq)]
+#[derive(Clone, Copy)]
 pub enum Derivation {
     /// `[`
     Array,
@@ -97,7 +97,7 @@ pub enum Derivation {
 }
 
 /// The first token of a designator (C11 6.7.9).
-#[derive(Clone, Copy, Debug, PartialEq, Eq)]
+#[derive(Clone, Copy)]
 pub enum Designation {
     /// `[`
     Index,

@@ -7,7 +7,7 @@ use crate::words::is_skipped_name;
 use cil_base::{Fault, Memory, NameId, Punctuator};
 
 /// The brackets that an attribute's arguments may hold, in pairs.
-#[derive(Clone, Copy, Debug, PartialEq, Eq)]
+#[derive(Clone, Copy)]
 pub enum Bracket {
     Paren,
     Square,
@@ -15,7 +15,7 @@ pub enum Bracket {
 }
 
 /// What a token is to an attribute (own).
-#[derive(Clone, Copy, Debug, PartialEq, Eq)]
+#[derive(Clone, Copy)]
 pub enum Part {
     Word,
     Comma,
@@ -27,7 +27,7 @@ pub enum Part {
 }
 
 /// What an attribute asks for next (own).
-#[derive(Clone, Copy, Debug, PartialEq, Eq)]
+#[derive(Clone, Copy)]
 pub enum Shape {
     /// Its first parenthesis.
     First,
@@ -46,7 +46,7 @@ pub enum Shape {
 }
 
 /// An attribute that is being read: the place of its word, what it asks for, and whether all its names so far are skipped ones.
-#[derive(Clone, Copy, Debug, PartialEq, Eq)]
+#[derive(Clone, Copy)]
 pub struct Attribute {
     pub file: NameId,
     pub line: u32,
@@ -55,7 +55,7 @@ pub struct Attribute {
 }
 
 /// What comes of an attribute with one more token.
-#[derive(Clone, Copy, Debug, PartialEq, Eq)]
+#[derive(Clone, Copy)]
 pub enum Advance {
     /// It is none.
     Wrong,

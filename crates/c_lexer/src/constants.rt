@@ -4,7 +4,7 @@ ghost use Rattle.c_lexer.specs.Constants.{behind_digits, behind_octals, behind_h
 use crate::bytes::is_octal;
 
 /// Where the characters of a character constant are counted (C11 6.4.4.4).
-#[derive(Clone, Copy, Debug, PartialEq, Eq)]
+#[derive(Clone, Copy)]
 pub enum Counting {
     /// In no escape sequence.
     Byte,

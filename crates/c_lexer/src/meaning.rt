@@ -11,7 +11,7 @@ use cil_base::{Fault, Feature, Punctuator, TokenKind, What};
 const NAME_BYTES: usize = 1024;
 
 /// What a piece that is no blank, comment or line is outside attributes.
-#[derive(Clone, Copy, Debug, PartialEq, Eq)]
+#[derive(Clone, Copy)]
 pub enum Meaning {
     /// A token other than an identifier.
     Token(TokenKind),

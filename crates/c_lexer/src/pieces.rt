@@ -2,7 +2,7 @@ use cil_base::Punctuator;
 
 /// What is written like a punctuator (C11 6.4.6): one that is read, by its first spelling or its digraph, or one that only
 /// preprocessing has, which is no token here.
-#[derive(Clone, Copy, Debug, PartialEq, Eq)]
+#[derive(Clone, Copy)]
 pub enum Sign {
     /// A punctuator by its first spelling.
     Read(Punctuator),
@@ -25,7 +25,7 @@ pub enum Sign {
 }
 
 /// The kinds of pieces into which a text is cut (C11 6.4; the cutting of what is no token is own).
-#[derive(Clone, Copy, Debug, PartialEq, Eq)]
+#[derive(Clone, Copy)]
 pub enum Kind {
     /// Blanks without a line feed.
     Blank,
@@ -50,7 +50,7 @@ pub enum Kind {
 }
 
 /// The next piece: its kind and how many bytes it has.
-#[derive(Clone, Copy, Debug, PartialEq, Eq)]
+#[derive(Clone, Copy)]
 pub struct Raw {
     pub kind: Kind,
     pub len: usize,

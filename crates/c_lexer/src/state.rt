@@ -1,7 +1,7 @@
 use crate::pieces::Sign;
 
 /// Where in an escape the bytes stand (C11 6.4.3, 6.4.4.4).
-#[derive(Clone, Copy, Debug, PartialEq, Eq)]
+#[derive(Clone, Copy)]
 pub enum Mode {
     /// In none.
     Plain,
@@ -12,14 +12,14 @@ pub enum Mode {
 }
 
 /// The quotes of a character constant and of a string literal.
-#[derive(Clone, Copy, Debug, PartialEq, Eq)]
+#[derive(Clone, Copy)]
 pub enum Quote {
     Single,
     Double,
 }
 
 /// The words that are a prefix of a literal where its quote stands directly behind them (C11 6.4.4.4, 6.4.5).
-#[derive(Clone, Copy, Debug, PartialEq, Eq)]
+#[derive(Clone, Copy)]
 pub enum Prefix {
     /// `L` or `U`, of both literals.
     Letter,
@@ -30,7 +30,7 @@ pub enum Prefix {
 }
 
 /// What is known of a piece while its bytes are read, behind the first.
-#[derive(Clone, Copy, Debug, PartialEq, Eq)]
+#[derive(Clone, Copy)]
 pub enum State {
     Blanks,
     LineEnd,

@@ -4,7 +4,7 @@ ghost use Rattle.c_lexer.specs.Words.{spelling, spelled_meaning, words_with, fou
 use cil_base::{Feature, Keyword};
 
 /// The words that mean something to the lexer, and the names of attributes.
-#[derive(Clone, Copy, Debug, PartialEq, Eq)]
+#[derive(Clone, Copy)]
 pub enum Spelled {
     Keyword(Keyword),
     /// `__restrict`
@@ -132,7 +132,7 @@ pub enum Spelled {
 }
 
 /// What a word is to the lexer.
-#[derive(Clone, Copy, Debug, PartialEq, Eq)]
+#[derive(Clone, Copy)]
 pub enum WordMeaning {
     Keyword(Keyword),
     Excluded(Feature),

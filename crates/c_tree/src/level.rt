@@ -1,5 +1,5 @@
 /// The levels of the grammar of expressions (C11 6.5.1 to 6.5.17), the tightest first.
-#[derive(Clone, Copy, Debug, PartialEq, Eq)]
+#[derive(Clone, Copy)]
 pub enum Level {
     Primary,
     Postfix,

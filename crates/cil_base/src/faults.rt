@@ -300,7 +300,7 @@ impl Fault {
 
 /// A refusal of the input: the fault and its place. A syntax fault, a duplicate definition and an
 /// incompatible declaration have a second place.
-#[derive(Clone, Copy, Debug, PartialEq, Eq)]
+#[derive(Clone, Copy, Debug)]
 pub struct Refusal {
     pub fault: Fault,
     pub at: Place,
@@ -308,7 +308,7 @@ pub struct Refusal {
 }
 
 /// Why a pass gives no result: it refuses its input, or it wants memory.
-#[derive(Clone, Copy, Debug, PartialEq, Eq)]
+#[derive(Clone, Copy, Debug)]
 pub enum Stop {
     Refused(Refusal),
     Memory,

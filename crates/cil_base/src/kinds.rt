@@ -251,7 +251,7 @@ fn common_of_promoted(a: IntKind, b: IntKind) -> IntKind
 }
 
 /// The data models (own): the sizes of the types and the kinds that there are.
-#[derive(Clone, Copy, Debug, PartialEq, Eq)]
+#[derive(Clone, Copy, PartialEq, Eq)]
 pub enum Abi {
     /// long and pointers have 8 bytes, int has 4.
     Lp64,
@@ -260,7 +260,7 @@ pub enum Abi {
 }
 
 /// What holds for all units that are linked into one program (own).
-#[derive(Clone, Copy, Debug, PartialEq, Eq)]
+#[derive(Clone, Copy)]
 pub struct Mode {
     /// Whether an object may have a tentative definition in several of them (C11 6.9.2p2, J.5.11). It does not count
     /// yet: runs are the same with it and without it.

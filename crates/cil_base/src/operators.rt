@@ -20,7 +20,7 @@ pub enum BinOp {
 }
 
 /// The unary operators of C11 6.5.3.3 that compute a value from a value.
-#[derive(Clone, Copy, Debug, PartialEq, Eq)]
+#[derive(Clone, Copy, Debug)]
 pub enum UnOp {
     Neg,
     Compl,

@@ -5,7 +5,7 @@ ghost use Rattle.cil_base.specs.Token.{keyword_spelling, punctuator_spelling, se
 use crate::numbers::NameId;
 
 /// The keywords of C11 6.4.1 that are read.
-#[derive(Clone, Copy, Debug, PartialEq, Eq)]
+#[derive(Clone, Copy, PartialEq, Eq)]
 pub enum Keyword {
     /// `auto`
     Auto,
@@ -164,7 +164,7 @@ impl Keyword {
 }
 
 /// The punctuators of C11 6.4.6 that are read. A digraph is a second spelling of its punctuator.
-#[derive(Clone, Copy, Debug, PartialEq, Eq)]
+#[derive(Clone, Copy, PartialEq, Eq)]
 pub enum Punctuator {
     /// `[`
     LeftBracket,
@@ -380,7 +380,7 @@ impl Punctuator {
 }
 
 /// The kinds of tokens (C11 6.4). The value of a constant and the bytes of a literal are in the source.
-#[derive(Clone, Copy, Debug, PartialEq, Eq)]
+#[derive(Clone, Copy, PartialEq, Eq)]
 pub enum TokenKind {
     /// An identifier (6.4.2).
     Name(NameId),
@@ -395,7 +395,7 @@ pub enum TokenKind {
 }
 
 /// A token of a unit: the bytes of the source from start up to, and not with, end.
-#[derive(Clone, Copy, Debug, PartialEq, Eq)]
+#[derive(Clone, Copy)]
 pub struct Token {
     pub kind: TokenKind,
     pub start: u32,

@@ -12,7 +12,7 @@ use layout_lp64::Layouts;
 use type_graph::{AggKind, Node, TypeGraph};
 
 /// A part of an object (C11 6.5p4): its type, and its offset in bytes.
-#[derive(Clone, Copy, Debug, PartialEq, Eq)]
+#[derive(Clone, Copy)]
 pub struct Subobject {
     pub ty: TypeId,
     pub at: u128,

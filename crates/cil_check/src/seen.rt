@@ -9,7 +9,7 @@ use cil_base::{IntKind, TypeId};
 use type_graph::{Node, QualType, Quals, TypeGraph};
 
 /// A type that an expression or a place has, as far as rules look at it. Kinds and pointers are always seen as such.
-#[derive(Clone, Copy, Debug, PartialEq, Eq)]
+#[derive(Clone, Copy)]
 pub enum Seen {
     /// An integer type.
     Int(IntKind),

@@ -21,7 +21,7 @@ use cil_tree::{Callee, Exp, Lval};
 use type_graph::Node;
 
 /// What calls compare of a type (own).
-#[derive(Clone, Copy, Debug, PartialEq, Eq)]
+#[derive(Clone, Copy)]
 pub enum Kind {
     /// No value (C11 6.2.5p19).
     Void,

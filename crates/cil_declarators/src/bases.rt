@@ -15,7 +15,7 @@ use cil_scan::Word;
 use type_graph::{Node, TypeGraph};
 
 /// A type without a declarator (C11 6.7.2).
-#[derive(Clone, Copy, Debug, PartialEq, Eq)]
+#[derive(Clone, Copy)]
 pub enum Base {
     Void,
     Int(IntKind),

@@ -21,7 +21,7 @@ use std::alloc::Global;
 use type_graph::{Node, TypeGraph, TypeList, unqualified};
 
 /// What stands before a declarator's name: a pointer's `*`, or a parenthesis.
-#[derive(Clone, Copy, Debug, PartialEq, Eq)]
+#[derive(Clone, Copy)]
 pub enum Mark {
     Points,
     Group,
@@ -59,7 +59,7 @@ pub struct Named<'a> {
 }
 
 /// What stands behind a parameter.
-#[derive(Clone, Copy, Debug, PartialEq, Eq)]
+#[derive(Clone, Copy)]
 pub enum Follows {
     End,
     Variadic,

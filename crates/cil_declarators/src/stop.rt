@@ -2,7 +2,7 @@ use cil_base::Memory;
 use std::alloc::{AllocError, AllocFailed};
 
 /// Why a part of a text is not read.
-#[derive(Clone, Copy, Debug, PartialEq, Eq)]
+#[derive(Clone, Copy)]
 pub enum Stop {
     /// It is no such part of a CIL text.
     NotCil,

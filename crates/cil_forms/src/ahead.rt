@@ -12,7 +12,7 @@ use cil_base::BinOp;
 use cil_scan::Word;
 
 /// What an expression is whose first token is a `(`, by what stands behind it.
-#[derive(Clone, Copy, Debug, PartialEq, Eq)]
+#[derive(Clone, Copy)]
 pub enum Form {
     Negated,
     Complemented,

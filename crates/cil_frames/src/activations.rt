@@ -24,7 +24,7 @@ pub struct Argument {
 }
 
 /// An object with automatic storage duration (C11 6.2.4p5): its number in its function, and its size in bytes.
-#[derive(Clone, Copy, Debug, PartialEq, Eq)]
+#[derive(Clone, Copy)]
 pub struct Automatic {
     /// Its number in its function.
     pub number: LocalId,

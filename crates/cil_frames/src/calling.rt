@@ -14,7 +14,7 @@ use cil_machine::{bytes_at, spot_place, term_value};
 use std::alloc::Global;
 
 /// Where the result of a call goes: a place, and the kind of its type.
-#[derive(Clone, Copy, Debug, PartialEq, Eq)]
+#[derive(Clone, Copy)]
 pub struct Destination {
     /// The address of the place.
     pub place: Value,

@@ -31,7 +31,7 @@ pub enum Entity {
 
 /// An activation that waits for the result of a call: its function and number, the place behind the call, and where
 /// the result goes.
-#[derive(Clone, Copy, Debug, PartialEq, Eq)]
+#[derive(Clone, Copy)]
 pub struct Frame {
     /// The number of its function's entity.
     pub function: usize,

@@ -4,7 +4,7 @@ ghost use Rattle.cil_lines.specs.Messages.{code_of};
 use cil_base::Refusal;
 
 /// How a command of the program ended.
-#[derive(Clone, Copy, Debug, PartialEq, Eq)]
+#[derive(Clone, Copy)]
 pub enum Status {
     /// The command wrote its whole answer.
     Done,

@@ -17,7 +17,7 @@ use std::alloc::Global;
 use type_graph::{Node, TypeGraph};
 
 /// What an entity of a run is.
-#[derive(Clone, Copy, Debug, PartialEq, Eq)]
+#[derive(Clone, Copy)]
 pub enum Definer {
     /// Neither a program nor the host defines it.
     Nothing,

@@ -17,7 +17,7 @@ use cil_tree::{CilUnit, GlobalDecl, GlobalDef};
 use type_graph::{Node, TypeGraph};
 
 /// The function that a run begins with: its entity, and whether it takes the words (C11 5.1.2.2.1p1).
-#[derive(Clone, Copy, Debug, PartialEq, Eq)]
+#[derive(Clone, Copy)]
 pub struct Main {
     pub entity: u32,
     pub words: bool,

@@ -9,7 +9,7 @@ use cil_base::{BinOp, IntKind};
 use cil_scan::Word;
 
 /// A value of a kind.
-#[derive(Clone, Copy, Debug, PartialEq, Eq)]
+#[derive(Clone, Copy)]
 pub struct Numbered {
     pub kind: IntKind,
     pub value: i128,

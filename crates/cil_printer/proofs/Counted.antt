@@ -1,5 +1,6 @@
 -- Device: the lengths of types' declarations and of the whole text.
-use Rattle.std.proofs.Common.{◌≡◌, ℕ, zero, suc, ◌<◌, ◌≤◌, true, false, List, [], ◌∷◌, ◌++◌, Some, length, slice_get, sym, ap, ◌∙◌, subst, arith}
+use Rattle.std.proofs.Common.{◌≡◌, ℕ, zero, suc, ◌-◌, ◌^◌, ◌<◌, ◌≤◌, true, false, List, [], ◌∷◌, ◌++◌, Some, length, take, slice_get, sym, ap, ◌∙◌, subst, arith}
+use Rattle.std.proofs.lemmas.List.{take_all}
 use Rattle.type_graph.specs.Arena.{Graph}
 use Rattle.type_graph.specs.Shapes.{shape}
 use Rattle.layout_lp64.specs.Tables.{IsLeastTooBig}
@@ -10,18 +11,14 @@ use Rattle.cil_tree.specs.WellFormedTypes.{TypesAreSmall}
 use Rattle.cil_tree.specs.Programs.{IsProgram, IsTextOf, text_limit}
 use Rattle.cil_printer.specs.declared.sides.Sides.{Sides}
 use Rattle.cil_printer.specs.Spaced.{spaced}
-use Rattle.cil_printer.specs.Output.{Output, Counted, Written, put, puts, counts, capped}
+use Rattle.cil_printer.specs.Output.{Output, Counted, Written, put, puts, counts, capped, text_of}
 use Rattle.cil_printer.specs.Sides.{before, after, AreSides, IsSides}
 use Rattle.cil_printer.specs.Plain.{prints}
 use Rattle.cil_printer.proofs.Puts.{put_counted, put_written}
 
 number_of : Output → ℕ
 number_of (Counted n) = n
-number_of (Written text) = 0
-
-text_of : Output → List ℕ
-text_of (Counted n) = []
-text_of (Written text) = text
+number_of (Written room text) = 0
 
 bytes_counted : (o : Output) (bytes : List ℕ) → o ≡ put (Counted 0) bytes → o ≡ Counted (capped (length bytes))
 bytes_counted o bytes e = e ∙ put_counted 0 bytes (omega arith) ∙ ap (λ k. Counted (capped k)) (omega arith)
@@ -45,16 +42,21 @@ pub text_length : (o a : Output) (n : ℕ) (p : Program) → a ≡ Counted 0 →
 unfolding number_of
 text_length o a n p k e h = ap number_of (sym h ∙ text_put o a p k e)
 
-bytes_written : (o : Output) (bytes : List ℕ) → o ≡ put (Written []) bytes → o ≡ Written bytes
-bytes_written o bytes e = e ∙ put_written [] bytes
+bytes_written : (o : Output) (n : ℕ) (bytes : List ℕ) → n < 2 ^ 64 → length bytes ≤ n → o ≡ put (Written n []) bytes → o ≡ Written n bytes
+bytes_written o n bytes h fits e = e ∙ put_written n [] bytes h ∙ ap (λ k. Written n (take k bytes)) same ∙ ap (Written n) (take_all n bytes fits)
+  where
+    same : n - 0 ≡ n
+    same = omega arith
 
-pub text_kept : (o a : Output) (p : Program) → a ≡ Written [] → o ≡ prints a 0 (program_lines p) → counts o ≡ false
+text_held : (o a : Output) (n : ℕ) (p : Program) → n ≡ capped (length (Text p)) → n ≤ 268435456 → a ≡ Written n [] → o ≡ prints a 0 (program_lines p) → o ≡ Written n (Text p)
 unfolding prints
-text_kept o a p k e = ap counts (bytes_written o (Text p) (e ∙ ap (λ y. put y (Text p)) k))
+text_held o a n p e h k f = bytes_written o n (Text p) (omega (arith, h)) (omega (arith, e, h)) (f ∙ ap (λ y. put y (Text p)) k)
 
-pub text_written : (o a : Output) (bytes : List ℕ) (p : Program) → a ≡ Written [] → o ≡ prints a 0 (program_lines p) → o ≡ Written bytes → bytes ≡ Text p
-unfolding prints text_of
-text_written o a bytes p k e h = ap text_of (sym h ∙ bytes_written o (Text p) (e ∙ ap (λ y. put y (Text p)) k))
+pub text_kept : (o a : Output) (n : ℕ) (p : Program) → n ≡ capped (length (Text p)) → n ≤ 268435456 → a ≡ Written n [] → o ≡ prints a 0 (program_lines p) → counts o ≡ false
+text_kept o a n p e h k f = ap counts (text_held o a n p e h k f)
+
+pub text_written : (o a : Output) (n : ℕ) (p : Program) → n ≡ capped (length (Text p)) → n ≤ 268435456 → a ≡ Written n [] → o ≡ prints a 0 (program_lines p) → text_of o ≡ Text p
+text_written o a n p e h k f = ap text_of (text_held o a n p e h k f)
 
 pub is_text : (n : ℕ) (bytes : List ℕ) (p : Program) → IsProgram p → n ≡ capped (length (Text p)) → n ≤ 268435456 → bytes ≡ Text p → IsTextOf bytes p
 is_text n bytes p is e h same = record { program = is; text = same; short = short (ap length same) }

@@ -1,3 +1,4 @@
+pub mod Rooms
 pub mod Puts
 pub mod Declared
 pub mod Found

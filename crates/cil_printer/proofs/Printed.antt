@@ -1,15 +1,16 @@
 -- Device: lines that are printed one behind the other.
-use Rattle.std.proofs.Common.{◌≡◌, ℕ, suc, ◌-◌, ◌*◌, Bool, true, false, ◌&&◌, not, cond, List, [], ◌∷◌, ◌++◌, codes, replicate, refl, sym, ap, ◌∙◌, append_assoc, append-nil, arith}
+use Rattle.std.proofs.Common.{◌≡◌, ◌⊎◌, inl, inr, ℕ, suc, ◌-◌, ◌*◌, ◌^◌, ◌<◌, ◌≤◌, Bool, true, false, ◌&&◌, not, cond, List, [], ◌∷◌, ◌++◌, codes, replicate, refl, sym, ap, ◌∙◌, append_assoc, append-nil, arith}
 use Rattle.std.specs.List.{join_with_byte}
+use Rattle.std.proofs.lemmas.Bool.{cases_lt}
 use Rattle.cil_tree.specs.Tree.{Stmt, Do, If, Switch, Loop, Block, Label, Case, Default, Goto, Break, Return, Stmts, Done, Seq}
 use Rattle.cil_tree.specs.Typing.{Scope}
 use Rattle.cil_tree.specs.Lines.{Token, Line, opens, closes, open_behind, depth_of, line_bytes, lines_bytes}
 use Rattle.cil_tree.specs.Declarators.{number, in_parentheses}
 use Rattle.cil_tree.specs.Text.{closed, heading, closing, label_name, exp_tokens, instr_tokens, return_tokens, stmt_lines, lines_of}
-use Rattle.cil_printer.specs.Output.{Output, put, puts}
+use Rattle.cil_printer.specs.Output.{Output, put, puts, capped}
 use Rattle.cil_printer.specs.Spaced.{spaced}
 use Rattle.cil_printer.specs.Plain.{is_plain, are_plain, IsPlain, prints, open_past}
-use Rattle.cil_printer.proofs.Puts.{put-put, nothing_pushed}
+use Rattle.cil_printer.proofs.Puts.{put-put, put_blanks, nothing_pushed}
 use Rattle.cil_printer.proofs.Calls.{both_left, both_right}
 use Rattle.cil_printer.proofs.PlainTokens.{plain_cons, plain_in_parentheses, exp_plain, instr_plain, return_plain, number_plain}
 
@@ -47,6 +48,31 @@ prints-prints o d e xs ys h = ap (λ k. put (put o (lines_bytes d xs)) (lines_by
 pub nothing_printed : (o : Output) (d : ℕ) → o ≡ prints o d []
 unfolding prints puts
 nothing_printed o d = nothing_pushed o
+
+-- so deep that the blanks before the first line are more than any text has, it is the same how deep
+blanks : (d : ℕ) (line : Line) → 2 ^ 64 ≤ suc d → 2 ^ 64 ≤ suc (2 * depth_of d line)
+blanks d [] h = omega (arith, h)
+blanks d (token ∷ tokens) h = by (closes token)
+  where
+    by : (b : Bool) → 2 ^ 64 ≤ suc (2 * cond b (d - 1) d)
+    by true = omega (arith, h)
+    by false = omega (arith, h)
+
+deep_printed : (o : Output) (d e : ℕ) (lines : List Line) → 2 ^ 64 ≤ suc d → 2 ^ 64 ≤ suc e → prints o d lines ≡ prints o e lines
+unfolding prints
+deep_printed o d e [] h g = refl
+deep_printed o d e (line ∷ lines) h g =
+    let words : List ℕ = join_with_byte 32 line ++ 10 ∷ [] in
+    ap (put o) (append_assoc (replicate (2 * depth_of d line) 32) words (lines_bytes (open_behind d line) lines))
+    ∙ put_blanks o (2 * depth_of d line) (2 * depth_of e line) (words ++ lines_bytes (open_behind d line) lines) (words ++ lines_bytes (open_behind e line) lines) (blanks d line h) (blanks e line g)
+    ∙ ap (put o) (sym (append_assoc (replicate (2 * depth_of e line) 32) words (lines_bytes (open_behind e line) lines)))
+
+pub deeper_printed : (o a : Output) (d e : ℕ) (lines : List Line) → e ≡ capped (suc d) → a ≡ prints o e lines → a ≡ prints o (suc d) lines
+deeper_printed o a d e lines k ea = ea ∙ by (cases_lt (suc d) (2 ^ 64))
+  where
+    by : (suc d < 2 ^ 64) ⊎ (2 ^ 64 ≤ suc d) → prints o e lines ≡ prints o (suc d) lines
+    by (inl lt) = ap (λ n. prints o n lines) (omega (arith, k, lt))
+    by (inr ge) = deep_printed o e (suc d) lines (omega (arith, k, ge)) (omega (arith, ge))
 
 -- braces
 pub open_plain : (d : ℕ) (xs ys : List Token) → are_plain xs ≡ true → open_behind d (xs ++ ys) ≡ open_behind d ys

@@ -1,30 +1,47 @@
 -- Device: what several calls append one after the other.
-use Rattle.std.proofs.Common.{◌≡◌, ℕ, suc, ◌+◌, ◌-◌, ◌^◌, List, [], ◌∷◌, ◌++◌, length, replicate, codes, refl, sym, ap, ◌∙◌, append_assoc, append-nil, length-append, arith, ◌<◌, ◌≤◌, ◌*◌}
-use Rattle.std.proofs.lemmas.List.{length-replicate}
+use Rattle.std.proofs.Common.{◌≡◌, ℕ, zero, suc, ◌+◌, ◌-◌, ◌^◌, List, [], ◌∷◌, ◌++◌, length, replicate, take, codes, refl, sym, ap, ◌∙◌, append_assoc, append-nil, length-append, arith, ◌<◌, ◌≤◌, ◌*◌}
+use Rattle.std.proofs.lemmas.List.{length-replicate, take_all}
 use Rattle.cil_tree.specs.Lines.{Token}
 use Rattle.cil_tree.specs.Declarators.{in_parentheses}
 use Rattle.cil_printer.specs.Output.{Output, Counted, Written, put, puts, capped}
 use Rattle.cil_printer.specs.Spaced.{spaced}
+use Rattle.cil_printer.proofs.Rooms.{taken_twice, taken_blanks}
 
 capped_twice : (a m n : ℕ) → capped (capped (a + m) + n) ≡ capped (a + (m + n))
 capped_twice a m n = omega arith
+
+kept_twice : (k : ℕ) (text xs ys : List ℕ) → (text ++ take (k - length text) xs) ++ take (k - length (text ++ take (k - length text) xs)) ys ≡ text ++ take (k - length text) (xs ++ ys)
+kept_twice k text xs ys =
+    append_assoc text (take (k - length text) xs) (take (k - length (text ++ take (k - length text) xs)) ys)
+    ∙ ap (λ t. text ++ t) (ap (λ n. take (k - length text) xs ++ take n ys) left ∙ taken_twice (k - length text) xs ys)
+  where
+    left : k - length (text ++ take (k - length text) xs) ≡ (k - length text) - length (take (k - length text) xs)
+    left = omega (arith, length-append text (take (k - length text) xs))
 
 pub put-put : (o : Output) (xs ys : List ℕ) → put (put o xs) ys ≡ put o (xs ++ ys)
 unfolding put
 put-put o [] ys = refl
 put-put o (x ∷ xs) [] = ap (put o) (sym (append-nil (x ∷ xs)))
 put-put (Counted n) (x ∷ xs) (y ∷ ys) = ap Counted (capped_twice n (length (x ∷ xs)) (length (y ∷ ys)) ∙ ap (λ k. capped (n + k)) (sym (length-append (x ∷ xs) (y ∷ ys))))
-put-put (Written text) (x ∷ xs) (y ∷ ys) = ap Written (append_assoc text (x ∷ xs) (y ∷ ys))
+put-put (Written room text) (x ∷ xs) (y ∷ ys) = ap (Written room) (kept_twice (capped room) text (x ∷ xs) (y ∷ ys))
 
 pub put_counted : (n : ℕ) (bytes : List ℕ) → n < 2 ^ 64 → put (Counted n) bytes ≡ Counted (capped (n + length bytes))
 unfolding put
 put_counted n [] h = ap Counted (omega (arith, h))
 put_counted n (b ∷ bytes) h = refl
 
-pub put_written : (text bytes : List ℕ) → put (Written text) bytes ≡ Written (text ++ bytes)
+pub put_written : (room : ℕ) (text bytes : List ℕ) → room < 2 ^ 64 → put (Written room text) bytes ≡ Written room (text ++ take (room - length text) bytes)
 unfolding put
-put_written text [] = ap Written (sym (append-nil text))
-put_written text (b ∷ bytes) = refl
+put_written room text [] h = ap (Written room) (sym (append-nil text) ∙ ap (λ t. text ++ t) (sym (take_all (room - length text) [] (omega arith))))
+put_written room text (b ∷ bytes) h = ap (λ k. Written room (text ++ take (k - length text) (b ∷ bytes))) (omega (arith, h))
+
+-- where so many blanks follow that there is no room for more, it is the same how many
+pub put_blanks : (o : Output) (j k : ℕ) (xs ys : List ℕ) → 2 ^ 64 ≤ suc j → 2 ^ 64 ≤ suc k → put o (replicate j 32 ++ xs) ≡ put o (replicate k 32 ++ ys)
+unfolding put
+put_blanks o zero k xs ys h g = absurd (omega (arith, h))
+put_blanks o (suc j) zero xs ys h g = absurd (omega (arith, g))
+put_blanks (Counted n) (suc j) (suc k) xs ys h g = ap Counted (omega (arith, h, g, length-append (replicate j 32) xs, length-append (replicate k 32) ys, length-replicate {A = ℕ} j 32, length-replicate {A = ℕ} k 32))
+put_blanks (Written room text) (suc j) (suc k) xs ys h g = ap (λ t. Written room (text ++ t)) (taken_blanks (capped room - length text) (suc j) (suc k) xs ys (omega (arith, h)) (omega (arith, g)))
 
 pub spaced-append : (xs ys : List Token) → spaced (xs ++ ys) ≡ spaced xs ++ spaced ys
 spaced-append [] ys = refl
@@ -90,5 +107,5 @@ indented_end o x depth i h e = ap (λ k. put o (replicate k 32)) none ∙ e
     none : 0 ≡ 2 * (depth - i)
     none = omega (arith, h)
 
-pub indent_known : (n k : ℕ) → n < 2 ^ 32 → k ≡ n * 2 → k ≡ capped (length (replicate {A = ℕ} (2 * n) 32))
-indent_known n k h e = omega (arith, h, e, length-replicate {A = ℕ} (2 * n) 32)
+pub indent_known : (n k : ℕ) → k ≡ capped (n * 2) → k ≡ capped (length (replicate {A = ℕ} (2 * n) 32))
+indent_known n k e = omega (arith, e, length-replicate {A = ℕ} (2 * n) 32)

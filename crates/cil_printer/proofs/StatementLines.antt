@@ -11,13 +11,13 @@ use Rattle.cil_tree.specs.Bodies.{each_stmt, each_within}
 use Rattle.cil_tree.specs.Lines.{Token}
 use Rattle.cil_tree.specs.Declarators.{number, in_parentheses}
 use Rattle.cil_tree.specs.Text.{heading, closing, label_name, exp_tokens, instr_tokens, stmt_lines, lines_of}
-use Rattle.cil_printer.specs.Output.{Output, put, puts}
+use Rattle.cil_printer.specs.Output.{Output, put, puts, capped}
 use Rattle.cil_printer.specs.Plain.{is_plain, IsPlain, prints}
 use Rattle.cil_printer.specs.Seen.{returned_tokens}
 use Rattle.cil_printer.proofs.Puts.{nothing_pushed, two_pushed, pair_pushed, cons_pushed}
 use Rattle.cil_printer.proofs.Calls.{both_left, both_right}
 use Rattle.cil_printer.proofs.PlainTokens.{plain_cons, plain_append, plain_in_parentheses, exp_plain, instr_plain, number_plain}
-use Rattle.cil_printer.proofs.Printed.{closing_printed, closed_printed, opening_printed, prints-prints, nothing_printed, body_printed, nested_printed, both_printed, open_heading, stmt_past, stmts_past}
+use Rattle.cil_printer.proofs.Printed.{deeper_printed, closing_printed, closed_printed, opening_printed, prints-prints, nothing_printed, body_printed, nested_printed, both_printed, open_heading, stmt_past, stmts_past}
 
 pub brace_closed : (o a b : Output) (d : ℕ) → a ≡ put o (replicate (2 * d) 32) → b ≡ put a (codes "}" ++ 10 ∷ []) → b ≡ prints o (suc d) (closing ∷ [])
 brace_closed o a b d ea eb = closing_printed o a a b d [] (codes "}") (omega arith) ea (nothing_pushed a) eb
@@ -61,11 +61,11 @@ pub heading_printed : (o a b f e : Output) (d : ℕ) (word : Token) (c : Scope) 
 heading_printed o a b f e d word c x is w ea eb ef ee =
     opening_printed o a f e d (word ∷ in_parentheses (exp_tokens c x)) (plain_cons word (in_parentheses (exp_tokens c x)) w (plain_in_parentheses (exp_tokens c x) (exp_plain c is x))) ea (cons_pushed a b f word (in_parentheses (exp_tokens c x)) eb ef) ee
 
-pub whole_printed : (o a b : Output) (d e : ℕ) (c : Scope) (ss : Stmts) → IsPlain c → e ≡ suc d → a ≡ prints o e (lines_of c ss) → b ≡ prints a (suc d) (closing ∷ []) → b ≡ prints o (suc d) (lines_of c ss ++ closing ∷ [])
-whole_printed o a b d e c ss is k ea eb = body_printed o a b d (lines_of c ss) (stmts_past c is (suc d) ss) (ea ∙ ap (λ l. prints o l (lines_of c ss)) k) eb
+pub whole_printed : (o a b : Output) (d e : ℕ) (c : Scope) (ss : Stmts) → IsPlain c → e ≡ capped (suc d) → a ≡ prints o e (lines_of c ss) → b ≡ prints a (suc d) (closing ∷ []) → b ≡ prints o (suc d) (lines_of c ss ++ closing ∷ [])
+whole_printed o a b d e c ss is k ea eb = body_printed o a b d (lines_of c ss) (stmts_past c is (suc d) ss) (deeper_printed o a d e (lines_of c ss) k ea) eb
 
-pub holding_printed : (o a b : Output) (d e : ℕ) (c : Scope) (ss : Stmts) → IsPlain c → e ≡ suc d → a ≡ prints o e (lines_of c ss) → b ≡ prints a (suc d) ((codes "}" ∷ codes "else" ∷ codes "{" ∷ []) ∷ []) → b ≡ prints o (suc d) (lines_of c ss ++ (codes "}" ∷ codes "else" ∷ codes "{" ∷ []) ∷ [])
-holding_printed o a b d e c ss is k ea eb = eb ∙ ap (λ x. prints x (suc d) ((codes "}" ∷ codes "else" ∷ codes "{" ∷ []) ∷ [])) (ea ∙ ap (λ l. prints o l (lines_of c ss)) k) ∙ prints-prints o (suc d) (suc d) (lines_of c ss) ((codes "}" ∷ codes "else" ∷ codes "{" ∷ []) ∷ []) (stmts_past c is (suc d) ss)
+pub holding_printed : (o a b : Output) (d e : ℕ) (c : Scope) (ss : Stmts) → IsPlain c → e ≡ capped (suc d) → a ≡ prints o e (lines_of c ss) → b ≡ prints a (suc d) ((codes "}" ∷ codes "else" ∷ codes "{" ∷ []) ∷ []) → b ≡ prints o (suc d) (lines_of c ss ++ (codes "}" ∷ codes "else" ∷ codes "{" ∷ []) ∷ [])
+holding_printed o a b d e c ss is k ea eb = eb ∙ ap (λ x. prints x (suc d) ((codes "}" ∷ codes "else" ∷ codes "{" ∷ []) ∷ [])) (deeper_printed o a d e (lines_of c ss) k ea) ∙ prints-prints o (suc d) (suc d) (lines_of c ss) ((codes "}" ∷ codes "else" ∷ codes "{" ∷ []) ∷ []) (stmts_past c is (suc d) ss)
 
 -- statements from one on
 next_is : (xs : List Tree) (i : ℕ) (x : Tree) → i < length xs → x ≡ get_or xs i x → drop i xs ≡ x ∷ drop (suc i) xs

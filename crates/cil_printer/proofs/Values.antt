@@ -1,5 +1,5 @@
 -- Device: the types of expressions, as the printer follows them, and what is printed of each form.
-use Rattle.std.proofs.Common.{◌≡◌, ℕ, zero, suc, ◌<◌, ◌≤◌, Bool, true, false, ◌&&◌, ◌||◌, cond, is_some, List, [], ◌∷◌, ◌++◌, Option, Some, None, length, get_or, drop, codes, refl, sym, ap, ◌∙◌, append_assoc, append-nil, subst, Result, IfOk, arith}
+use Rattle.std.proofs.Common.{◌≡◌, ℕ, zero, suc, ◌<◌, ◌≤◌, Bool, true, false, ◌&&◌, ◌||◌, cond, is_some, List, [], ◌∷◌, ◌++◌, Option, Some, None, length, get_or, drop, codes, refl, sym, ap, ◌∙◌, append_assoc, append-nil, arith}
 use Rattle.std.specs.Prelude.{pos}
 use Rattle.std.specs.Option.{option_map, option_and_then}
 use Rattle.cil_base.specs.declared.kinds.IntKind.{IntKind}
@@ -10,7 +10,6 @@ use Rattle.cil_base.specs.declared.operators.UnOp.TheVariants.{Neg, Compl, Not}
 use Rattle.cil_base.specs.Operators.{operator_spelling}
 use Rattle.cil_base.specs.Arithmetic.{fits, is_shift}
 use Rattle.cil_base.specs.Integer.{has_kind}
-use Rattle.cil_base.specs.declared.numbers.TypeId.{TypeId}
 use Rattle.type_graph.specs.declared.nodes.Node.{Node}
 use Rattle.type_graph.specs.declared.aggregates.Member.{Member}
 use Rattle.type_graph.specs.Shapes.{shape, Shape, VoidType, IntType, PtrType, ArrayType, FuncType, AggType}
@@ -25,7 +24,7 @@ use Rattle.cil_tree.specs.Lines.{Token}
 use Rattle.cil_tree.specs.Declarators.{in_parentheses}
 use Rattle.cil_tree.specs.Text.{in_brackets, exp_tokens, offset_tokens, name_in}
 use Rattle.cil_printer.specs.Output.{Output, puts}
-use Rattle.cil_printer.specs.Seen.{seen, moved, name_of_member}
+use Rattle.cil_printer.specs.Seen.{moved, name_of_member}
 use Rattle.cil_printer.proofs.Puts.{puts-puts, nothing_pushed, two_pushed, pair_pushed, enclosed}
 
 -- what has a type has parts that have types
@@ -398,6 +397,3 @@ sum_pushed o a b op c e l r is ea eb = simp (eb, ea, puts-puts) (ap (puts o) (sy
 pub sum_points_at : (c : Scope) (op : BinOp) (e l r : Exp) (m x y : Option Shape) → e ≡ Bin op l r → is_some (type_of c e) ≡ true → x ≡ option_and_then pointed (type_of c l) → y ≡ option_and_then pointed (type_of c r) → m ≡ moved op x y → m ≡ option_and_then pointed (type_of c e)
 sum_points_at c op e l r m x y is h ex ey em =
     em ∙ ap (λ z. moved op z y) ex ∙ ap (moved op (option_and_then pointed (type_of c l))) ey ∙ sym (sum_points c op l r (ap (λ f. is_some (type_of c f)) (sym is) ∙ h)) ∙ ap (λ f. option_and_then pointed (type_of c f)) (sym is)
-
-pub points_ok : {E : Type 0} (nodes : List Node) (r : Result (Option TypeId) E) (x y : Option Shape) → x ≡ y → IfOk r (λ t. seen nodes t ≡ x) → IfOk r (λ t. seen nodes t ≡ y)
-points_ok nodes r x y e h = subst (λ z. IfOk r (λ t. seen nodes t ≡ z)) e h

@@ -1,4 +1,4 @@
-ghost use Rattle.std.specs.Prelude.{◌≡◌, [], ◌∷◌, ◌++◌, Option, Some, None, is_some, true, IfOk, OnOk, codes};
+ghost use Rattle.std.specs.Prelude.{◌≡◌, [], ◌∷◌, ◌++◌, Option, Some, None, is_some, true, codes};
 ghost use Rattle.std.specs.Option.{option_map, option_and_then};
 ghost use Rattle.cil_base.specs.Operators.{operator_spelling};
 ghost use Rattle.cil_tree.specs.Tree.{Const, Value, Un, Bin, Cast, AddrOf, StartOf, Place, Here, Field, Index};
@@ -16,7 +16,6 @@ use crate::program::Program;
 use crate::sink::Sink;
 use cil_base::{BinOp, TypeId, UnOp};
 use cil_tree::{Exp, Host, Lval, Offset};
-use std::alloc::AllocError;
 use type_graph::Member;
 
 /// The spelling of a unary operator (C11 6.5.3.3).
@@ -76,24 +75,23 @@ impl<'a> Program<'a> {
     }
 
     /// Appends a type without a name, where it is one of the program's.
-    fn push_name_of(&self, out: &mut Sink, t: TypeId) -> Result<(), AllocError>
-        ensures { OnOk result (out.new ≡ puts out.old (type_tokens (tree_of self.now) (type_at (tree_of self.now).graph.nodes t) [])) }
+    fn push_name_of(&self, out: &mut Sink, t: TypeId)
+        ensures { out.new ≡ puts out.old (type_tokens (tree_of self.now) (type_at (tree_of self.now).graph.nodes t) []) }
     {
         match self.within(t) {
-            None => Ok(()),
+            None => {}
             Some(u) => self.push_type(out, u),
         }
     }
 
     /// Appends a type name in parentheses (C11 6.5.4, 6.7.7).
     #[tactic(auto, using(crate::proofs::Puts::enclosed))]
-    pub(crate) fn push_type_name(&self, out: &mut Sink, t: TypeId) -> Result<(), AllocError>
-        ensures { OnOk result (out.new ≡ puts out.old (in_parentheses (type_tokens (tree_of self.now) (type_at (tree_of self.now).graph.nodes t) []))) }
+    pub(crate) fn push_type_name(&self, out: &mut Sink, t: TypeId)
+        ensures { out.new ≡ puts out.old (in_parentheses (type_tokens (tree_of self.now) (type_at (tree_of self.now).graph.nodes t) [])) }
     {
-        out.token(b"(")?;
-        self.push_name_of(out, t)?;
-        out.token(b")")?;
-        Ok(())
+        out.token(b"(");
+        self.push_name_of(out, t);
+        out.token(b")");
     }
 }
 
@@ -101,26 +99,22 @@ impl<'a> Function<'a> {
     /// Appends an expression. The answer is what the expression's value points to, if it is a pointer.
     #[cycle(expression)]
     #[tactic(auto, using(cil_tree::proofs::Views::at_value, cil_tree::proofs::Views::at_address, cil_tree::proofs::Views::at_start, crate::proofs::Values::constant_points))]
-    pub(crate) fn push_expression(
-        &self,
-        out: &mut Sink,
-        e: &Exp,
-    ) -> Result<Option<TypeId>, AllocError>
+    pub(crate) fn push_expression(&self, out: &mut Sink, e: &Exp) -> Option<TypeId>
         requires { is_some (type_of (scope_in self.now) (exp_of (nodes_in self.now) e.now)) ≡ true }
-        ensures text { OnOk result (out.new ≡ puts out.old (exp_tokens (scope_in self.now) (exp_of (nodes_in self.now) e.now))) }
-        ensures points { IfOk result (λ t. seen (nodes_in self.now) t ≡ option_and_then pointed (type_of (scope_in self.now) (exp_of (nodes_in self.now) e.now))) }
+        ensures text { out.new ≡ puts out.old (exp_tokens (scope_in self.now) (exp_of (nodes_in self.now) e.now)) }
+        ensures points { seen (nodes_in self.now) result ≡ option_and_then pointed (type_of (scope_in self.now) (exp_of (nodes_in self.now) e.now)) }
     {
         match e {
             Exp::Const(kind, n) => {
-                push_digits(out, *kind, *n)?;
-                Ok(None)
+                push_digits(out, *kind, *n);
+                None
             }
             Exp::Lval(place) => self.push_value(out, place),
             Exp::Un(op, operand) => self.push_unary(out, *op, operand),
             Exp::Bin(op, left, right) => {
-                let l = self.push_left(out, left)?;
-                let r = self.push_right(out, *op, right)?;
-                Ok(self.moved(*op, l, r))
+                let l = self.push_left(out, left);
+                let r = self.push_right(out, *op, right);
+                self.moved(*op, l, r)
             }
             Exp::Cast(to, operand) => self.push_cast(out, *to, operand),
             Exp::AddrOf(place) => self.push_address(out, place),
@@ -131,153 +125,129 @@ impl<'a> Function<'a> {
     /// Appends the value of a place (C11 6.3.2.1p2).
     #[cycle(expression)]
     #[tactic(auto, using(crate::proofs::Values::some_of, crate::proofs::Values::value_points))]
-    fn push_value(&self, out: &mut Sink, place: &Lval) -> Result<Option<TypeId>, AllocError>
+    fn push_value(&self, out: &mut Sink, place: &Lval) -> Option<TypeId>
         requires { is_some (type_of (scope_in self.now) (Value (lval_of (nodes_in self.now) place.now))) ≡ true }
-        ensures text { OnOk result (out.new ≡ puts out.old (place_tokens (scope_in self.now) (lval_of (nodes_in self.now) place.now))) }
-        ensures points { IfOk result (λ t. seen (nodes_in self.now) t ≡ option_and_then pointed (type_of (scope_in self.now) (Value (lval_of (nodes_in self.now) place.now)))) }
+        ensures text { out.new ≡ puts out.old (place_tokens (scope_in self.now) (lval_of (nodes_in self.now) place.now)) }
+        ensures points { seen (nodes_in self.now) result ≡ option_and_then pointed (type_of (scope_in self.now) (Value (lval_of (nodes_in self.now) place.now))) }
     {
-        let t = self.push_place(out, place)?;
-        Ok(self.program.pointee(t))
+        let t = self.push_place(out, place);
+        self.program.pointee(t)
     }
 
     /// Appends the address of an array's first element (C11 6.3.2.1p3), which is written as the array.
     #[cycle(expression)]
     #[tactic(auto, using(crate::proofs::Values::some_of, crate::proofs::Values::start_points))]
-    fn push_start(&self, out: &mut Sink, place: &Lval) -> Result<Option<TypeId>, AllocError>
+    fn push_start(&self, out: &mut Sink, place: &Lval) -> Option<TypeId>
         requires { is_some (type_of (scope_in self.now) (StartOf (lval_of (nodes_in self.now) place.now))) ≡ true }
-        ensures text { OnOk result (out.new ≡ puts out.old (place_tokens (scope_in self.now) (lval_of (nodes_in self.now) place.now))) }
-        ensures points { IfOk result (λ t. seen (nodes_in self.now) t ≡ option_and_then pointed (type_of (scope_in self.now) (StartOf (lval_of (nodes_in self.now) place.now)))) }
+        ensures text { out.new ≡ puts out.old (place_tokens (scope_in self.now) (lval_of (nodes_in self.now) place.now)) }
+        ensures points { seen (nodes_in self.now) result ≡ option_and_then pointed (type_of (scope_in self.now) (StartOf (lval_of (nodes_in self.now) place.now))) }
     {
-        let t = self.push_place(out, place)?;
-        Ok(self.program.element(t))
+        let t = self.push_place(out, place);
+        self.program.element(t)
     }
 
     /// Appends an address (C11 6.5.3.2). The answer is the type of what stands there.
     #[cycle(expression)]
     #[tactic(auto, using(crate::proofs::Values::prefixed))]
-    pub(crate) fn push_address(
-        &self,
-        out: &mut Sink,
-        place: &Lval,
-    ) -> Result<Option<TypeId>, AllocError>
+    pub(crate) fn push_address(&self, out: &mut Sink, place: &Lval) -> Option<TypeId>
         requires { is_some (place_type (scope_in self.now) (lval_of (nodes_in self.now) place.now)) ≡ true }
-        ensures text { OnOk result (out.new ≡ puts out.old (in_parentheses (codes "&" ∷ place_tokens (scope_in self.now) (lval_of (nodes_in self.now) place.now)))) }
-        ensures points { IfOk result (λ t. seen (nodes_in self.now) t ≡ place_type (scope_in self.now) (lval_of (nodes_in self.now) place.now)) }
+        ensures text { out.new ≡ puts out.old (in_parentheses (codes "&" ∷ place_tokens (scope_in self.now) (lval_of (nodes_in self.now) place.now))) }
+        ensures points { seen (nodes_in self.now) result ≡ place_type (scope_in self.now) (lval_of (nodes_in self.now) place.now) }
     {
-        out.token(b"(")?;
-        out.token(b"&")?;
-        let t = self.push_place(out, place)?;
-        out.token(b")")?;
-        Ok(t)
+        out.token(b"(");
+        out.token(b"&");
+        let t = self.push_place(out, place);
+        out.token(b")");
+        t
     }
 
     /// Appends a unary operator and its operand (C11 6.5.3.3).
     #[cycle(expression)]
     #[tactic(auto, using(crate::proofs::Values::some_of, crate::proofs::Values::operand_points, crate::proofs::Values::prefixed))]
-    fn push_unary(
-        &self,
-        out: &mut Sink,
-        op: UnOp,
-        operand: &Exp,
-    ) -> Result<Option<TypeId>, AllocError>
+    fn push_unary(&self, out: &mut Sink, op: UnOp, operand: &Exp) -> Option<TypeId>
         requires { is_some (type_of (scope_in self.now) (Un op (exp_of (nodes_in self.now) operand.now))) ≡ true }
-        ensures text { OnOk result (out.new ≡ puts out.old (exp_tokens (scope_in self.now) (Un op (exp_of (nodes_in self.now) operand.now)))) }
-        ensures points { IfOk result (λ t. seen (nodes_in self.now) t ≡ option_and_then pointed (type_of (scope_in self.now) (Un op (exp_of (nodes_in self.now) operand.now)))) }
+        ensures text { out.new ≡ puts out.old (exp_tokens (scope_in self.now) (Un op (exp_of (nodes_in self.now) operand.now))) }
+        ensures points { seen (nodes_in self.now) result ≡ option_and_then pointed (type_of (scope_in self.now) (Un op (exp_of (nodes_in self.now) operand.now))) }
     {
-        out.token(b"(")?;
-        out.token(unary_text(op))?;
-        self.push_expression(out, operand)?;
-        out.token(b")")?;
-        Ok(None)
+        out.token(b"(");
+        out.token(unary_text(op));
+        self.push_expression(out, operand);
+        out.token(b")");
+        None
     }
 
     /// Appends a binary operator's parenthesis and left operand (C11 6.5.5 to 6.5.12). The answer is what the operand
     /// points to.
     #[cycle(expression)]
     #[tactic(auto, using(crate::proofs::Puts::cons_pushed))]
-    fn push_left(&self, out: &mut Sink, left: &Exp) -> Result<Option<TypeId>, AllocError>
+    fn push_left(&self, out: &mut Sink, left: &Exp) -> Option<TypeId>
         requires { is_some (type_of (scope_in self.now) (exp_of (nodes_in self.now) left.now)) ≡ true }
-        ensures text { OnOk result (out.new ≡ puts out.old (codes "(" ∷ exp_tokens (scope_in self.now) (exp_of (nodes_in self.now) left.now))) }
-        ensures points { IfOk result (λ t. seen (nodes_in self.now) t ≡ option_and_then pointed (type_of (scope_in self.now) (exp_of (nodes_in self.now) left.now))) }
+        ensures text { out.new ≡ puts out.old (codes "(" ∷ exp_tokens (scope_in self.now) (exp_of (nodes_in self.now) left.now)) }
+        ensures points { seen (nodes_in self.now) result ≡ option_and_then pointed (type_of (scope_in self.now) (exp_of (nodes_in self.now) left.now)) }
     {
-        out.token(b"(")?;
-        let t = self.push_expression(out, left)?;
-        Ok(t)
+        out.token(b"(");
+        self.push_expression(out, left)
     }
 
     /// Appends a binary operator, its right operand and the closing parenthesis. The answer is what the operand points to.
     #[cycle(expression)]
     #[tactic(auto, using(crate::proofs::Values::right_pushed))]
-    fn push_right(
-        &self,
-        out: &mut Sink,
-        op: BinOp,
-        right: &Exp,
-    ) -> Result<Option<TypeId>, AllocError>
+    fn push_right(&self, out: &mut Sink, op: BinOp, right: &Exp) -> Option<TypeId>
         requires { is_some (type_of (scope_in self.now) (exp_of (nodes_in self.now) right.now)) ≡ true }
-        ensures text { OnOk result (out.new ≡ puts out.old (operator_spelling op ∷ (exp_tokens (scope_in self.now) (exp_of (nodes_in self.now) right.now) ++ codes ")" ∷ []))) }
-        ensures points { IfOk result (λ t. seen (nodes_in self.now) t ≡ option_and_then pointed (type_of (scope_in self.now) (exp_of (nodes_in self.now) right.now))) }
+        ensures text { out.new ≡ puts out.old (operator_spelling op ∷ (exp_tokens (scope_in self.now) (exp_of (nodes_in self.now) right.now) ++ codes ")" ∷ [])) }
+        ensures points { seen (nodes_in self.now) result ≡ option_and_then pointed (type_of (scope_in self.now) (exp_of (nodes_in self.now) right.now)) }
     {
-        out.token(binary_text(op))?;
-        let t = self.push_expression(out, right)?;
-        out.token(b")")?;
-        Ok(t)
+        out.token(binary_text(op));
+        let t = self.push_expression(out, right);
+        out.token(b")");
+        t
     }
 
     /// Appends a conversion (C11 6.5.4).
     #[cycle(expression)]
     #[tactic(auto, using(crate::proofs::Values::cast_typed, crate::proofs::Values::cast_points, crate::proofs::Values::cast_pushed))]
-    fn push_cast(
-        &self,
-        out: &mut Sink,
-        to: TypeId,
-        operand: &Exp,
-    ) -> Result<Option<TypeId>, AllocError>
+    fn push_cast(&self, out: &mut Sink, to: TypeId, operand: &Exp) -> Option<TypeId>
         requires { is_some (type_of (scope_in self.now) (Cast (type_at (nodes_in self.now) to) (exp_of (nodes_in self.now) operand.now))) ≡ true }
-        ensures text { OnOk result (out.new ≡ puts out.old (exp_tokens (scope_in self.now) (Cast (type_at (nodes_in self.now) to) (exp_of (nodes_in self.now) operand.now)))) }
-        ensures points { IfOk result (λ t. seen (nodes_in self.now) t ≡ option_and_then pointed (type_of (scope_in self.now) (Cast (type_at (nodes_in self.now) to) (exp_of (nodes_in self.now) operand.now)))) }
+        ensures text { out.new ≡ puts out.old (exp_tokens (scope_in self.now) (Cast (type_at (nodes_in self.now) to) (exp_of (nodes_in self.now) operand.now))) }
+        ensures points { seen (nodes_in self.now) result ≡ option_and_then pointed (type_of (scope_in self.now) (Cast (type_at (nodes_in self.now) to) (exp_of (nodes_in self.now) operand.now))) }
     {
-        out.token(b"(")?;
-        self.program.push_type_name(out, to)?;
-        self.push_expression(out, operand)?;
-        out.token(b")")?;
-        Ok(self.program.pointee(Some(to)))
+        out.token(b"(");
+        self.program.push_type_name(out, to);
+        self.push_expression(out, operand);
+        out.token(b")");
+        self.program.pointee(Some(to))
     }
 
     /// Appends what a pointer points to (C11 6.5.3.2p4). The answer is its type.
     #[cycle(expression)]
     #[tactic(auto, using(crate::proofs::Values::some_of, crate::proofs::Values::prefixed))]
-    pub(crate) fn push_pointed(
-        &self,
-        out: &mut Sink,
-        pointer: &Exp,
-    ) -> Result<Option<TypeId>, AllocError>
+    pub(crate) fn push_pointed(&self, out: &mut Sink, pointer: &Exp) -> Option<TypeId>
         requires { is_some (option_and_then pointed (type_of (scope_in self.now) (exp_of (nodes_in self.now) pointer.now))) ≡ true }
-        ensures text { OnOk result (out.new ≡ puts out.old (in_parentheses (codes "*" ∷ exp_tokens (scope_in self.now) (exp_of (nodes_in self.now) pointer.now)))) }
-        ensures points { IfOk result (λ t. seen (nodes_in self.now) t ≡ option_and_then pointed (type_of (scope_in self.now) (exp_of (nodes_in self.now) pointer.now))) }
+        ensures text { out.new ≡ puts out.old (in_parentheses (codes "*" ∷ exp_tokens (scope_in self.now) (exp_of (nodes_in self.now) pointer.now))) }
+        ensures points { seen (nodes_in self.now) result ≡ option_and_then pointed (type_of (scope_in self.now) (exp_of (nodes_in self.now) pointer.now)) }
     {
-        out.token(b"(")?;
-        out.token(b"*")?;
-        let t = self.push_expression(out, pointer)?;
-        out.token(b")")?;
-        Ok(t)
+        out.token(b"(");
+        out.token(b"*");
+        let t = self.push_expression(out, pointer);
+        out.token(b")");
+        t
     }
 
     /// Appends what an lvalue begins with. The answer is its type.
     #[cycle(expression)]
-    fn push_host(&self, out: &mut Sink, host: &Host) -> Result<Option<TypeId>, AllocError>
+    fn push_host(&self, out: &mut Sink, host: &Host) -> Option<TypeId>
         requires { is_some (host_type (scope_in self.now) (host_of (nodes_in self.now) host.now)) ≡ true }
-        ensures text { OnOk result (out.new ≡ puts out.old (host_tokens (scope_in self.now) (host_of (nodes_in self.now) host.now))) }
-        ensures leads { IfOk result (λ t. seen (nodes_in self.now) t ≡ host_type (scope_in self.now) (host_of (nodes_in self.now) host.now)) }
+        ensures text { out.new ≡ puts out.old (host_tokens (scope_in self.now) (host_of (nodes_in self.now) host.now)) }
+        ensures leads { seen (nodes_in self.now) result ≡ host_type (scope_in self.now) (host_of (nodes_in self.now) host.now) }
     {
         match host {
             Host::Global(e) => {
-                out.token(self.program.global_name(*e))?;
-                Ok(self.program.global_type(*e))
+                out.token(self.program.global_name(*e));
+                self.program.global_type(*e)
             }
             Host::Var(l) => {
-                out.token(self.local_name(*l))?;
-                Ok(self.local_type(*l))
+                out.token(self.local_name(*l));
+                self.local_type(*l)
             }
             Host::At(pointer) => self.push_pointed(out, pointer),
         }
@@ -286,49 +256,35 @@ impl<'a> Function<'a> {
     /// Appends an lvalue (C11 6.3.2.1p1). The answer is its type.
     #[cycle(expression)]
     #[tactic(auto, using(crate::proofs::Values::some_of, crate::proofs::Puts::two_pushed))]
-    pub(crate) fn push_place(
-        &self,
-        out: &mut Sink,
-        place: &Lval,
-    ) -> Result<Option<TypeId>, AllocError>
+    pub(crate) fn push_place(&self, out: &mut Sink, place: &Lval) -> Option<TypeId>
         requires { is_some (place_type (scope_in self.now) (lval_of (nodes_in self.now) place.now)) ≡ true }
-        ensures text { OnOk result (out.new ≡ puts out.old (place_tokens (scope_in self.now) (lval_of (nodes_in self.now) place.now))) }
-        ensures leads { IfOk result (λ t. seen (nodes_in self.now) t ≡ place_type (scope_in self.now) (lval_of (nodes_in self.now) place.now)) }
+        ensures text { out.new ≡ puts out.old (place_tokens (scope_in self.now) (lval_of (nodes_in self.now) place.now)) }
+        ensures leads { seen (nodes_in self.now) result ≡ place_type (scope_in self.now) (lval_of (nodes_in self.now) place.now) }
     {
-        let t = self.push_host(out, &place.host)?;
+        let t = self.push_host(out, &place.host);
         self.push_offsets(out, &place.offsets, t)
     }
 
     /// Appends the steps from a place of a type to a part of it. The answer is the part's type.
     #[cycle(expression)]
-    fn push_offsets(
-        &self,
-        out: &mut Sink,
-        offsets: &[Offset],
-        of: Option<TypeId>,
-    ) -> Result<Option<TypeId>, AllocError>
+    fn push_offsets(&self, out: &mut Sink, offsets: &[Offset], of: Option<TypeId>) -> Option<TypeId>
         requires { is_some (option_and_then (part_type (scope_in self.now) (offsets_of (nodes_in self.now) offsets.now)) (seen (nodes_in self.now) of)) ≡ true }
-        ensures text { OnOk result (out.new ≡ puts out.old (offset_tokens (scope_in self.now) (offsets_of (nodes_in self.now) offsets.now) (seen (nodes_in self.now) of))) }
-        ensures leads { IfOk result (λ t. seen (nodes_in self.now) t ≡ option_and_then (part_type (scope_in self.now) (offsets_of (nodes_in self.now) offsets.now)) (seen (nodes_in self.now) of)) }
+        ensures text { out.new ≡ puts out.old (offset_tokens (scope_in self.now) (offsets_of (nodes_in self.now) offsets.now) (seen (nodes_in self.now) of)) }
+        ensures leads { seen (nodes_in self.now) result ≡ option_and_then (part_type (scope_in self.now) (offsets_of (nodes_in self.now) offsets.now)) (seen (nodes_in self.now) of) }
     {
         let mut t = of;
         for i in 0..offsets.len() {
-            t = self.push_offset(out, &offsets[i], t)?;
+            t = self.push_offset(out, &offsets[i], t);
         }
-        Ok(t)
+        t
     }
 
     /// Appends a step into a part. The answer is the part's type.
     #[cycle(expression)]
-    fn push_offset(
-        &self,
-        out: &mut Sink,
-        offset: &Offset,
-        of: Option<TypeId>,
-    ) -> Result<Option<TypeId>, AllocError>
+    fn push_offset(&self, out: &mut Sink, offset: &Offset, of: Option<TypeId>) -> Option<TypeId>
         requires { is_some (option_and_then (part_type (scope_in self.now) (offsets_of (nodes_in self.now) (offset.now ∷ []))) (seen (nodes_in self.now) of)) ≡ true }
-        ensures text { OnOk result (out.new ≡ puts out.old (offset_tokens (scope_in self.now) (offsets_of (nodes_in self.now) (offset.now ∷ [])) (seen (nodes_in self.now) of))) }
-        ensures leads { IfOk result (λ t. seen (nodes_in self.now) t ≡ option_and_then (part_type (scope_in self.now) (offsets_of (nodes_in self.now) (offset.now ∷ []))) (seen (nodes_in self.now) of)) }
+        ensures text { out.new ≡ puts out.old (offset_tokens (scope_in self.now) (offsets_of (nodes_in self.now) (offset.now ∷ [])) (seen (nodes_in self.now) of)) }
+        ensures leads { seen (nodes_in self.now) result ≡ option_and_then (part_type (scope_in self.now) (offsets_of (nodes_in self.now) (offset.now ∷ []))) (seen (nodes_in self.now) of) }
     {
         match offset {
             Offset::Field(n) => self.push_field(out, *n, of),
@@ -339,37 +295,27 @@ impl<'a> Function<'a> {
     /// Appends a step to an element (C11 6.5.2.1). The answer is the element's type.
     #[cycle(expression)]
     #[tactic(auto, using(crate::proofs::Values::index_typed, crate::proofs::Values::index_type, crate::proofs::Values::index_pushed))]
-    fn push_index(
-        &self,
-        out: &mut Sink,
-        index: &Exp,
-        of: Option<TypeId>,
-    ) -> Result<Option<TypeId>, AllocError>
+    fn push_index(&self, out: &mut Sink, index: &Exp, of: Option<TypeId>) -> Option<TypeId>
         requires { is_some (option_and_then (part_type (scope_in self.now) (Index (exp_of (nodes_in self.now) index.now) Here)) (seen (nodes_in self.now) of)) ≡ true }
-        ensures text { OnOk result (out.new ≡ puts out.old (offset_tokens (scope_in self.now) (Index (exp_of (nodes_in self.now) index.now) Here) (seen (nodes_in self.now) of))) }
-        ensures leads { IfOk result (λ t. seen (nodes_in self.now) t ≡ option_and_then (part_type (scope_in self.now) (Index (exp_of (nodes_in self.now) index.now) Here)) (seen (nodes_in self.now) of)) }
+        ensures text { out.new ≡ puts out.old (offset_tokens (scope_in self.now) (Index (exp_of (nodes_in self.now) index.now) Here) (seen (nodes_in self.now) of)) }
+        ensures leads { seen (nodes_in self.now) result ≡ option_and_then (part_type (scope_in self.now) (Index (exp_of (nodes_in self.now) index.now) Here)) (seen (nodes_in self.now) of) }
     {
-        out.token(b"[")?;
-        self.push_expression(out, index)?;
-        out.token(b"]")?;
-        Ok(self.program.element(of))
+        out.token(b"[");
+        self.push_expression(out, index);
+        out.token(b"]");
+        self.program.element(of)
     }
 
     /// Appends a step to a member (C11 6.5.2.3). The answer is the member's type.
     #[tactic(auto, using(crate::proofs::Values::field_pushed, crate::proofs::Values::field_type))]
-    fn push_field(
-        &self,
-        out: &mut Sink,
-        n: u32,
-        of: Option<TypeId>,
-    ) -> Result<Option<TypeId>, AllocError>
+    fn push_field(&self, out: &mut Sink, n: u32, of: Option<TypeId>) -> Option<TypeId>
         requires { is_some (option_and_then (part_type (scope_in self.now) (Field n Here)) (seen (nodes_in self.now) of)) ≡ true }
-        ensures text { OnOk result (out.new ≡ puts out.old (offset_tokens (scope_in self.now) (Field n Here) (seen (nodes_in self.now) of))) }
-        ensures leads { IfOk result (λ t. seen (nodes_in self.now) t ≡ option_and_then (part_type (scope_in self.now) (Field n Here)) (seen (nodes_in self.now) of)) }
+        ensures text { out.new ≡ puts out.old (offset_tokens (scope_in self.now) (Field n Here) (seen (nodes_in self.now) of)) }
+        ensures leads { seen (nodes_in self.now) result ≡ option_and_then (part_type (scope_in self.now) (Field n Here)) (seen (nodes_in self.now) of) }
     {
-        out.token(b".")?;
+        out.token(b".");
         let member = self.program.member(of, n);
-        out.token(self.program.name_of(member))?;
-        Ok(type_of_member(member))
+        out.token(self.program.name_of(member));
+        type_of_member(member)
     }
 }

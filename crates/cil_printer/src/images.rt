@@ -1,4 +1,4 @@
-ghost use Rattle.std.specs.Prelude.{◌≡◌, ◌<◌, [], ◌∷◌, ◌++◌, Option, Some, None, map, length, IfOk, OnOk, codes, decimal};
+ghost use Rattle.std.specs.Prelude.{◌≡◌, ◌<◌, [], ◌∷◌, ◌++◌, Option, Some, None, map, length, codes, decimal};
 ghost use Rattle.cil_base.specs.Integer.{long_of};
 ghost use Rattle.type_graph.specs.Shapes.{shape};
 ghost use Rattle.cil_tree.specs.Tree.{ToField, ToIndex};
@@ -17,36 +17,33 @@ use crate::sink::Sink;
 use crate::types::push_decimal;
 use cil_base::{Constant, EntityId, TypeId};
 use cil_tree::{ImageItem, Step};
-use std::alloc::AllocError;
 use type_graph::{AggKind, Node};
 
 impl<'a> Program<'a> {
     /// Appends the address of a global (C11 6.5.3.2).
     #[tactic(auto, using(crate::proofs::Puts::pair_pushed))]
-    fn push_reference(&self, out: &mut Sink, e: EntityId) -> Result<(), AllocError>
-        ensures { OnOk result (out.new ≡ puts out.old (codes "&" ∷ global_name (tree_of self.now) e.0 ∷ [])) }
+    fn push_reference(&self, out: &mut Sink, e: EntityId)
+        ensures { out.new ≡ puts out.old (codes "&" ∷ global_name (tree_of self.now) e.0 ∷ []) }
     {
-        out.token(b"&")?;
-        out.token(self.global_name(e))?;
-        Ok(())
+        out.token(b"&");
+        out.token(self.global_name(e));
     }
 
     /// Appends the address of a byte of an object (C11 6.6p9).
-    fn push_byte_address(&self, out: &mut Sink, e: EntityId, offset: i64) -> Result<(), AllocError>
-        ensures { OnOk result (out.new ≡ puts out.old (address_tokens (tree_of self.now) e.0 offset)) }
+    fn push_byte_address(&self, out: &mut Sink, e: EntityId, offset: i64)
+        ensures { out.new ≡ puts out.old (address_tokens (tree_of self.now) e.0 offset) }
     {
-        out.token(b"(")?;
-        push_char_pointer(out)?;
-        self.push_reference(out, e)?;
-        out.token(b"+")?;
-        push_number(out, self.graph().abi().long(), offset as i128)?;
-        out.token(b")")?;
-        Ok(())
+        out.token(b"(");
+        push_char_pointer(out);
+        self.push_reference(out, e);
+        out.token(b"+");
+        push_number(out, self.graph().abi().long(), offset as i128);
+        out.token(b")");
     }
 
     /// Appends the value of a constant (C11 6.6).
-    fn push_value_of(&self, out: &mut Sink, value: Constant) -> Result<(), AllocError>
-        ensures { OnOk result (out.new ≡ puts out.old (value_tokens (tree_of self.now) value)) }
+    fn push_value_of(&self, out: &mut Sink, value: Constant)
+        ensures { out.new ≡ puts out.old (value_tokens (tree_of self.now) value) }
     {
         match value {
             Constant::Int(kind, v) => push_number(out, kind, v),
@@ -68,53 +65,41 @@ impl<'a> Program<'a> {
 
     /// Appends the conversion to a type of the program, if it is a pointer.
     #[tactic(auto, using(crate::proofs::ImageTokens::pointer_cast, crate::proofs::ImageTokens::no_cast, crate::proofs::Puts::enclosed))]
-    fn push_conversion_to(&self, out: &mut Sink, t: TypeId) -> Result<(), AllocError>
+    fn push_conversion_to(&self, out: &mut Sink, t: TypeId)
         requires { t.0 < length (tree_of self.now).graph.nodes }
-        ensures { OnOk result (out.new ≡ puts out.old (cast_tokens (tree_of self.now) (Some (shape (tree_of self.now).graph.nodes t.0)))) }
+        ensures { out.new ≡ puts out.old (cast_tokens (tree_of self.now) (Some (shape (tree_of self.now).graph.nodes t.0))) }
     {
         if !self.is_pointer(t) {
-            return Ok(());
+            return;
         }
-        out.token(b"(")?;
-        self.push_type(out, t)?;
-        out.token(b")")?;
-        Ok(())
+        out.token(b"(");
+        self.push_type(out, t);
+        out.token(b")");
     }
 
     /// Appends the conversion of a constant to a pointer's type.
-    fn push_conversion(&self, out: &mut Sink, t: Option<TypeId>) -> Result<(), AllocError>
-        ensures { OnOk result (out.new ≡ puts out.old (cast_tokens (tree_of self.now) (seen (tree_of self.now).graph.nodes t))) }
+    fn push_conversion(&self, out: &mut Sink, t: Option<TypeId>)
+        ensures { out.new ≡ puts out.old (cast_tokens (tree_of self.now) (seen (tree_of self.now).graph.nodes t)) }
     {
         match self.there(t) {
-            None => Ok(()),
+            None => {}
             Some(u) => self.push_conversion_to(out, u),
         }
     }
 
     /// Appends the initial value of a scalar of a type.
     #[tactic(auto, using(crate::proofs::Puts::two_pushed))]
-    fn push_scalar(
-        &self,
-        out: &mut Sink,
-        t: Option<TypeId>,
-        value: Constant,
-    ) -> Result<(), AllocError>
-        ensures { OnOk result (out.new ≡ puts out.old (constant_tokens (tree_of self.now) (seen (tree_of self.now).graph.nodes t) value)) }
+    fn push_scalar(&self, out: &mut Sink, t: Option<TypeId>, value: Constant)
+        ensures { out.new ≡ puts out.old (constant_tokens (tree_of self.now) (seen (tree_of self.now).graph.nodes t) value) }
     {
-        self.push_conversion(out, t)?;
-        self.push_value_of(out, value)?;
-        Ok(())
+        self.push_conversion(out, t);
+        self.push_value_of(out, value);
     }
 
     /// Appends a step into a part of a place of a type. The answer is the part's type.
-    fn push_step(
-        &self,
-        out: &mut Sink,
-        step: Step,
-        of: Option<TypeId>,
-    ) -> Result<Option<TypeId>, AllocError>
-        ensures text { OnOk result (out.new ≡ puts out.old (path_tokens (tree_of self.now) (step_of step ∷ []) (seen (tree_of self.now).graph.nodes of))) }
-        ensures leads { IfOk result (λ t. seen (tree_of self.now).graph.nodes t ≡ path_type (tree_of self.now) (step_of step ∷ []) (seen (tree_of self.now).graph.nodes of)) }
+    fn push_step(&self, out: &mut Sink, step: Step, of: Option<TypeId>) -> Option<TypeId>
+        ensures text { out.new ≡ puts out.old (path_tokens (tree_of self.now) (step_of step ∷ []) (seen (tree_of self.now).graph.nodes of)) }
+        ensures leads { seen (tree_of self.now).graph.nodes result ≡ path_type (tree_of self.now) (step_of step ∷ []) (seen (tree_of self.now).graph.nodes of) }
     {
         match step {
             Step::Field(n) => self.push_member_step(out, n, of),
@@ -123,82 +108,55 @@ impl<'a> Program<'a> {
     }
 
     /// Appends a step to a member. The answer is the member's type.
-    fn push_member_step(
-        &self,
-        out: &mut Sink,
-        n: u32,
-        of: Option<TypeId>,
-    ) -> Result<Option<TypeId>, AllocError>
-        ensures text { OnOk result (out.new ≡ puts out.old (path_tokens (tree_of self.now) (ToField n ∷ []) (seen (tree_of self.now).graph.nodes of))) }
-        ensures leads { IfOk result (λ t. seen (tree_of self.now).graph.nodes t ≡ path_type (tree_of self.now) (ToField n ∷ []) (seen (tree_of self.now).graph.nodes of)) }
+    fn push_member_step(&self, out: &mut Sink, n: u32, of: Option<TypeId>) -> Option<TypeId>
+        ensures text { out.new ≡ puts out.old (path_tokens (tree_of self.now) (ToField n ∷ []) (seen (tree_of self.now).graph.nodes of)) }
+        ensures leads { seen (tree_of self.now).graph.nodes result ≡ path_type (tree_of self.now) (ToField n ∷ []) (seen (tree_of self.now).graph.nodes of) }
     {
-        out.token(b".")?;
+        out.token(b".");
         let member = self.member(of, n);
-        out.token(self.name_of(member))?;
-        Ok(type_of_member(member))
+        out.token(self.name_of(member));
+        type_of_member(member)
     }
 
     /// Appends a step to an element. The answer is the element's type.
-    fn push_element_step(
-        &self,
-        out: &mut Sink,
-        n: u64,
-        of: Option<TypeId>,
-    ) -> Result<Option<TypeId>, AllocError>
-        ensures text { OnOk result (out.new ≡ puts out.old (path_tokens (tree_of self.now) (ToIndex n ∷ []) (seen (tree_of self.now).graph.nodes of))) }
-        ensures leads { IfOk result (λ t. seen (tree_of self.now).graph.nodes t ≡ path_type (tree_of self.now) (ToIndex n ∷ []) (seen (tree_of self.now).graph.nodes of)) }
+    fn push_element_step(&self, out: &mut Sink, n: u64, of: Option<TypeId>) -> Option<TypeId>
+        ensures text { out.new ≡ puts out.old (path_tokens (tree_of self.now) (ToIndex n ∷ []) (seen (tree_of self.now).graph.nodes of)) }
+        ensures leads { seen (tree_of self.now).graph.nodes result ≡ path_type (tree_of self.now) (ToIndex n ∷ []) (seen (tree_of self.now).graph.nodes of) }
     {
-        push_subscript(out, n)?;
-        Ok(self.element(of))
+        push_subscript(out, n);
+        self.element(of)
     }
 
     /// Appends a path from a place of a type. The answer is the type of what it leads to.
-    fn push_path(
-        &self,
-        out: &mut Sink,
-        path: &[Step],
-        of: Option<TypeId>,
-    ) -> Result<Option<TypeId>, AllocError>
-        ensures text { OnOk result (out.new ≡ puts out.old (path_tokens (tree_of self.now) (map step_of path.now) (seen (tree_of self.now).graph.nodes of))) }
-        ensures leads { IfOk result (λ t. seen (tree_of self.now).graph.nodes t ≡ path_type (tree_of self.now) (map step_of path.now) (seen (tree_of self.now).graph.nodes of)) }
+    fn push_path(&self, out: &mut Sink, path: &[Step], of: Option<TypeId>) -> Option<TypeId>
+        ensures text { out.new ≡ puts out.old (path_tokens (tree_of self.now) (map step_of path.now) (seen (tree_of self.now).graph.nodes of)) }
+        ensures leads { seen (tree_of self.now).graph.nodes result ≡ path_type (tree_of self.now) (map step_of path.now) (seen (tree_of self.now).graph.nodes of) }
     {
         let mut t = of;
         for i in 0..path.len() {
-            t = self.push_step(out, path[i], t)?;
+            t = self.push_step(out, path[i], t);
         }
-        Ok(t)
+        t
     }
 
     /// Appends one scalar of an image, behind its path and a sign.
     #[tactic(auto, using(crate::proofs::ImageTokens::item_pushed))]
-    fn push_item(
-        &self,
-        out: &mut Sink,
-        of: Option<TypeId>,
-        item: &ImageItem,
-    ) -> Result<(), AllocError>
-        ensures { OnOk result (out.new ≡ puts out.old (item_tokens (tree_of self.now) (seen (tree_of self.now).graph.nodes of) (item_of item.now))) }
+    fn push_item(&self, out: &mut Sink, of: Option<TypeId>, item: &ImageItem)
+        ensures { out.new ≡ puts out.old (item_tokens (tree_of self.now) (seen (tree_of self.now).graph.nodes of) (item_of item.now)) }
     {
-        let t = self.push_path(out, &item.path, of)?;
-        out.token(b"=")?;
-        self.push_scalar(out, t, item.value)?;
-        Ok(())
+        let t = self.push_path(out, &item.path, of);
+        out.token(b"=");
+        self.push_scalar(out, t, item.value);
     }
 
     /// Appends items, each behind a comma.
-    fn push_following_items(
-        &self,
-        out: &mut Sink,
-        of: Option<TypeId>,
-        items: &[ImageItem],
-    ) -> Result<(), AllocError>
-        ensures { OnOk result (out.new ≡ puts out.old (following (item_parts (tree_of self.now) (seen (tree_of self.now).graph.nodes of) items.now))) }
+    fn push_following_items(&self, out: &mut Sink, of: Option<TypeId>, items: &[ImageItem])
+        ensures { out.new ≡ puts out.old (following (item_parts (tree_of self.now) (seen (tree_of self.now).graph.nodes of) items.now)) }
     {
         for i in 0..items.len() {
-            out.token(b",")?;
-            self.push_item(out, of, &items[i])?;
+            out.token(b",");
+            self.push_item(out, of, &items[i]);
         }
-        Ok(())
     }
 
     /// Appends the first item and those that follow it.
@@ -209,25 +167,19 @@ impl<'a> Program<'a> {
         of: Option<TypeId>,
         first: &ImageItem,
         rest: &[ImageItem],
-    ) -> Result<(), AllocError>
-        ensures { OnOk result (out.new ≡ puts out.old (items_tokens (tree_of self.now) (seen (tree_of self.now).graph.nodes of) (map item_of (first.now ∷ rest.now)))) }
+    )
+        ensures { out.new ≡ puts out.old (items_tokens (tree_of self.now) (seen (tree_of self.now).graph.nodes of) (map item_of (first.now ∷ rest.now))) }
     {
-        self.push_item(out, of, first)?;
-        self.push_following_items(out, of, rest)?;
-        Ok(())
+        self.push_item(out, of, first);
+        self.push_following_items(out, of, rest);
     }
 
     /// Appends the items of an image.
-    fn push_items(
-        &self,
-        out: &mut Sink,
-        of: Option<TypeId>,
-        items: &[ImageItem],
-    ) -> Result<(), AllocError>
-        ensures { OnOk result (out.new ≡ puts out.old (items_tokens (tree_of self.now) (seen (tree_of self.now).graph.nodes of) (map item_of items.now))) }
+    fn push_items(&self, out: &mut Sink, of: Option<TypeId>, items: &[ImageItem])
+        ensures { out.new ≡ puts out.old (items_tokens (tree_of self.now) (seen (tree_of self.now).graph.nodes of) (map item_of items.now)) }
     {
         match items {
-            [] => Ok(()),
+            [] => {}
             [first, rest @ ..] => self.push_some_items(out, of, first, rest),
         }
     }
@@ -256,45 +208,29 @@ impl<'a> Program<'a> {
     }
 
     /// Appends the one constant of a scalar object.
-    fn push_scalar_image(
-        &self,
-        out: &mut Sink,
-        of: Option<TypeId>,
-        items: &[ImageItem],
-    ) -> Result<(), AllocError>
-        ensures { OnOk result (out.new ≡ puts out.old (scalar_tokens (tree_of self.now) (seen (tree_of self.now).graph.nodes of) (map item_of items.now))) }
+    fn push_scalar_image(&self, out: &mut Sink, of: Option<TypeId>, items: &[ImageItem])
+        ensures { out.new ≡ puts out.old (scalar_tokens (tree_of self.now) (seen (tree_of self.now).graph.nodes of) (map item_of items.now)) }
     {
         match items {
-            [] => Ok(()),
+            [] => {}
             [first, ..] => self.push_scalar(out, of, first.value),
         }
     }
 
     /// Appends the items of an image in braces (C11 6.7.9).
     #[tactic(auto, using(crate::proofs::Puts::enclosed))]
-    fn push_braced_image(
-        &self,
-        out: &mut Sink,
-        of: Option<TypeId>,
-        items: &[ImageItem],
-    ) -> Result<(), AllocError>
-        ensures { OnOk result (out.new ≡ puts out.old (in_braces (items_tokens (tree_of self.now) (seen (tree_of self.now).graph.nodes of) (map item_of items.now)))) }
+    fn push_braced_image(&self, out: &mut Sink, of: Option<TypeId>, items: &[ImageItem])
+        ensures { out.new ≡ puts out.old (in_braces (items_tokens (tree_of self.now) (seen (tree_of self.now).graph.nodes of) (map item_of items.now))) }
     {
-        out.token(b"{")?;
-        self.push_items(out, of, items)?;
-        out.token(b"}")?;
-        Ok(())
+        out.token(b"{");
+        self.push_items(out, of, items);
+        out.token(b"}");
     }
 
     /// Appends the initial value of an object of a type.
     #[tactic(auto, using(crate::proofs::ItemLists::scalar_image, crate::proofs::ItemLists::braced_image))]
-    pub(crate) fn push_image(
-        &self,
-        out: &mut Sink,
-        of: Option<TypeId>,
-        items: &[ImageItem],
-    ) -> Result<(), AllocError>
-        ensures { OnOk result (out.new ≡ puts out.old (image_tokens (tree_of self.now) (seen (tree_of self.now).graph.nodes of) (map item_of items.now))) }
+    pub(crate) fn push_image(&self, out: &mut Sink, of: Option<TypeId>, items: &[ImageItem])
+        ensures { out.new ≡ puts out.old (image_tokens (tree_of self.now) (seen (tree_of self.now).graph.nodes of) (map item_of items.now)) }
     {
         if self.is_scalar(of) {
             self.push_scalar_image(out, of, items)
@@ -316,23 +252,21 @@ pub(crate) fn is_enum(kind: AggKind) -> bool
 
 /// Appends an element's number in brackets.
 #[tactic(auto, using(crate::proofs::Puts::enclosed))]
-fn push_subscript(out: &mut Sink, n: u64) -> Result<(), AllocError>
-    ensures { OnOk result (out.new ≡ puts out.old (in_brackets (decimal n ∷ []))) }
+fn push_subscript(out: &mut Sink, n: u64)
+    ensures { out.new ≡ puts out.old (in_brackets (decimal n ∷ [])) }
 {
-    out.token(b"[")?;
-    push_decimal(out, n)?;
-    out.token(b"]")?;
-    Ok(())
+    out.token(b"[");
+    push_decimal(out, n);
+    out.token(b"]");
 }
 
 /// Appends the words of the pointer to a byte of an object.
 #[tactic(auto, using(crate::proofs::ImageTokens::char_pointer))]
-fn push_char_pointer(out: &mut Sink) -> Result<(), AllocError>
-    ensures { OnOk result (out.new ≡ puts out.old (in_parentheses (codes "char" ∷ codes "*" ∷ []))) }
+fn push_char_pointer(out: &mut Sink)
+    ensures { out.new ≡ puts out.old (in_parentheses (codes "char" ∷ codes "*" ∷ [])) }
 {
-    out.token(b"(")?;
-    out.token(b"char")?;
-    out.token(b"*")?;
-    out.token(b")")?;
-    Ok(())
+    out.token(b"(");
+    out.token(b"char");
+    out.token(b"*");
+    out.token(b")");
 }

@@ -1,4 +1,4 @@
-ghost use Rattle.std.specs.Prelude.{◌≡◌, [], ◌∷◌, ◌++◌, Option, Some, None, is_some, map, true, IfOk, OnOk, codes};
+ghost use Rattle.std.specs.Prelude.{◌≡◌, [], ◌∷◌, ◌++◌, Option, Some, None, is_some, map, true, codes};
 ghost use Rattle.std.specs.Option.{option_map, option_and_then};
 ghost use Rattle.cil_tree.specs.Tree.{Set, Zero};
 ghost use Rattle.cil_tree.specs.View.{exp_of, lval_of, callee_of, instr_of};
@@ -15,173 +15,152 @@ use crate::numbers::push_digits;
 use crate::sink::Sink;
 use cil_base::TypeId;
 use cil_tree::{Callee, Exp, Instr, Lval};
-use std::alloc::AllocError;
 
 impl<'a> Function<'a> {
     /// Appends a call's arguments, each behind a comma.
-    fn push_following_arguments(&self, out: &mut Sink, arguments: &[Exp]) -> Result<(), AllocError>
+    fn push_following_arguments(&self, out: &mut Sink, arguments: &[Exp])
         requires { are_typed (scope_in self.now) (map (exp_of (nodes_in self.now)) arguments.now) ≡ true }
-        ensures { OnOk result (out.new ≡ puts out.old (following (exp_parts (scope_in self.now) (nodes_in self.now) arguments.now))) }
+        ensures { out.new ≡ puts out.old (following (exp_parts (scope_in self.now) (nodes_in self.now) arguments.now)) }
     {
         for i in 0..arguments.len() {
-            out.token(b",")?;
-            self.push_expression(out, &arguments[i])?;
+            out.token(b",");
+            self.push_expression(out, &arguments[i]);
         }
-        Ok(())
     }
 
     /// Appends a call's first argument and those that follow it.
     #[tactic(auto, using(crate::proofs::Calls::arguments_pushed))]
-    fn push_some_arguments(
-        &self,
-        out: &mut Sink,
-        first: &Exp,
-        rest: &[Exp],
-    ) -> Result<(), AllocError>
+    fn push_some_arguments(&self, out: &mut Sink, first: &Exp, rest: &[Exp])
         requires first { is_some (type_of (scope_in self.now) (exp_of (nodes_in self.now) first.now)) ≡ true }
         requires rest { are_typed (scope_in self.now) (map (exp_of (nodes_in self.now)) rest.now) ≡ true }
-        ensures { OnOk result (out.new ≡ puts out.old (argument_tokens (scope_in self.now) (map (exp_of (nodes_in self.now)) (first.now ∷ rest.now)))) }
+        ensures { out.new ≡ puts out.old (argument_tokens (scope_in self.now) (map (exp_of (nodes_in self.now)) (first.now ∷ rest.now))) }
     {
-        self.push_expression(out, first)?;
-        self.push_following_arguments(out, rest)?;
-        Ok(())
+        self.push_expression(out, first);
+        self.push_following_arguments(out, rest);
     }
 
     /// Appends a call's arguments.
     #[tactic(auto, using(crate::proofs::Calls::no_arguments, crate::proofs::Calls::first_typed, crate::proofs::Calls::rest_typed))]
-    fn push_arguments(&self, out: &mut Sink, arguments: &[Exp]) -> Result<(), AllocError>
+    fn push_arguments(&self, out: &mut Sink, arguments: &[Exp])
         requires { are_typed (scope_in self.now) (map (exp_of (nodes_in self.now)) arguments.now) ≡ true }
-        ensures { OnOk result (out.new ≡ puts out.old (argument_tokens (scope_in self.now) (map (exp_of (nodes_in self.now)) arguments.now))) }
+        ensures { out.new ≡ puts out.old (argument_tokens (scope_in self.now) (map (exp_of (nodes_in self.now)) arguments.now)) }
     {
         match arguments {
-            [] => Ok(()),
+            [] => {}
             [first, rest @ ..] => self.push_some_arguments(out, first, rest),
         }
     }
 
     /// Appends a call's arguments in parentheses (C11 6.5.2.2).
     #[tactic(auto, using(crate::proofs::Puts::enclosed))]
-    fn push_argument_list(&self, out: &mut Sink, arguments: &[Exp]) -> Result<(), AllocError>
+    fn push_argument_list(&self, out: &mut Sink, arguments: &[Exp])
         requires { are_typed (scope_in self.now) (map (exp_of (nodes_in self.now)) arguments.now) ≡ true }
-        ensures { OnOk result (out.new ≡ puts out.old (in_parentheses (argument_tokens (scope_in self.now) (map (exp_of (nodes_in self.now)) arguments.now)))) }
+        ensures { out.new ≡ puts out.old (in_parentheses (argument_tokens (scope_in self.now) (map (exp_of (nodes_in self.now)) arguments.now))) }
     {
-        out.token(b"(")?;
-        self.push_arguments(out, arguments)?;
-        out.token(b")")?;
-        Ok(())
+        out.token(b"(");
+        self.push_arguments(out, arguments);
+        out.token(b")");
     }
 
     /// Appends what a call calls.
-    fn push_callee(&self, out: &mut Sink, callee: &Callee) -> Result<(), AllocError>
+    fn push_callee(&self, out: &mut Sink, callee: &Callee)
         requires { callee_is_typed (scope_in self.now) (callee_of (nodes_in self.now) callee.now) ≡ true }
-        ensures { OnOk result (out.new ≡ puts out.old (callee_tokens (scope_in self.now) (callee_of (nodes_in self.now) callee.now))) }
+        ensures { out.new ≡ puts out.old (callee_tokens (scope_in self.now) (callee_of (nodes_in self.now) callee.now)) }
     {
         match callee {
             Callee::Direct(e) => out.token(self.program.global_name(*e)),
             Callee::Through(pointer) => {
-                self.push_pointed(out, pointer)?;
-                Ok(())
+                self.push_pointed(out, pointer);
             }
         }
     }
 
     /// Appends a place and the sign of an assignment to it (C11 6.5.16.1).
     #[tactic(auto, using(crate::proofs::Puts::two_pushed))]
-    fn push_target(&self, out: &mut Sink, place: &Lval) -> Result<(), AllocError>
+    fn push_target(&self, out: &mut Sink, place: &Lval)
         requires { is_some (place_type (scope_in self.now) (lval_of (nodes_in self.now) place.now)) ≡ true }
-        ensures { OnOk result (out.new ≡ puts out.old (place_tokens (scope_in self.now) (lval_of (nodes_in self.now) place.now) ++ codes "=" ∷ [])) }
+        ensures { out.new ≡ puts out.old (place_tokens (scope_in self.now) (lval_of (nodes_in self.now) place.now) ++ codes "=" ∷ []) }
     {
-        self.push_place(out, place)?;
-        out.token(b"=")?;
-        Ok(())
+        self.push_place(out, place);
+        out.token(b"=");
     }
 
     /// Appends the place in which a call's result is stored, where there is one.
     #[tactic(auto, using(crate::proofs::Puts::nothing_pushed))]
-    fn push_result(&self, out: &mut Sink, result_place: &Option<Lval>) -> Result<(), AllocError>
+    fn push_result(&self, out: &mut Sink, result_place: &Option<Lval>)
         requires { result_is_typed (scope_in self.now) (option_map (lval_of (nodes_in self.now)) result_place.now) ≡ true }
-        ensures { OnOk result (out.new ≡ puts out.old (result_tokens (scope_in self.now) (option_map (lval_of (nodes_in self.now)) result_place.now))) }
+        ensures { out.new ≡ puts out.old (result_tokens (scope_in self.now) (option_map (lval_of (nodes_in self.now)) result_place.now)) }
     {
         match result_place {
-            None => Ok(()),
+            None => {}
             Some(place) => self.push_target(out, place),
         }
     }
 
     /// Appends an assignment.
     #[tactic(auto, using(crate::proofs::Calls::set_pushed))]
-    fn push_set(&self, out: &mut Sink, place: &Lval, value: &Exp) -> Result<(), AllocError>
+    fn push_set(&self, out: &mut Sink, place: &Lval, value: &Exp)
         requires place { is_some (place_type (scope_in self.now) (lval_of (nodes_in self.now) place.now)) ≡ true }
         requires value { is_some (type_of (scope_in self.now) (exp_of (nodes_in self.now) value.now)) ≡ true }
-        ensures { OnOk result (out.new ≡ puts out.old (instr_tokens (scope_in self.now) (Set (lval_of (nodes_in self.now) place.now) (exp_of (nodes_in self.now) value.now)))) }
+        ensures { out.new ≡ puts out.old (instr_tokens (scope_in self.now) (Set (lval_of (nodes_in self.now) place.now) (exp_of (nodes_in self.now) value.now))) }
     {
-        self.push_target(out, place)?;
-        self.push_expression(out, value)?;
-        Ok(())
+        self.push_target(out, place);
+        self.push_expression(out, value);
     }
 
     /// Appends a call (C11 6.5.2.2).
     #[tactic(auto, using(crate::proofs::Puts::three_pushed))]
-    fn push_call(
-        &self,
-        out: &mut Sink,
-        place: &Option<Lval>,
-        callee: &Callee,
-        arguments: &[Exp],
-    ) -> Result<(), AllocError>
+    fn push_call(&self, out: &mut Sink, place: &Option<Lval>, callee: &Callee, arguments: &[Exp])
         requires place { result_is_typed (scope_in self.now) (option_map (lval_of (nodes_in self.now)) place.now) ≡ true }
         requires callee { callee_is_typed (scope_in self.now) (callee_of (nodes_in self.now) callee.now) ≡ true }
         requires arguments { are_typed (scope_in self.now) (map (exp_of (nodes_in self.now)) arguments.now) ≡ true }
-        ensures { OnOk result (out.new ≡ puts out.old (result_tokens (scope_in self.now) (option_map (lval_of (nodes_in self.now)) place.now) ++ (callee_tokens (scope_in self.now) (callee_of (nodes_in self.now) callee.now) ++ in_parentheses (argument_tokens (scope_in self.now) (map (exp_of (nodes_in self.now)) arguments.now))))) }
+        ensures { out.new ≡ puts out.old (result_tokens (scope_in self.now) (option_map (lval_of (nodes_in self.now)) place.now) ++ (callee_tokens (scope_in self.now) (callee_of (nodes_in self.now) callee.now) ++ in_parentheses (argument_tokens (scope_in self.now) (map (exp_of (nodes_in self.now)) arguments.now)))) }
     {
-        self.push_result(out, place)?;
-        self.push_callee(out, callee)?;
-        self.push_argument_list(out, arguments)?;
-        Ok(())
+        self.push_result(out, place);
+        self.push_callee(out, callee);
+        self.push_argument_list(out, arguments);
     }
 
     /// Appends an object's size in bytes as a number of type unsigned long (C11 6.5.3.4), where its type is complete.
     #[tactic(auto, using(crate::proofs::Calls::size_pushed, crate::proofs::Calls::no_size))]
-    fn push_size(&self, out: &mut Sink, of: Option<TypeId>) -> Result<(), AllocError>
-        ensures { OnOk result (out.new ≡ puts out.old (size_tokens (scope_in self.now) (seen (nodes_in self.now) of))) }
+    fn push_size(&self, out: &mut Sink, of: Option<TypeId>)
+        ensures { out.new ≡ puts out.old (size_tokens (scope_in self.now) (seen (nodes_in self.now) of)) }
     {
         match self.program.size(of) {
-            None => Ok(()),
+            None => {}
             Some(n) => push_digits(out, self.program.graph().abi().ulong(), n as u64),
         }
     }
 
     /// Appends the second and third argument of a zero fill.
     #[tactic(auto, using(crate::proofs::Calls::zero_size_pushed))]
-    fn push_zero_size(&self, out: &mut Sink, of: Option<TypeId>) -> Result<(), AllocError>
-        ensures { OnOk result (out.new ≡ puts out.old (codes "," ∷ codes "0" ∷ codes "," ∷ size_tokens (scope_in self.now) (seen (nodes_in self.now) of))) }
+    fn push_zero_size(&self, out: &mut Sink, of: Option<TypeId>)
+        ensures { out.new ≡ puts out.old (codes "," ∷ codes "0" ∷ codes "," ∷ size_tokens (scope_in self.now) (seen (nodes_in self.now) of)) }
     {
-        out.token(b",")?;
-        out.token(b"0")?;
-        out.token(b",")?;
-        self.push_size(out, of)?;
-        Ok(())
+        out.token(b",");
+        out.token(b"0");
+        out.token(b",");
+        self.push_size(out, of);
     }
 
     /// Appends a zero fill: a call of `memset` (C11 7.24.6.1).
     #[tactic(auto, using(crate::proofs::Calls::zero_pushed))]
-    fn push_zero(&self, out: &mut Sink, place: &Lval) -> Result<(), AllocError>
+    fn push_zero(&self, out: &mut Sink, place: &Lval)
         requires { is_some (place_type (scope_in self.now) (lval_of (nodes_in self.now) place.now)) ≡ true }
-        ensures { OnOk result (out.new ≡ puts out.old (instr_tokens (scope_in self.now) (Zero (lval_of (nodes_in self.now) place.now)))) }
+        ensures { out.new ≡ puts out.old (instr_tokens (scope_in self.now) (Zero (lval_of (nodes_in self.now) place.now))) }
     {
-        out.token(b"__builtin_memset")?;
-        out.token(b"(")?;
-        let t = self.push_address(out, place)?;
-        self.push_zero_size(out, t)?;
-        out.token(b")")?;
-        Ok(())
+        out.token(b"__builtin_memset");
+        out.token(b"(");
+        let t = self.push_address(out, place);
+        self.push_zero_size(out, t);
+        out.token(b")");
     }
 
     /// Appends an instruction.
     #[tactic(auto, using(crate::proofs::Calls::both_left, crate::proofs::Calls::both_right))]
-    pub(crate) fn push_instruction(&self, out: &mut Sink, instr: &Instr) -> Result<(), AllocError>
+    pub(crate) fn push_instruction(&self, out: &mut Sink, instr: &Instr)
         requires { instr_is_typed (scope_in self.now) (instr_of (nodes_in self.now) instr.now) ≡ true }
-        ensures { OnOk result (out.new ≡ puts out.old (instr_tokens (scope_in self.now) (instr_of (nodes_in self.now) instr.now))) }
+        ensures { out.new ≡ puts out.old (instr_tokens (scope_in self.now) (instr_of (nodes_in self.now) instr.now)) }
     {
         match instr {
             Instr::Set(place, value) => self.push_set(out, place, value),

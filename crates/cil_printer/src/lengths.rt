@@ -18,34 +18,34 @@ use std::alloc::AllocError;
 impl<'a> Program<'a> {
     /// The number of bytes that a declaration of a type has before what it declares, or the greatest number.
     #[tactic(auto, using(crate::proofs::Counted::tokens_counted, crate::proofs::Counted::tokens_length))]
-    fn length_before(&self, t: TypeId) -> Result<u64, AllocError>
+    fn length_before(&self, t: TypeId) -> u64
         requires { t.0 < length (tree_of self.now).graph.nodes }
-        ensures { IfOk result (λ n. n ≡ capped (length (spaced (before (tree_of self.now) (shape (tree_of self.now).graph.nodes t.0))))) }
+        ensures { result ≡ capped (length (spaced (before (tree_of self.now) (shape (tree_of self.now).graph.nodes t.0)))) }
     {
         let mut out = Sink::counting();
-        self.push_before(&mut out, t)?;
-        Ok(out.length())
+        self.push_before(&mut out, t);
+        out.length()
     }
 
     /// The number of bytes that it has behind.
     #[tactic(auto, using(crate::proofs::Counted::tokens_counted, crate::proofs::Counted::tokens_length))]
-    fn length_behind(&self, t: TypeId) -> Result<u64, AllocError>
+    fn length_behind(&self, t: TypeId) -> u64
         requires { t.0 < length (tree_of self.now).graph.nodes }
-        ensures { IfOk result (λ n. n ≡ capped (length (spaced (after (tree_of self.now) (shape (tree_of self.now).graph.nodes t.0))))) }
+        ensures { result ≡ capped (length (spaced (after (tree_of self.now) (shape (tree_of self.now).graph.nodes t.0)))) }
     {
         let mut out = Sink::counting();
-        self.push_after(&mut out, t)?;
-        Ok(out.length())
+        self.push_after(&mut out, t);
+        out.length()
     }
 
     /// The entry of a type, from those of smaller numbers.
-    fn sides_at(&self, t: TypeId) -> Result<Sides, AllocError>
+    fn sides_at(&self, t: TypeId) -> Sides
         requires { t.0 < length (tree_of self.now).graph.nodes }
-        ensures { IfOk result (λ x. IsSides (tree_of self.now) t.0 x) }
+        ensures { IsSides (tree_of self.now) t.0 result }
     {
-        let before = self.length_before(t)?;
-        let behind = self.length_behind(t)?;
-        Ok(Sides { before, behind })
+        let before = self.length_before(t);
+        let behind = self.length_behind(t);
+        Sides { before, behind }
     }
 }
 
@@ -56,11 +56,11 @@ fn next_sides(
     layouts: &Layouts,
     sides: &[Sides],
     t: TypeId,
-) -> Result<Sides, AllocError>
+) -> Sides
     requires step { InStep layouts.now unit.now.graph }
     requires known { AreSides sides.now (program_of names.now unit.now) }
     requires there { t.0 < length unit.now.graph.nodes }
-    ensures { IfOk result (λ x. IsSides (program_of names.now unit.now) t.0 x) }
+    ensures { IsSides (program_of names.now unit.now) t.0 result }
 {
     let program = Program {
         unit,
@@ -84,7 +84,7 @@ pub(crate) fn all_sides(
 {
     let mut sides = Vec::with_capacity(unit.graph.alloc(), unit.graph.len() as usize)?;
     for t in 0..unit.graph.len() {
-        let next = next_sides(unit, names, layouts, &sides, TypeId(t))?;
+        let next = next_sides(unit, names, layouts, &sides, TypeId(t));
         sides.push(next)?;
     }
     Ok(sides)

@@ -22,6 +22,7 @@ mod instructions;
 mod lengths;
 mod lookups;
 mod numbers;
+mod page;
 mod parts;
 mod printing;
 mod program;

@@ -1,4 +1,4 @@
-ghost use Rattle.std.specs.Prelude.{◌≡◌, length, IfOk, MatchResult};
+ghost use Rattle.std.specs.Prelude.{◌≡◌, ◌≤◌, length as length_of, IfOk, MatchResult};
 ghost use Rattle.layout_lp64.specs.Tables.{InStep};
 ghost use Rattle.cil_tree.specs.View.{program_of};
 ghost use Rattle.cil_tree.specs.WellFormedTypes.{TypesAreSmall};
@@ -69,22 +69,24 @@ fn layouts_of(alloc: Global, g: &TypeGraph) -> Result<Layouts, Memory>
 
 impl<'a> Program<'a> {
     /// The number of bytes of the text, or the greatest number.
-    fn text_length(&self) -> Result<u64, Memory>
+    fn text_length(&self) -> u64
         requires { IsProgram (tree_of self.now) }
-        ensures { IfOk result (λ n. n ≡ capped (length (Text (tree_of self.now)))) }
+        ensures { result ≡ capped (length_of (Text (tree_of self.now))) }
     {
         let mut out = Sink::counting();
-        self.push_program(&mut out)?;
-        Ok(out.length())
+        self.push_program(&mut out);
+        out.length()
     }
 
     /// The text, which has so many bytes.
     fn text(&self, length: u64) -> Result<Bytes, Memory>
-        requires { IsProgram (tree_of self.now) }
+        requires program { IsProgram (tree_of self.now) }
+        requires counted { length ≡ capped (length_of (Text (tree_of self.now))) }
+        requires short { length ≤ 268435456 }
         ensures { IfOk result (λ b. b ≡ Text (tree_of self.now)) }
     {
         let mut out = Sink::keeping(self.graph().alloc(), length as usize)?;
-        self.push_program(&mut out)?;
+        self.push_program(&mut out);
         Ok(Bytes::new(out.into_bytes()))
     }
 
@@ -94,7 +96,7 @@ impl<'a> Program<'a> {
         requires { IsProgram (tree_of self.now) }
         ensures { MatchResult result (λ b. IsTextOf b (tree_of self.now)) (λ e. StopsAt (tree_of self.now) e) }
     {
-        let length = self.text_length()?;
+        let length = self.text_length();
         if length > LONGEST {
             return Err(PrintStop::TooLong);
         }

@@ -1,7 +1,7 @@
-ghost use Rattle.std.specs.Prelude.{◌≡◌, ◌∷◌, [], ◌++◌, ◌*◌, replicate, length as length_of, true, false, List, ℕ, IfOk, OnOk};
-ghost use Rattle.cil_printer.specs.Output.{Output, Counted, Written, put, puts, counts, capped};
+ghost use Rattle.std.specs.Prelude.{◌≡◌, ◌∷◌, [], ◌++◌, ◌*◌, replicate, length as length_of, true, false, List, ℕ, IfOk};
+ghost use Rattle.cil_printer.specs.Output.{Output, Counted, Written, put, puts, counts, capped, text_of};
 
-use cil_base::Bytes;
+use crate::page::Page;
 use std::alloc::{AllocError, Global};
 use std::marker::Model;
 
@@ -10,11 +10,12 @@ use std::marker::Model;
 enum Kept {
     /// It counts them. The number is theirs, or the greatest number.
     Length(u64),
-    /// It keeps them.
-    Text(Vec<u8>),
+    /// It keeps those for which there is room.
+    Text(Page),
 }
 
-/// Where a text goes: its bytes are counted or kept.
+/// Where a text goes: its bytes are counted or kept. No call fails: the room of what is kept is taken when the sink is
+/// made, and what would not fit is left out.
 #[derive(Drop)]
 pub(crate) struct Sink {
     kept: Kept,
@@ -40,10 +41,11 @@ impl Sink {
 
     /// A sink that keeps bytes, with room for so many.
     pub(crate) fn keeping(alloc: Global, room: usize) -> Result<Self, AllocError>
-        ensures { IfOk result (λ s. s ≡ Written []) }
+        ensures { IfOk result (λ s. s ≡ Written room []) }
     {
+        let page = Page::new(alloc, room)?;
         Ok(Sink {
-            kept: Kept::Text(Vec::with_capacity(alloc, room)?),
+            kept: Kept::Text(page),
         })
     }
 
@@ -70,57 +72,51 @@ impl Sink {
 
     /// Appends bytes.
     #[tactic(auto, using(crate::proofs::Puts::put_counted, crate::proofs::Puts::put_written))]
-    pub(crate) fn push(&mut self, bytes: &[u8]) -> Result<(), AllocError>
-        ensures { OnOk result (self.new ≡ put self.old bytes.now) }
+    pub(crate) fn push(&mut self, bytes: &[u8])
+        ensures { self.new ≡ put self.old bytes.now }
     {
         match &mut self.kept {
-            Kept::Length(length) => {
-                *length = length.saturating_add(bytes.len() as u64);
-            }
-            Kept::Text(text) => text.extend_from_slice(bytes)?,
+            Kept::Length(length) => *length = length.saturating_add(bytes.len() as u64),
+            Kept::Text(page) => page.append(bytes),
         }
-        Ok(())
     }
 
     /// Appends a token and a blank.
     #[tactic(auto, using(crate::proofs::Puts::token_pushed))]
-    pub(crate) fn token(&mut self, token: &[u8]) -> Result<(), AllocError>
-        ensures { OnOk result (self.new ≡ puts self.old (token.now ∷ [])) }
+    pub(crate) fn token(&mut self, token: &[u8])
+        ensures { self.new ≡ puts self.old (token.now ∷ []) }
     {
-        self.push(token)?;
-        self.push(b" ")?;
-        Ok(())
+        self.push(token);
+        self.push(b" ");
     }
 
     /// Appends the indentation of a line in so many braces: two blanks for each.
-    pub(crate) fn indent(&mut self, depth: u32) -> Result<(), AllocError>
-        ensures { OnOk result (self.new ≡ put self.old (replicate (2 * depth) 32)) }
+    pub(crate) fn indent(&mut self, depth: u64)
+        ensures { self.new ≡ put self.old (replicate (2 * depth) 32) }
     {
         if self.is_counting() {
-            self.add(u64::from(depth) * 2);
-            return Ok(());
+            self.add(depth.saturating_mul(2));
+        } else {
+            self.push_indentation(depth);
         }
-        self.push_indentation(depth)
     }
 
     /// Appends two blanks for each brace.
-    fn push_indentation(&mut self, depth: u32) -> Result<(), AllocError>
-        ensures { OnOk result (self.new ≡ put self.old (replicate (2 * depth) 32)) }
+    fn push_indentation(&mut self, depth: u64)
+        ensures { self.new ≡ put self.old (replicate (2 * depth) 32) }
     {
         for _i in 0..depth {
-            self.push(b"  ")?;
+            self.push(b"  ");
         }
-        Ok(())
     }
 
     /// Appends a line's last token and a line feed.
     #[tactic(auto, using(crate::proofs::Puts::end_pushed))]
-    pub(crate) fn end(&mut self, token: &[u8]) -> Result<(), AllocError>
-        ensures { OnOk result (self.new ≡ put self.old (token.now ++ 10 ∷ [])) }
+    pub(crate) fn end(&mut self, token: &[u8])
+        ensures { self.new ≡ put self.old (token.now ++ 10 ∷ []) }
     {
-        self.push(token)?;
-        self.push(b"\n")?;
-        Ok(())
+        self.push(token);
+        self.push(b"\n");
     }
 
     /// The number of bytes that were counted, or the greatest number.
@@ -137,11 +133,11 @@ impl Sink {
     /// The bytes that were kept.
     pub(crate) fn into_bytes(self) -> Vec<u8>
         requires { counts self ≡ false }
-        ensures { self ≡ Written result.items }
+        ensures { text_of self ≡ result.items }
     {
         match self.kept {
             Kept::Length(_) => unreachable!(),
-            Kept::Text(text) => text,
+            Kept::Text(page) => page.bytes,
         }
     }
 }

@@ -1,4 +1,4 @@
-ghost use Rattle.std.specs.Prelude.{◌≡◌, ◌<◌, ◌||◌, List, [], ◌∷◌, ◌++◌, length, true, false, IfSome, OnOk, codes, decimal};
+ghost use Rattle.std.specs.Prelude.{◌≡◌, ◌<◌, ◌||◌, List, [], ◌∷◌, ◌++◌, length, true, false, IfSome, codes, decimal};
 ghost use Rattle.type_graph.specs.Shapes.{shape, shapes_of};
 ghost use Rattle.type_graph.specs.Arena.{EachType};
 ghost use Rattle.cil_tree.specs.Declarators.{keyword_of, tag_text, tagged, aggregate_words, kind_words, bound_tokens, in_parentheses, listed, all_declared, declared, ended};
@@ -12,7 +12,6 @@ use crate::sides::Sides;
 use crate::sink::Sink;
 use cil_base::{AggId, IntKind, TypeId};
 use itoa::Buffer;
-use std::alloc::AllocError;
 use type_graph::{AggKind, Aggregate, Node};
 
 /// The keyword of a struct, union or enum (C11 6.7.2.1, 6.7.2.2).
@@ -28,16 +27,15 @@ fn keyword(kind: AggKind) -> &'static [u8]
 
 /// Appends the words of an integer type (C11 6.7.2p2).
 #[tactic(auto, using(crate::proofs::Declarations::kind_pushed))]
-fn push_kind(out: &mut Sink, kind: IntKind) -> Result<(), AllocError>
-    ensures { OnOk result (out.new ≡ puts out.old (kind_words kind)) }
+fn push_kind(out: &mut Sink, kind: IntKind)
+    ensures { out.new ≡ puts out.old (kind_words kind) }
 {
-    out.token(kind.words().as_bytes())?;
-    Ok(())
+    out.token(kind.words().as_bytes());
 }
 
 /// Appends a decimal number.
-pub(crate) fn push_decimal(out: &mut Sink, n: u64) -> Result<(), AllocError>
-    ensures { OnOk result (out.new ≡ puts out.old (decimal n ∷ [])) }
+pub(crate) fn push_decimal(out: &mut Sink, n: u64)
+    ensures { out.new ≡ puts out.old (decimal n ∷ []) }
 {
     let mut buffer = Buffer::new();
     out.token(buffer.format(n).as_bytes())
@@ -45,42 +43,42 @@ pub(crate) fn push_decimal(out: &mut Sink, n: u64) -> Result<(), AllocError>
 
 /// Appends an array's bound, where it is known.
 #[tactic(auto, using(crate::proofs::Declarations::no_bound))]
-fn push_bound(out: &mut Sink, bound: Option<u64>) -> Result<(), AllocError>
-    ensures { OnOk result (out.new ≡ puts out.old (bound_tokens bound)) }
+fn push_bound(out: &mut Sink, bound: Option<u64>)
+    ensures { out.new ≡ puts out.old (bound_tokens bound) }
 {
     match bound {
-        None => Ok(()),
+        None => {}
         Some(n) => push_decimal(out, n),
     }
 }
 
 /// Appends an array's brackets with its bound (C11 6.7.6.2).
 #[tactic(auto, using(crate::proofs::Puts::enclosed))]
-fn push_brackets(out: &mut Sink, bound: Option<u64>) -> Result<(), AllocError>
-    ensures { OnOk result (out.new ≡ puts out.old (in_brackets (bound_tokens bound))) }
+fn push_brackets(out: &mut Sink, bound: Option<u64>)
+    ensures { out.new ≡ puts out.old (in_brackets (bound_tokens bound)) }
 {
-    out.token(b"[")?;
-    push_bound(out, bound)?;
-    out.token(b"]")?;
-    Ok(())
+    out.token(b"[");
+    push_bound(out, bound);
+    out.token(b"]");
 }
 
 /// Appends what ends the parameters of a function that takes more arguments (C11 6.7.6.3p9).
 #[tactic(auto, using(crate::proofs::Puts::pair_pushed))]
-fn push_dots(out: &mut Sink) -> Result<(), AllocError>
-    ensures { OnOk result (out.new ≡ puts out.old (codes "," ∷ codes "..." ∷ [])) }
+fn push_dots(out: &mut Sink)
+    ensures { out.new ≡ puts out.old (codes "," ∷ codes "..." ∷ []) }
 {
-    out.token(b",")?;
-    out.token(b"...")?;
-    Ok(())
+    out.token(b",");
+    out.token(b"...");
 }
 
 /// Appends the end of a list of parameters.
 #[tactic(auto, using(crate::proofs::Declarations::no_dots))]
-pub(crate) fn push_end(out: &mut Sink, variadic: bool) -> Result<(), AllocError>
-    ensures { OnOk result (out.new ≡ puts out.old (ended variadic [])) }
+pub(crate) fn push_end(out: &mut Sink, variadic: bool)
+    ensures { out.new ≡ puts out.old (ended variadic []) }
 {
-    if variadic { push_dots(out) } else { Ok(()) }
+    if variadic {
+        push_dots(out);
+    }
 }
 
 /// The parameters of a function type, each of which has a smaller number, and whether they are a prototype's.
@@ -94,12 +92,11 @@ pub(crate) struct Prototype<'a> {
 
 /// Appends the `*` of a pointer to an array or a function.
 #[tactic(auto, using(crate::proofs::Puts::pair_pushed))]
-fn push_group(out: &mut Sink) -> Result<(), AllocError>
-    ensures { OnOk result (out.new ≡ puts out.old (codes "(" ∷ codes "*" ∷ [])) }
+fn push_group(out: &mut Sink)
+    ensures { out.new ≡ puts out.old (codes "(" ∷ codes "*" ∷ []) }
 {
-    out.token(b"(")?;
-    out.token(b"*")?;
-    Ok(())
+    out.token(b"(");
+    out.token(b"*");
 }
 
 impl<'a> Program<'a> {
@@ -116,17 +113,16 @@ impl<'a> Program<'a> {
 
     /// Appends a tag with its keyword (C11 6.7.2.3).
     #[tactic(auto, using(crate::proofs::Puts::pair_pushed))]
-    pub(crate) fn push_tagged(&self, out: &mut Sink, x: &Aggregate) -> Result<(), AllocError>
-        ensures { OnOk result (out.new ≡ puts out.old (tagged (tree_of self.now) x.now)) }
+    pub(crate) fn push_tagged(&self, out: &mut Sink, x: &Aggregate)
+        ensures { out.new ≡ puts out.old (tagged (tree_of self.now) x.now) }
     {
-        out.token(keyword(x.kind))?;
-        self.push_tag(out, x)?;
-        Ok(())
+        out.token(keyword(x.kind));
+        self.push_tag(out, x);
     }
 
     /// Appends a tag.
-    fn push_tag(&self, out: &mut Sink, x: &Aggregate) -> Result<(), AllocError>
-        ensures { OnOk result (out.new ≡ puts out.old (tag_text (tree_of self.now) x.now ∷ [])) }
+    fn push_tag(&self, out: &mut Sink, x: &Aggregate)
+        ensures { out.new ≡ puts out.old (tag_text (tree_of self.now) x.now ∷ []) }
     {
         match x.tag {
             None => out.token(b""),
@@ -136,12 +132,11 @@ impl<'a> Program<'a> {
 
     /// Appends a struct, union or enum by its tag.
     #[tactic(auto, using(crate::proofs::Declarations::aggregate_at))]
-    fn push_aggregate(&self, out: &mut Sink, a: AggId) -> Result<(), AllocError>
+    fn push_aggregate(&self, out: &mut Sink, a: AggId)
         requires { a.0 < length (tree_of self.now).graph.aggs }
-        ensures { OnOk result (out.new ≡ puts out.old (aggregate_words (tree_of self.now) a.0)) }
+        ensures { out.new ≡ puts out.old (aggregate_words (tree_of self.now) a.0) }
     {
-        self.push_tagged(out, self.graph().agg(a))?;
-        Ok(())
+        self.push_tagged(out, self.graph().agg(a));
     }
 
     /// Whether a pointer to the type has its `*` in parentheses.
@@ -157,9 +152,9 @@ impl<'a> Program<'a> {
 
     /// Appends the `*` of a pointer to the type (C11 6.7.6.1).
     #[tactic(auto, using(crate::proofs::Declarations::star_grouped, crate::proofs::Declarations::star_alone))]
-    fn push_star(&self, out: &mut Sink, t: TypeId) -> Result<(), AllocError>
+    fn push_star(&self, out: &mut Sink, t: TypeId)
         requires { t.0 < length (tree_of self.now).graph.nodes }
-        ensures { OnOk result (out.new ≡ puts out.old (star (shape (tree_of self.now).graph.nodes t.0))) }
+        ensures { out.new ≡ puts out.old (star (shape (tree_of self.now).graph.nodes t.0)) }
     {
         if self.is_grouped(t) {
             push_group(out)
@@ -170,29 +165,24 @@ impl<'a> Program<'a> {
 
     /// Appends what ends the group of a pointer's `*`.
     #[tactic(auto, using(crate::proofs::Declarations::end_grouped, crate::proofs::Declarations::end_alone, crate::proofs::Puts::nothing_pushed))]
-    fn push_star_end(&self, out: &mut Sink, t: TypeId) -> Result<(), AllocError>
+    fn push_star_end(&self, out: &mut Sink, t: TypeId)
         requires { t.0 < length (tree_of self.now).graph.nodes }
-        ensures { OnOk result (out.new ≡ puts out.old (star_end (shape (tree_of self.now).graph.nodes t.0))) }
+        ensures { out.new ≡ puts out.old (star_end (shape (tree_of self.now).graph.nodes t.0)) }
     {
         if self.is_grouped(t) {
-            out.token(b")")
-        } else {
-            Ok(())
+            out.token(b")");
         }
     }
 
     /// Appends what a declaration of the type has before what it declares. Where bytes are counted, an entry of the
     /// table says how many there are.
     #[cycle(before)]
-    pub(crate) fn push_before(&self, out: &mut Sink, t: TypeId) -> Result<(), AllocError>
+    pub(crate) fn push_before(&self, out: &mut Sink, t: TypeId)
         requires { t.0 < length (tree_of self.now).graph.nodes }
-        ensures { OnOk result (out.new ≡ puts out.old (before (tree_of self.now) (shape (tree_of self.now).graph.nodes t.0))) }
+        ensures { out.new ≡ puts out.old (before (tree_of self.now) (shape (tree_of self.now).graph.nodes t.0)) }
     {
         match self.entry(out, t) {
-            Some(entry) => {
-                out.add(entry.before);
-                Ok(())
-            }
+            Some(entry) => out.add(entry.before),
             None => self.write_before(out, t),
         }
     }
@@ -200,17 +190,16 @@ impl<'a> Program<'a> {
     /// Appends the tokens before what is declared.
     #[cycle(before)]
     #[tactic(auto, using(crate::proofs::Puts::two_pushed))]
-    fn write_before(&self, out: &mut Sink, t: TypeId) -> Result<(), AllocError>
+    fn write_before(&self, out: &mut Sink, t: TypeId)
         requires { t.0 < length (tree_of self.now).graph.nodes }
-        ensures { OnOk result (out.new ≡ puts out.old (before (tree_of self.now) (shape (tree_of self.now).graph.nodes t.0))) }
+        ensures { out.new ≡ puts out.old (before (tree_of self.now) (shape (tree_of self.now).graph.nodes t.0)) }
     {
         match self.graph().node(t) {
             Node::Void => out.token(b"void"),
             Node::Int(kind) => push_kind(out, *kind),
             Node::Ptr(q) => {
-                self.push_before(out, q.of)?;
-                self.push_star(out, q.of)?;
-                Ok(())
+                self.push_before(out, q.of);
+                self.push_star(out, q.of);
             }
             Node::Array(q, _) => self.push_before(out, q.of),
             Node::Func { ret, .. } => self.push_before(out, *ret),
@@ -221,15 +210,12 @@ impl<'a> Program<'a> {
     /// Appends what a declaration of the type has behind what it declares. Where bytes are counted, an entry of the
     /// table says how many there are.
     #[cycle(after)]
-    pub(crate) fn push_after(&self, out: &mut Sink, t: TypeId) -> Result<(), AllocError>
+    pub(crate) fn push_after(&self, out: &mut Sink, t: TypeId)
         requires { t.0 < length (tree_of self.now).graph.nodes }
-        ensures { OnOk result (out.new ≡ puts out.old (after (tree_of self.now) (shape (tree_of self.now).graph.nodes t.0))) }
+        ensures { out.new ≡ puts out.old (after (tree_of self.now) (shape (tree_of self.now).graph.nodes t.0)) }
     {
         match self.entry(out, t) {
-            Some(entry) => {
-                out.add(entry.behind);
-                Ok(())
-            }
+            Some(entry) => out.add(entry.behind),
             None => self.write_after(out, t),
         }
     }
@@ -237,21 +223,19 @@ impl<'a> Program<'a> {
     /// Appends the tokens behind what is declared.
     #[cycle(after)]
     #[tactic(auto, using(crate::proofs::Puts::two_pushed, crate::proofs::Puts::nothing_pushed))]
-    fn write_after(&self, out: &mut Sink, t: TypeId) -> Result<(), AllocError>
+    fn write_after(&self, out: &mut Sink, t: TypeId)
         requires { t.0 < length (tree_of self.now).graph.nodes }
-        ensures { OnOk result (out.new ≡ puts out.old (after (tree_of self.now) (shape (tree_of self.now).graph.nodes t.0))) }
+        ensures { out.new ≡ puts out.old (after (tree_of self.now) (shape (tree_of self.now).graph.nodes t.0)) }
     {
         match self.graph().node(t) {
-            Node::Void | Node::Int(_) | Node::Agg(_) => Ok(()),
+            Node::Void | Node::Int(_) | Node::Agg(_) => {}
             Node::Ptr(q) => {
-                self.push_star_end(out, q.of)?;
-                self.push_after(out, q.of)?;
-                Ok(())
+                self.push_star_end(out, q.of);
+                self.push_after(out, q.of);
             }
             Node::Array(q, bound) => {
-                push_brackets(out, *bound)?;
-                self.push_after(out, q.of)?;
-                Ok(())
+                push_brackets(out, *bound);
+                self.push_after(out, q.of);
             }
             Node::Func {
                 ret,
@@ -265,9 +249,8 @@ impl<'a> Program<'a> {
                     proto: *proto,
                     variadic: *variadic,
                 };
-                self.push_parameters(out, list)?;
-                self.push_after(out, *ret)?;
-                Ok(())
+                self.push_parameters(out, list);
+                self.push_after(out, *ret);
             }
         }
     }
@@ -275,26 +258,25 @@ impl<'a> Program<'a> {
     /// Appends a function's parameters in parentheses (C11 6.7.6.3).
     #[cycle(after)]
     #[tactic(auto, using(crate::proofs::Puts::enclosed))]
-    fn push_parameters(&self, out: &mut Sink, list: Prototype) -> Result<(), AllocError>
+    fn push_parameters(&self, out: &mut Sink, list: Prototype)
         requires there { list.of.0 < length (tree_of self.now).graph.nodes }
         requires below { EachType list.of.0 list.params.now }
-        ensures { OnOk result (out.new ≡ puts out.old (in_parentheses (listed list.entry.proto list.entry.variadic (all_declared (tree_of self.now) (shapes_of (shape (tree_of self.now).graph.nodes) list.entry.params.now))))) }
+        ensures { out.new ≡ puts out.old (in_parentheses (listed list.entry.proto list.entry.variadic (all_declared (tree_of self.now) (shapes_of (shape (tree_of self.now).graph.nodes) list.entry.params.now)))) }
     {
-        out.token(b"(")?;
-        self.push_listed(out, list)?;
-        out.token(b")")?;
-        Ok(())
+        out.token(b"(");
+        self.push_listed(out, list);
+        out.token(b")");
     }
 
     /// Appends a function's parameters.
     #[cycle(after)]
-    fn push_listed(&self, out: &mut Sink, list: Prototype) -> Result<(), AllocError>
+    fn push_listed(&self, out: &mut Sink, list: Prototype)
         requires there { list.of.0 < length (tree_of self.now).graph.nodes }
         requires below { EachType list.of.0 list.params.now }
-        ensures { OnOk result (out.new ≡ puts out.old (listed list.entry.proto list.entry.variadic (all_declared (tree_of self.now) (shapes_of (shape (tree_of self.now).graph.nodes) list.entry.params.now)))) }
+        ensures { out.new ≡ puts out.old (listed list.entry.proto list.entry.variadic (all_declared (tree_of self.now) (shapes_of (shape (tree_of self.now).graph.nodes) list.entry.params.now))) }
     {
         if !list.proto {
-            return Ok(());
+            return;
         }
         match list.params {
             [] => out.token(b"void"),
@@ -305,49 +287,39 @@ impl<'a> Program<'a> {
     /// Appends a prototype's parameters, of which there is a first.
     #[cycle(after)]
     #[tactic(auto, using(crate::proofs::Declarations::parameters_pushed))]
-    fn push_types(
-        &self,
-        out: &mut Sink,
-        of: TypeId,
-        first: TypeId,
-        rest: &[TypeId],
-        variadic: bool,
-    ) -> Result<(), AllocError>
+    fn push_types(&self, out: &mut Sink, of: TypeId, first: TypeId, rest: &[TypeId], variadic: bool)
         requires there { of.0 < length (tree_of self.now).graph.nodes }
         requires first { first.0 < of.0 }
         requires below { EachType of.0 rest.now }
-        ensures { OnOk result (out.new ≡ puts out.old (listed true variadic (all_declared (tree_of self.now) (shapes_of (shape (tree_of self.now).graph.nodes) (first ∷ rest.now))))) }
+        ensures { out.new ≡ puts out.old (listed true variadic (all_declared (tree_of self.now) (shapes_of (shape (tree_of self.now).graph.nodes) (first ∷ rest.now)))) }
     {
         let _types = self.graph().len();
-        self.push_type(out, first)?;
-        self.push_following(out, of, rest)?;
-        push_end(out, variadic)?;
-        Ok(())
+        self.push_type(out, first);
+        self.push_following(out, of, rest);
+        push_end(out, variadic);
     }
 
     /// Appends types without names, each behind a comma.
     #[cycle(after)]
-    fn push_following(&self, out: &mut Sink, of: TypeId, rest: &[TypeId]) -> Result<(), AllocError>
+    fn push_following(&self, out: &mut Sink, of: TypeId, rest: &[TypeId])
         requires there { of.0 < length (tree_of self.now).graph.nodes }
         requires below { EachType of.0 rest.now }
-        ensures { OnOk result (out.new ≡ puts out.old (following (type_parts (tree_of self.now) rest.now))) }
+        ensures { out.new ≡ puts out.old (following (type_parts (tree_of self.now) rest.now)) }
     {
         for i in 0..rest.len() {
-            out.token(b",")?;
-            self.push_type(out, rest[i])?;
+            out.token(b",");
+            self.push_type(out, rest[i]);
         }
-        Ok(())
     }
 
     /// Appends a type without a name (C11 6.7.7).
     #[cycle(after)]
     #[tactic(auto, using(crate::proofs::Declarations::type_pushed))]
-    pub(crate) fn push_type(&self, out: &mut Sink, t: TypeId) -> Result<(), AllocError>
+    pub(crate) fn push_type(&self, out: &mut Sink, t: TypeId)
         requires { t.0 < length (tree_of self.now).graph.nodes }
-        ensures { OnOk result (out.new ≡ puts out.old (declared (tree_of self.now) (shape (tree_of self.now).graph.nodes t.0) [])) }
+        ensures { out.new ≡ puts out.old (declared (tree_of self.now) (shape (tree_of self.now).graph.nodes t.0) []) }
     {
-        self.push_before(out, t)?;
-        self.push_after(out, t)?;
-        Ok(())
+        self.push_before(out, t);
+        self.push_after(out, t);
     }
 }

@@ -3,7 +3,7 @@ use cil_base::{Constant, NameId, TypeId};
 use type_graph::TypeGraph;
 
 /// A step of a path from an object to a scalar within it.
-#[derive(Clone, Copy, Debug, PartialEq, Eq)]
+#[derive(Clone, Copy, Debug)]
 pub enum Step {
     /// A member, by its place in its struct or union.
     Field(u32),
@@ -19,7 +19,7 @@ pub struct ImageItem {
 }
 
 /// A parameter, or an object with automatic storage duration.
-#[derive(Clone, Copy, Debug, PartialEq, Eq)]
+#[derive(Clone, Copy)]
 pub struct Local {
     pub name: NameId,
     pub ty: TypeId,

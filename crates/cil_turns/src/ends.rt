@@ -8,7 +8,7 @@ use byte_mem::Value;
 use cil_code::Datum;
 
 /// How a run ended.
-#[derive(Clone, Copy, Debug, PartialEq, Eq)]
+#[derive(Clone, Copy, PartialEq, Eq)]
 pub enum RunEnd {
     /// The program exited, with this status.
     Exited(u8),

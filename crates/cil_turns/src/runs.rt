@@ -55,7 +55,7 @@ pub struct FirstCall {
 }
 
 /// Where a machine stands: at a place of a function's steps, in an activation.
-#[derive(Clone, Copy, Debug, PartialEq, Eq)]
+#[derive(Clone, Copy)]
 pub struct Stand {
     /// The number of the function's entity.
     pub function: usize,
@@ -66,7 +66,7 @@ pub struct Stand {
 }
 
 /// What comes behind a turn of a machine.
-#[derive(Clone, Copy, Debug, PartialEq, Eq)]
+#[derive(Clone, Copy)]
 pub enum Turn {
     /// It stands there.
     On(Stand),

@@ -6,7 +6,7 @@ ghost use Rattle.cil_words.specs.Command.{command_of, command_by_name, merge_of,
 use itoa::Buffer;
 
 /// What the words of the command line ask for.
-#[derive(Clone, Copy, Debug, PartialEq, Eq)]
+#[derive(Clone, Copy)]
 pub enum Command {
     /// `merge [--common] FILE...`: whether tentative definitions of several units are one object, and the position of the first file
     /// among the words, from which all are files.

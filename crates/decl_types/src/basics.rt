@@ -2,7 +2,7 @@ use c_tree::BasicType;
 use cil_base::{Abi, IntKind};
 
 /// The keyword that says what kind of type it is.
-#[derive(Clone, Copy, PartialEq, Eq)]
+#[derive(Clone, Copy)]
 enum Base {
     Void,
     Bool,

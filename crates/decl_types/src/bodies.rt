@@ -15,7 +15,7 @@ use type_graph::{AggKind, Member, Members, QualType, Quals};
 use unit_types::{Class, Types};
 
 /// A step into a struct or union: the member, by its place.
-#[derive(Clone, Copy, Debug, PartialEq, Eq)]
+#[derive(Clone, Copy)]
 pub struct PathStep {
     pub agg: AggId,
     pub index: u32,

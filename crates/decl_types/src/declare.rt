@@ -55,7 +55,7 @@ fn is_incomplete(i: &Item, t: &Types) -> bool {
 }
 
 /// The storage duration and linkage of an object or function that is declared.
-#[derive(Clone, Copy, PartialEq, Eq)]
+#[derive(Clone, Copy)]
 enum Storage {
     /// It has linkage.
     Linked(Linkage),

@@ -2,7 +2,7 @@ use cil_base::{AggId, EntityId, LocalId};
 use type_graph::{AggKind, QualType, Quals};
 
 /// What an ordinary name stands for (C11 6.2.3).
-#[derive(Clone, Copy, Debug, PartialEq, Eq)]
+#[derive(Clone, Copy, PartialEq, Eq)]
 pub enum Declaring {
     /// A typedef name (6.7.8).
     Typedef,
@@ -15,7 +15,7 @@ pub enum Declaring {
 }
 
 /// The linkage of a name (C11 6.2.2).
-#[derive(Clone, Copy, Debug, PartialEq, Eq)]
+#[derive(Clone, Copy, PartialEq, Eq)]
 pub enum Linkage {
     External,
     Internal,
@@ -23,7 +23,7 @@ pub enum Linkage {
 }
 
 /// The visible declaration of an ordinary name.
-#[derive(Clone, Copy, Debug, PartialEq, Eq)]
+#[derive(Clone, Copy, PartialEq, Eq)]
 pub struct Declared {
     pub what: Declaring,
     /// The type that is visible: the composite with the declaration that was visible before, where both have linkage (C11 6.2.7p4).
@@ -54,7 +54,7 @@ pub(crate) struct Tag {
 }
 
 /// What stands behind specifiers (C11 6.7p1).
-#[derive(Clone, Copy, Debug, PartialEq, Eq)]
+#[derive(Clone, Copy, PartialEq, Eq)]
 pub enum Behind {
     /// A declarator, also an abstract one.
     Declarators,
@@ -63,7 +63,7 @@ pub enum Behind {
 }
 
 /// Where a member stands among those of its struct or union: static assertions do not count.
-#[derive(Clone, Copy, Debug, PartialEq, Eq)]
+#[derive(Clone, Copy, PartialEq, Eq)]
 pub enum MemberAt {
     /// In front of another one.
     Inner,
@@ -72,7 +72,7 @@ pub enum MemberAt {
 }
 
 /// The declarator in front of a function's body (C11 6.9.1).
-#[derive(Clone, Copy, Debug, PartialEq, Eq)]
+#[derive(Clone, Copy, PartialEq, Eq)]
 pub enum BodyForm {
     /// The name with a parameter list of its own: each parameter has a name, or there is the lone `void`.
     Prototype,
@@ -87,7 +87,7 @@ pub enum BodyForm {
 }
 
 /// How a name is declared.
-#[derive(Clone, Copy, Debug, PartialEq, Eq)]
+#[derive(Clone, Copy)]
 pub enum Form {
     /// Without an initialiser.
     Plain,

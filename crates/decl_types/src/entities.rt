@@ -11,7 +11,7 @@ use typed_tree::{EntityKind, Ordinary};
 use unit_types::Types;
 
 /// Whether an object or function is defined in the unit (C11 6.7p5, 6.9.2).
-#[derive(Clone, Copy, Debug, PartialEq, Eq)]
+#[derive(Clone, Copy, PartialEq, Eq)]
 pub enum Defined {
     Not,
     /// By tentative definitions alone (6.9.2p2).
@@ -20,7 +20,7 @@ pub enum Defined {
 }
 
 /// An object with static storage duration, or a function.
-#[derive(Clone, Copy, Debug)]
+#[derive(Clone, Copy)]
 pub struct DeclaredEntity {
     /// Its name; the base of made names for a literal.
     pub name: NameId,
@@ -54,7 +54,7 @@ impl DeclaredEntity {
 }
 
 /// A fault that only the end of a unit shows.
-#[derive(Clone, Copy, Debug, PartialEq, Eq)]
+#[derive(Clone, Copy)]
 pub struct LateFault {
     pub entity: EntityId,
     /// `Incomplete` for a tentative definition, whose place is the first one's; `Defined` for a function, whose place is its first declaration.

@@ -6,7 +6,7 @@ use c_tree::{FunctionSpecifier, Specifier, StorageClass};
 use cil_base::{Code, RuleStop};
 
 /// Where a declaration stands. It decides which storage classes are allowed.
-#[derive(Clone, Copy, Debug, PartialEq, Eq)]
+#[derive(Clone, Copy)]
 pub enum Position {
     /// A declaration outside functions: no `auto` and no `register` (C11 6.9p2).
     File,
@@ -21,14 +21,14 @@ pub enum Position {
 }
 
 /// Whether the function specifier `inline` stands among specifiers (C11 6.7.4).
-#[derive(Clone, Copy, Debug, PartialEq, Eq)]
+#[derive(Clone, Copy, PartialEq, Eq)]
 pub enum Inline {
     No,
     Yes,
 }
 
 /// What specifiers say beside the type.
-#[derive(Clone, Copy, Debug)]
+#[derive(Clone, Copy)]
 pub struct Heading {
     /// The storage class, where there is one.
     pub storage: Option<StorageClass>,

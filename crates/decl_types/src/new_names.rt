@@ -1,7 +1,7 @@
 use cil_base::{NameId, NamePool};
 
 /// A name that is declared, with whether it begins with `__builtin_` (own): the pool is asked where the name is met.
-#[derive(Clone, Copy, Debug)]
+#[derive(Clone, Copy)]
 pub struct NewName {
     id: NameId,
     reserved: bool,

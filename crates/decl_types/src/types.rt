@@ -158,7 +158,7 @@ fn is_unreturnable(t: &Types, ty: TypeId) -> bool {
 }
 
 /// Whether a function type has a prototype (C11 6.2.1p2), and whether that ends in `...`.
-#[derive(Clone, Copy, Debug, PartialEq, Eq)]
+#[derive(Clone, Copy, PartialEq, Eq)]
 pub enum Prototype {
     Absent,
     Fixed,

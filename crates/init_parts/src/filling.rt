@@ -8,7 +8,7 @@ use typed_tree::{InitStep, Path, Step, TypedExp, TypedInit, initialiser, zeroed_
 use unit_types::{Class, Types};
 
 /// The storage duration of an object that is initialised (C11 6.2.4): that with static duration is given constants (6.7.9p4).
-#[derive(Clone, Copy, Debug, PartialEq, Eq)]
+#[derive(Clone, Copy)]
 pub enum Storage {
     Static,
     Automatic,

@@ -10,7 +10,7 @@ use cil_base::{Abi, AggId};
 use type_graph::{Layout, Node};
 
 /// What the size of a type is made of, in numbers that stop at the limit of an object's size.
-#[derive(Clone, Copy, Debug)]
+#[derive(Clone, Copy)]
 pub enum Span {
     /// The type has no size, whatever is completed later.
     Nothing,

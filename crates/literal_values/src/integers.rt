@@ -17,7 +17,7 @@ enum Length {
 }
 
 /// What a suffix says (C11 6.4.4.1p1).
-#[derive(Clone, Copy, PartialEq, Eq)]
+#[derive(Clone, Copy)]
 struct Suffix {
     unsigned: bool,
     length: Length,

@@ -20,7 +20,7 @@ pub(crate) fn no_types(alloc: Global) -> Result<Box<Types>, RuleStop> {
 }
 
 /// Operands of which rows are made.
-#[derive(Clone, Copy, Debug, PartialEq, Eq)]
+#[derive(Clone, Copy, Debug)]
 pub(crate) enum Sample {
     /// `_Bool`, `char`, `short`, `int`, `unsigned`, `long`, `unsigned long`
     Bool,

@@ -18,7 +18,7 @@ pub(crate) struct Labels {
 }
 
 /// Whether a `continue` of the loop around stands in a statement.
-#[derive(Clone, Copy, PartialEq, Eq)]
+#[derive(Clone, Copy)]
 enum Continues {
     Yes,
     No,

@@ -15,7 +15,7 @@ pub enum AggKind {
 }
 
 /// A member of a struct or union (C11 6.7.2.1), or an enumerator (6.7.2.2).
-#[derive(Clone, Copy, Debug)]
+#[derive(Clone, Copy)]
 pub struct Member {
     pub name: NameId,
     /// Whether it is an anonymous structure or union (C11 6.7.2.1p13); its name is then a made one.
@@ -59,7 +59,7 @@ impl Member {
 }
 
 /// Members in order. One or two stand in the value itself, so that they need no block of memory.
-#[derive(Debug, Drop)]
+#[derive(Drop)]
 enum Kept {
     One([Member; 1]),
     Two([Member; 2]),
@@ -67,7 +67,7 @@ enum Kept {
 }
 
 /// The members of an aggregate in order, which contracts see as a list.
-#[derive(Debug, Drop)]
+#[derive(Drop)]
 pub struct Members {
     kept: Kept,
 }
@@ -147,7 +147,7 @@ impl Members {
 }
 
 /// A struct, union or enum. It has no members while it is incomplete (C11 6.7.2.1p8, 6.7.2.2p4).
-#[derive(Debug, Drop)]
+#[derive(Drop)]
 pub struct Aggregate {
     pub kind: AggKind,
     pub tag: Option<NameId>,

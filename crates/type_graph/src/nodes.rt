@@ -5,14 +5,14 @@ use cil_base::{AggId, IntKind, TypeId};
 use std::marker::Model;
 
 /// The qualifiers of a type (C11 6.7.3) that are kept: `const` and `restrict`.
-#[derive(Clone, Copy, Debug, PartialEq, Eq, Hash)]
+#[derive(Clone, Copy, Debug, PartialEq, Eq)]
 pub struct Quals {
     pub constant: bool,
     pub restricted: bool,
 }
 
 /// A type with its qualifiers.
-#[derive(Clone, Copy, Debug, PartialEq, Eq, Hash)]
+#[derive(Clone, Copy, Debug, PartialEq, Eq)]
 pub struct QualType {
     pub quals: Quals,
     pub of: TypeId,
@@ -32,7 +32,7 @@ pub fn unqualified(of: TypeId) -> QualType
 }
 
 /// The types of a function's parameters in order, which contracts see as a list.
-#[derive(Debug, Drop)]
+#[derive(Drop)]
 pub struct TypeList {
     kept: Vec<TypeId>,
 }
@@ -90,7 +90,7 @@ impl Eq for TypeList {
 }
 
 /// A type (C11 6.2.5), whose parts are named by their numbers.
-#[derive(Debug, PartialEq, Eq, Drop)]
+#[derive(PartialEq, Eq, Drop)]
 pub enum Node {
     /// `void` (6.2.5p19).
     Void,

@@ -5,7 +5,7 @@ use cil_base::{AggId, UnitNo};
 use type_things::First;
 
 /// The number of a class: its place in the order in which the classes are printed.
-#[derive(Clone, Copy, PartialEq, Eq)]
+#[derive(Clone, Copy)]
 pub struct ClassNo(pub u32);
 
 /// The classes of the aggregates of several units.

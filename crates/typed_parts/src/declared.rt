@@ -247,7 +247,7 @@ pub fn declare(
 }
 
 /// Whether other parameters, or `...`, stand in the list of a parameter.
-#[derive(Clone, Copy, Debug, PartialEq, Eq)]
+#[derive(Clone, Copy, PartialEq, Eq)]
 pub enum Company {
     Alone,
     Others,

@@ -9,7 +9,7 @@ use type_graph::{QualType, Quals};
 use typed_tree::TypedExp;
 
 /// What a declarator belongs to.
-#[derive(Clone, Copy, Debug, PartialEq, Eq)]
+#[derive(Clone, Copy, PartialEq, Eq)]
 pub enum Role {
     /// A declared name, a member or a type name.
     Ordinary,

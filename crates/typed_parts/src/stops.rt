@@ -8,7 +8,7 @@ use layout_lp64::LayoutStop;
 use std::alloc::{AllocError, AllocFailed};
 
 /// Why the walk of a unit ends early: a fault at a token, or want of memory.
-#[derive(Clone, Copy, Debug, PartialEq, Eq)]
+#[derive(Clone, Copy)]
 pub enum WalkStop {
     /// The first fault, with the number of its token.
     At(u32, Fault),

@@ -8,14 +8,14 @@ use typed_tree::{Definition, TypedLiteral};
 use unit_types::Types;
 
 /// Whether what is walked is evaluated: an operand of `sizeof` and `_Alignof` is not (C11 6.5.3.4p2, p3).
-#[derive(Clone, Copy, Debug, PartialEq, Eq)]
+#[derive(Clone, Copy, PartialEq, Eq)]
 pub enum Evaluation {
     Evaluated,
     Unevaluated,
 }
 
 /// Where the walk stands: its compound literals have static storage duration outside functions (C11 6.5.2.5p5).
-#[derive(Clone, Copy, Debug, PartialEq, Eq)]
+#[derive(Clone, Copy)]
 pub enum Within {
     File,
     Function,

@@ -17,7 +17,7 @@ pub struct TypedExp {
 }
 
 /// What connects two tests (C11 6.5.13, 6.5.14).
-#[derive(Clone, Copy, Debug, PartialEq, Eq)]
+#[derive(Clone, Copy, Debug)]
 pub enum Logic {
     /// `&&`
     And,
@@ -26,7 +26,7 @@ pub enum Logic {
 }
 
 /// The forms of increments and decrements (C11 6.5.2.4, 6.5.3.1).
-#[derive(Clone, Copy, Debug, PartialEq, Eq)]
+#[derive(Clone, Copy, Debug)]
 pub enum StepForm {
     /// `++ e`
     PreIncrement,

@@ -3,7 +3,7 @@ use cil_base::{Bytes, Constant};
 use smallvec::SmallVec;
 
 /// A step from an object into a part of it (C11 6.7.9p7).
-#[derive(Clone, Copy, Debug, PartialEq, Eq)]
+#[derive(Clone, Copy)]
 pub enum Step {
     /// A member, by its place in its struct or union.
     Field(u32),

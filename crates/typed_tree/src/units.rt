@@ -32,7 +32,7 @@ pub struct TypedFunction {
 }
 
 /// What an object with static storage duration, or a function, is in its unit.
-#[derive(Clone, Copy, Debug, PartialEq, Eq)]
+#[derive(Clone, Copy, PartialEq, Eq)]
 pub enum EntityKind {
     /// It has external linkage (C11 6.2.2p2).
     External,
@@ -80,7 +80,7 @@ pub struct Entity {
 }
 
 /// What has a name at file scope that no other unit sees, or is an enumerator: each in the order of its place (C11 6.2.1).
-#[derive(Clone, Copy, Debug, PartialEq, Eq)]
+#[derive(Clone, Copy)]
 pub enum Ordinary {
     /// An object or function with internal linkage.
     Static(EntityId),

@@ -6,7 +6,7 @@ use std::alloc::Global;
 use std::mem;
 
 /// A declaration of a name, and whether the name was a typedef name before it.
-#[derive(Clone, Copy, Debug)]
+#[derive(Clone, Copy)]
 pub struct Declaration {
     pub name: NameId,
     pub is_typedef: bool,

@@ -52,29 +52,29 @@ push_statement-push_body-requires-in-Block t c =
     let typed : each_stmt of (stmts_of n c.deref-in-Block.result.now) ≡ true = ap (each_within of) (sym is) ∙ c.requires.within in
     (search (rules, the_lemmas), (c.requires.plain, typed))
 
-pub push_statement-returns-in_ok-push_body-in-If : goal.push_statement-returns-in_ok-push_body-in-If
-push_statement-returns-in_ok-push_body-in-If t c =
+pub push_statement-returns-in-If : goal.push_statement-returns-in-If
+push_statement-returns-in-If t c =
     let n = nodes_in c.args.self.now in
     let is = at_if n c.args.s.now c.in-If.test c.in-If.holds c.in-If.fails c.deref.result.now c.deref-in-If.result.now c.in-If.is c.deref.ensures.value c.deref-in-If.ensures.value in
-    if_printed _ _ _ _ c.args.depth (scope_in c.args.self.now) _ (exp_of n c.in-If.test) (stmts_of n c.deref.result.now) (stmts_of n c.deref-in-If.result.now) c.requires.plain is c.in_ok-push_if-in-If.ensures c.in_ok-push_holding-in-If.ensures c.in_ok-push_body-in-If.ensures
+    if_printed _ _ _ _ c.args.depth (scope_in c.args.self.now) _ (exp_of n c.in-If.test) (stmts_of n c.deref.result.now) (stmts_of n c.deref-in-If.result.now) c.requires.plain is c.push_if.ensures c.push_holding.ensures c.push_body.ensures
 
-pub push_statement-returns-in_ok-push_body-in-Switch : goal.push_statement-returns-in_ok-push_body-in-Switch
-push_statement-returns-in_ok-push_body-in-Switch t c =
+pub push_statement-returns-in-Switch : goal.push_statement-returns-in-Switch
+push_statement-returns-in-Switch t c =
     let n = nodes_in c.args.self.now in
     let is = at_switch n c.args.s.now c.in-Switch.value c.in-Switch.body c.deref-in-Switch.result.now c.in-Switch.is c.deref-in-Switch.ensures.value in
-    switch_printed _ _ _ c.args.depth (scope_in c.args.self.now) _ (exp_of n c.in-Switch.value) (stmts_of n c.deref-in-Switch.result.now) c.requires.plain is c.in_ok-push_switch-in-Switch.ensures c.in_ok-push_body-in-Switch.ensures
+    switch_printed _ _ _ c.args.depth (scope_in c.args.self.now) _ (exp_of n c.in-Switch.value) (stmts_of n c.deref-in-Switch.result.now) c.requires.plain is c.push_switch.ensures c.push_body-in-Switch.ensures
 
-pub push_statement-returns-in_ok-push_body-in-Loop : goal.push_statement-returns-in_ok-push_body-in-Loop
-push_statement-returns-in_ok-push_body-in-Loop t c =
+pub push_statement-returns-in-Loop : goal.push_statement-returns-in-Loop
+push_statement-returns-in-Loop t c =
     let n = nodes_in c.args.self.now in
     let is = at_loop n c.args.s.now c.in-Loop.body c.deref-in-Loop.result.now c.in-Loop.is c.deref-in-Loop.ensures.value in
-    loop_printed _ _ _ c.args.depth (scope_in c.args.self.now) _ (stmts_of n c.deref-in-Loop.result.now) is c.in_ok-push_while-in-Loop.ensures c.in_ok-push_body-in-Loop.ensures
+    loop_printed _ _ _ c.args.depth (scope_in c.args.self.now) _ (stmts_of n c.deref-in-Loop.result.now) is c.push_while.ensures c.push_body-in-Loop.ensures
 
-pub push_statement-returns-in_ok-push_body-in-Block : goal.push_statement-returns-in_ok-push_body-in-Block
-push_statement-returns-in_ok-push_body-in-Block t c =
+pub push_statement-returns-in-Block : goal.push_statement-returns-in-Block
+push_statement-returns-in-Block t c =
     let n = nodes_in c.args.self.now in
     let is = at_block n c.args.s.now c.in-Block.body c.deref-in-Block.result.now c.in-Block.is c.deref-in-Block.ensures.value in
-    block_printed _ _ _ c.args.depth (scope_in c.args.self.now) _ (stmts_of n c.deref-in-Block.result.now) is c.in_ok-push_open-in-Block.ensures c.in_ok-push_body-in-Block.ensures
+    block_printed _ _ _ c.args.depth (scope_in c.args.self.now) _ (stmts_of n c.deref-in-Block.result.now) is c.push_open.ensures c.push_body-in-Block.ensures
 
 pub push_statements-push_statement-requires : goal.push_statements-push_statement-requires
 push_statements-push_statement-requires t c =
@@ -87,7 +87,7 @@ push_statements-loop-i-preserved t c =
     let s = scope_in c.args.self.now in
     let n = nodes_in c.args.self.now in
     let e : prints c.push_statement.new.out c.args.depth (lines_of s (stmts_of n (drop (c.loop-i.i + 1) c.args.body.now))) ≡ prints c.loop-i.out c.args.depth (lines_of s (stmts_of n (drop c.loop-i.i c.args.body.now))) =
-    statements_from _ _ c.args.depth s n c.args.body.now c.loop-i.i _ _ c.requires.plain (omega arith) c.loop-i-test.true c.index-body-i.is c.in_ok-push_statement.ensures in
+    statements_from _ _ c.args.depth s n c.args.body.now c.loop-i.i _ _ c.requires.plain (omega arith) c.loop-i-test.true c.index-body-i.is c.push_statement.ensures in
     e ∙ c.loop-i.invariant
 
 pub push_statements-returns : goal.push_statements-returns

@@ -13,7 +13,7 @@ loop-i-preserved c =
     let s = scope_in c.args.self.now in
     let n = nodes_in c.args.self.now in
     let e : puts c.push_expression.new.out (following (exp_parts s n (drop (c.loop-i.i + 1) c.args.arguments.now))) ≡ puts c.loop-i.out (following (exp_parts s n (drop c.loop-i.i c.args.arguments.now))) =
-    arguments_from _ _ _ s n c.args.arguments.now c.loop-i.i _ _ (omega arith) c.loop-i-test.true c.index-arguments-i.is c.in_ok-token.ensures c.in_ok-push_expression.ensures.text in
+    arguments_from _ _ _ s n c.args.arguments.now c.loop-i.i _ _ (omega arith) c.loop-i-test.true c.index-arguments-i.is c.token.ensures c.push_expression.ensures.text in
     e ∙ c.loop-i.invariant
 
 pub returns : goal.returns

@@ -4,4 +4,4 @@ use Rattle.cil_printer.proofs.function.Function.push_label.Goals as goal
 
 pub returns : goal.returns
 returns c =
-    label_printed _ _ _ _ _ c.args.depth (scope_in c.args.self.now) c.args.l.0 c.requires.plain c.in_ok-indent.ensures (rw c.label_name.ensures at c.in_ok-token.ensures) c.in_ok-token-2.ensures c.in_ok-end.ensures
+    label_printed _ _ _ _ _ c.args.depth (scope_in c.args.self.now) c.args.l.0 c.requires.plain c.indent.ensures (rw c.label_name.ensures at c.token.ensures) c.token-2.ensures c.end.ensures

@@ -13,7 +13,7 @@ pub loop-i-preserved : goal.loop-i-preserved
 loop-i-preserved c =
     let s = scope_in c.args.self.now in
     let e : prints c.push_local.new.out 1 (map (local_line s.program) (drop (c.loop-i.i + 1) s.locals)) ≡ prints c.loop-i.out 1 (map (local_line s.program) (drop c.loop-i.i s.locals)) =
-    locals_from _ _ s.program c.requires.program (nodes_in c.args.self.now) c.args.self.now.program.now.names.now c.args.self.now.locals.now c.loop-i.i _ _ (omega arith) c.loop-i-test.true (c.requires.locals c.loop-i.i) c.in_ok-push_local.ensures in
+    locals_from _ _ s.program c.requires.program (nodes_in c.args.self.now) c.args.self.now.program.now.names.now c.args.self.now.locals.now c.loop-i.i _ _ (omega arith) c.loop-i-test.true (c.requires.locals c.loop-i.i) c.push_local.ensures in
     e ∙ c.loop-i.invariant
 
 pub returns : goal.returns

@@ -6,4 +6,4 @@ use Rattle.cil_printer.proofs.function.Function.push_set.Goals as goal
 pub returns : goal.returns
 returns c =
     let n = nodes_in c.args.self.now in
-    set_pushed _ _ _ (scope_in c.args.self.now) (lval_of n c.args.place.now) (exp_of n c.args.value.now) c.in_ok-push_target.ensures c.in_ok-push_expression.ensures.text
+    set_pushed _ _ _ (scope_in c.args.self.now) (lval_of n c.args.place.now) (exp_of n c.args.value.now) c.push_target.ensures c.push_expression.ensures.text

@@ -20,7 +20,7 @@ push_following-push_type-requires t c =
 pub push_following-loop-i-preserved : goal.push_following-loop-i-preserved
 push_following-loop-i-preserved t c =
     let e : puts c.push_type.new.out (following (type_parts (tree_of c.args.self.now) (drop (c.loop-i.i + 1) c.args.rest.now))) ≡ puts c.loop-i.out (following (type_parts (tree_of c.args.self.now) (drop c.loop-i.i c.args.rest.now))) =
-    following_from _ _ _ (tree_of c.args.self.now) c.args.rest.now c.loop-i.i _ (record { 0 = 0 }) (omega arith) c.loop-i-test.true c.in_ok-token.ensures c.in_ok-push_type.ensures in
+    following_from _ _ _ (tree_of c.args.self.now) c.args.rest.now c.loop-i.i _ (record { 0 = 0 }) (omega arith) c.loop-i-test.true c.token.ensures c.push_type.ensures in
     e ∙ c.loop-i.invariant
 
 pub push_following-returns : goal.push_following-returns
@@ -33,16 +33,16 @@ pub push_types-returns : goal.push_types-returns
 push_types-returns t c =
     let p = tree_of c.args.self.now in
     parameters_pushed _ _ _ _ p (rw c.graph.ensures at c.len-types.ensures.arena) c.args.of.0 c.args.first c.args.rest.now c.args.variadic c.requires.there c.requires.below c.requires.first
-    c.in_ok-push_type.ensures c.in_ok-push_following.ensures c.in_ok-push_end.ensures
+    c.push_type.ensures c.push_following.ensures c.push_end.ensures
 
-pub write_after-returns-in_ok-push_after-in-Array : goal.write_after-returns-in_ok-push_after-in-Array
-write_after-returns-in_ok-push_after-in-Array t c =
+pub write_after-returns-in-Array : goal.write_after-returns-in-Array
+write_after-returns-in-Array t c =
     let p = tree_of c.args.self.now in
     array_after _ _ _ p (shape p.graph.nodes) _ c.node.result.now c.in-Array.q c.in-Array.bound (rw c.graph.ensures at c.node.ensures.shape) c.in-Array.is
-    c.in_ok-push_brackets-in-Array.ensures c.in_ok-push_after-in-Array.ensures
+    c.push_brackets.ensures c.push_after-in-Array.ensures
 
-pub write_after-returns-in_ok-push_after-in-Func : goal.write_after-returns-in_ok-push_after-in-Func
-write_after-returns-in_ok-push_after-in-Func t c =
+pub write_after-returns-in-Func : goal.write_after-returns-in-Func
+write_after-returns-in-Func t c =
     let p = tree_of c.args.self.now in
     function_after _ _ _ p (shape p.graph.nodes) _ c.node.result.now c.in-Func.ret c.in-Func.params c.in-Func.proto c.in-Func.variadic (rw c.graph.ensures at c.node.ensures.shape) c.in-Func.is
-    (rw c.as_slice.ensures at c.in_ok-push_parameters-in-Func.ensures) c.in_ok-push_after-in-Func.ensures
+    (rw c.as_slice.ensures at c.push_parameters.ensures) c.push_after-in-Func.ensures

@@ -18,7 +18,7 @@ loop-a-preserved c =
     let p = tree_of c.args.self.now in
     let at : slice_get p.graph.aggs c.loop-a.a ≡ Some c.agg.result.now = rw c.graph-in-loop-a.ensures at c.agg.ensures in
     let e : prints c.push_aggregate_lines.new.out 0 (concat_each (aggregate_lines c.args.part p) (drop (c.loop-a.a + 1) p.graph.aggs)) ≡ prints c.loop-a.out 0 (concat_each (aggregate_lines c.args.part p) (drop c.loop-a.a p.graph.aggs)) =
-    aggregates_from _ _ c.args.part p c.loop-a.a _ c.agg.result.now c.requires (omega arith) at c.in_ok-push_aggregate_lines.ensures in
+    aggregates_from _ _ c.args.part p c.loop-a.a _ c.agg.result.now c.requires (omega arith) at c.push_aggregate_lines.ensures in
     e ∙ c.loop-a.invariant
 
 pub returns : goal.returns

@@ -14,5 +14,5 @@ returns c =
     let fits : FitsSigned w64 c.args.offset = search rules in
     let wide : FitsSigned w128 c.args.offset = search rules in
     let k : c.long.result ≡ long_of p.graph.abi = c.long.ensures ∙ ap long_of (rw c.graph.ensures at c.abi.ensures) in
-    let e : c.push_number.new.out ≡ puts c.token-2.new.self (number (long_of p.graph.abi) c.args.offset) = rw (to_z-of_z w64 c.args.offset fits, to_z-of_z w128 c.args.offset wide, k) at c.in_ok-push_number.ensures in
-    address_pushed _ _ _ _ _ _ _ p c.args.e.0 c.args.offset c.in_ok-token.ensures c.in_ok-push_char_pointer.ensures c.in_ok-push_reference.ensures c.in_ok-token-2.ensures e c.in_ok-token-3.ensures
+    let e : c.push_number.new.out ≡ puts c.token-2.new.self (number (long_of p.graph.abi) c.args.offset) = rw (to_z-of_z w64 c.args.offset fits, to_z-of_z w128 c.args.offset wide, k) at c.push_number.ensures in
+    address_pushed _ _ _ _ _ _ _ p c.args.e.0 c.args.offset c.token.ensures c.push_char_pointer.ensures c.push_reference.ensures c.token-2.ensures e c.token-3.ensures

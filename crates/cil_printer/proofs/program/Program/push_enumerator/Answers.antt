@@ -12,5 +12,5 @@ pub returns : goal.returns
 returns c =
     let fits : FitsSigned w32 c.args.m.value = search rules in
     let wide : FitsSigned w128 c.args.m.value = search rules in
-    let e : c.push_number.new.out ≡ puts c.token-2.new.self (number int c.args.m.value) = rw (to_z-of_z w32 c.args.m.value fits, to_z-of_z w128 c.args.m.value wide) at c.in_ok-push_number.ensures in
-    enumerator_printed _ _ _ _ _ _ (tree_of c.args.self.now) c.args.m c.requires c.in_ok-indent.ensures (rw c.name.ensures at c.in_ok-token.ensures) c.in_ok-token-2.ensures e c.in_ok-end.ensures
+    let e : c.push_number.new.out ≡ puts c.token-2.new.self (number int c.args.m.value) = rw (to_z-of_z w32 c.args.m.value fits, to_z-of_z w128 c.args.m.value wide) at c.push_number.ensures in
+    enumerator_printed _ _ _ _ _ _ (tree_of c.args.self.now) c.args.m c.requires c.indent.ensures (rw c.name.ensures at c.token.ensures) c.token-2.ensures e c.end.ensures

@@ -15,7 +15,7 @@ loop-i-preserved c =
     let p = tree_of c.args.self.now in
     let d : Member = record { name = record { 0 = 0 }; anonymous = false; ty = record { quals = record { constant = false; restricted = false }; of = record { 0 = 0 } }; value = pos 0 } in
     let e : prints c.push_enumerator.new.out 1 (map (enumerator_line p) (drop (c.loop-i.i + 1) c.args.ms.now)) ≡ prints c.loop-i.out 1 (map (enumerator_line p) (drop c.loop-i.i c.args.ms.now)) =
-    each_from _ _ (enumerator_line p) c.args.ms.now c.loop-i.i _ d (omega arith) c.loop-i-test.true (enumerator_past p (get_or c.args.ms.now c.loop-i.i d) (c.requires c.loop-i.i (get_or c.args.ms.now c.loop-i.i d) (at_index c.args.ms.now c.loop-i.i d c.loop-i-test.true))) c.in_ok-push_enumerator.ensures in
+    each_from _ _ (enumerator_line p) c.args.ms.now c.loop-i.i _ d (omega arith) c.loop-i-test.true (enumerator_past p (get_or c.args.ms.now c.loop-i.i d) (c.requires c.loop-i.i (get_or c.args.ms.now c.loop-i.i d) (at_index c.args.ms.now c.loop-i.i d c.loop-i-test.true))) c.push_enumerator.ensures in
     e ∙ c.loop-i.invariant
 
 pub returns : goal.returns

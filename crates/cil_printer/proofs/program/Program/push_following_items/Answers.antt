@@ -10,7 +10,7 @@ loop-i-preserved c =
     let p = tree_of c.args.self.now in
     let s = seen p.graph.nodes c.args.of in
     let e : puts c.push_item.new.out (following (item_parts p s (drop (c.loop-i.i + 1) c.args.items.now))) ≡ puts c.loop-i.out (following (item_parts p s (drop c.loop-i.i c.args.items.now))) =
-    items_from _ _ _ p s c.args.items.now c.loop-i.i _ _ (omega arith) c.loop-i-test.true c.index-items-i.is c.in_ok-token.ensures c.in_ok-push_item.ensures in
+    items_from _ _ _ p s c.args.items.now c.loop-i.i _ _ (omega arith) c.loop-i-test.true c.index-items-i.is c.token.ensures c.push_item.ensures in
     e ∙ c.loop-i.invariant
 
 pub returns : goal.returns

@@ -13,7 +13,7 @@ pub loop-i-preserved : goal.loop-i-preserved
 loop-i-preserved c =
     let p = tree_of c.args.self.now in
     let e : puts c.push_declared.new.out (following (named_parts p (drop (c.loop-i.i + 1) c.args.types.now) (drop (c.loop-i.i + 1) c.args.names.now))) ≡ puts c.loop-i.out (following (named_parts p (drop c.loop-i.i c.args.types.now) (drop c.loop-i.i c.args.names.now))) =
-    named_from _ _ _ p c.args.types.now c.args.names.now c.loop-i.i _ _ _ (omega arith) (omega arith) (omega arith) c.in_ok-token.ensures c.in_ok-push_declared.ensures in
+    named_from _ _ _ p c.args.types.now c.args.names.now c.loop-i.i _ _ _ (omega arith) (omega arith) (omega arith) c.token.ensures c.push_declared.ensures in
     e ∙ c.loop-i.invariant
 
 pub returns : goal.returns

@@ -17,7 +17,7 @@ pub loop-i-preserved : goal.loop-i-preserved
 loop-i-preserved c =
     let p = tree_of c.args.self.now in
     let e : prints c.push_global_lines.new.out 0 (concat_each (global_lines c.args.part p) (drop (c.loop-i.i + 1) p.globals)) ≡ prints c.loop-i.out 0 (concat_each (global_lines c.args.part p) (drop c.loop-i.i p.globals)) =
-    globals_from _ _ c.args.part p c.loop-i.i _ (global_of p.graph.nodes p.names c.index-globals-i.result) c.requires (omega arith) (global_here p.graph.nodes p.names _ _ c.loop-i.i _ c.as_slice-globals.ensures.value c.loop-i-test.true c.index-globals-i.is) c.in_ok-push_global_lines.ensures in
+    globals_from _ _ c.args.part p c.loop-i.i _ (global_of p.graph.nodes p.names c.index-globals-i.result) c.requires (omega arith) (global_here p.graph.nodes p.names _ _ c.loop-i.i _ c.as_slice-globals.ensures.value c.loop-i-test.true c.index-globals-i.is) c.push_global_lines.ensures in
     e ∙ c.loop-i.invariant
 
 pub returns : goal.returns

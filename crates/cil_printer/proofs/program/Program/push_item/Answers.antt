@@ -6,4 +6,4 @@ use Rattle.cil_printer.proofs.program.Program.push_item.Goals as goal
 pub returns : goal.returns
 returns c =
     let p = tree_of c.args.self.now in
-    item_pushed _ _ _ _ p (seen p.graph.nodes c.args.of) (seen p.graph.nodes c.in_ok-t.t) (item_of c.args.item.now) (rw c.deref.ensures.value at c.in_ok-t.ensures.leads) (rw c.deref.ensures.value at c.in_ok-t.ensures.text) c.in_ok-token.ensures c.in_ok-push_scalar.ensures
+    item_pushed _ _ _ _ p (seen p.graph.nodes c.args.of) (seen p.graph.nodes c.push_path-t.result) (item_of c.args.item.now) (rw c.deref.ensures.value at c.push_path-t.ensures.leads) (rw c.deref.ensures.value at c.push_path-t.ensures.text) c.token.ensures c.push_scalar.ensures

@@ -3,4 +3,4 @@ use Rattle.cil_printer.proofs.AggregateLines.{member_printed}
 use Rattle.cil_printer.proofs.program.Program.push_member.Goals as goal
 
 pub returns : goal.returns
-returns c = member_printed _ _ _ _ (tree_of c.args.self.now) c.args.m c.requires.plain c.requires.named c.in_ok-indent.ensures c.in_ok-push_declared.ensures c.in_ok-end.ensures
+returns c = member_printed _ _ _ _ (tree_of c.args.self.now) c.args.m c.requires.plain c.requires.named c.indent.ensures c.push_declared.ensures c.end.ensures

@@ -6,4 +6,4 @@ pub returns-then-is_enum : goal.returns-then-is_enum
 returns-then-is_enum c = no_tag c.args.out.now (tree_of c.args.self.now) c.args.x.now (rw c.is_enum.ensures at c.if-is_enum.true)
 
 pub returns : goal.returns
-returns c = tag_printed _ _ _ (tree_of c.args.self.now) c.args.x.now c.requires (rw c.is_enum.ensures at c.if-is_enum.false) c.in_ok-push_tagged.ensures c.in_ok-end.ensures
+returns c = tag_printed _ _ _ (tree_of c.args.self.now) c.args.x.now c.requires (rw c.is_enum.ensures at c.if-is_enum.false) c.push_tagged.ensures c.end.ensures

@@ -7,4 +7,4 @@ pub returns-then-x : goal.returns-then-x
 returns-then-x c = let p = tree_of c.args.self.now in no_zero c.args.out.now p (global_of p.graph.nodes p.names c.args.x.now) c.if-x.true
 
 pub returns : goal.returns
-returns c = let p = tree_of c.args.self.now in zero_printed _ _ _ p (global_of p.graph.nodes p.names c.args.x.now) c.requires.plain c.requires.named c.if-x.false c.in_ok-push_declarator.ensures c.in_ok-end.ensures
+returns c = let p = tree_of c.args.self.now in zero_printed _ _ _ p (global_of p.graph.nodes p.names c.args.x.now) c.requires.plain c.requires.named c.if-x.false c.push_declarator.ensures c.end.ensures

@@ -3,7 +3,7 @@ use Rattle.cil_printer.proofs.Counted.{text_counted, text_length}
 use Rattle.cil_printer.proofs.program.Program.text_length.Goals as goal
 
 pub length-requires : goal.length-requires
-length-requires c = text_counted _ _ (tree_of c.args.self.now) c.counting-out.ensures c.in_ok-push_program.ensures
+length-requires c = text_counted _ _ (tree_of c.args.self.now) c.counting-out.ensures c.push_program.ensures
 
 pub returns : goal.returns
-returns c = text_length _ _ _ (tree_of c.args.self.now) c.counting-out.ensures c.in_ok-push_program.ensures c.length.ensures
+returns c = text_length _ _ _ (tree_of c.args.self.now) c.counting-out.ensures c.push_program.ensures c.length.ensures
