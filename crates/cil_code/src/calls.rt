@@ -3,9 +3,8 @@ ghost use Rattle.std.specs.Option.{option_map, option_and_then};
 ghost use Rattle.type_graph.specs.Shapes.{AggType, shape};
 ghost use Rattle.layout_lp64.specs.Tables.{InStep};
 ghost use Rattle.cil_tree.specs.Tree as plain;
-ghost use Rattle.cil_tree.specs.Typing.{pointed};
 ghost use Rattle.cil_tree.specs.View.{exp_of, lval_of, callee_of};
-ghost use Rattle.cil_check.specs.Seen.{seen_scope, IsThere, told, at};
+ghost use Rattle.cil_check.specs.Seen.{seen_scope, IsThere, at};
 ghost use Rattle.cil_semantics.specs.Values.{kind_in};
 ghost use Rattle.cil_semantics.specs.Statements.{result_type};
 ghost use Rattle.cil_machine.specs.Typed.{IsTyped, IsPlaced};
@@ -15,8 +14,10 @@ ghost use Rattle.cil_code.specs.Calling.{kind_of, IsReceived, IsReceiver, AreOpe
 use crate::operands::{Operand, resolve_operand};
 use byte_mem::Scalar;
 use cil_base::{AggId, EntityId, IntKind, Memory, TypeId};
-use cil_check::{Seen, global_type, names_enum, pointed};
-use cil_machine::{Setting, Spot, Term, Typed, TypedSpot, resolve, resolve_place, size_of};
+use cil_check::{global_type, names_enum};
+use cil_machine::{
+    Setting, Spot, Term, Typed, TypedSpot, pointed_type, resolve, resolve_place, size_of,
+};
 use cil_tree::{Callee, Exp, Lval};
 use type_graph::Node;
 
@@ -171,18 +172,6 @@ fn direct(s: &Setting, n: EntityId) -> Called
             pointer: Term::Wrong,
             result,
         },
-    }
-}
-
-/// The type of what an expression points to.
-fn pointed_type(s: &Setting, e: Option<Seen>) -> Option<TypeId>
-    requires { IfSome e (IsThere s.now.scope.unit.now.graph) }
-    ensures told { at s.now.scope.unit.now.graph result ≡ option_and_then pointed (told s.now.scope.unit.now.graph e) }
-    ensures there { IfSome result (λ t. t.0 < length s.now.scope.unit.now.graph.nodes) }
-{
-    match e {
-        None => None,
-        Some(t) => pointed(&s.scope.unit.graph, t),
     }
 }
 

@@ -18,5 +18,7 @@ mod terms;
 pub use evaluation::{place_pointer, spot_place, term_number, term_truth, term_value};
 pub use instructions::{bytes_at, copy_place, set_place, zero_place};
 pub use laws::{copies_are_meant, sets_are_meant, zeros_are_meant};
-pub use resolution::{Setting, Typed, TypedSpot, resolve, resolve_place, scalar_of, size_of};
+pub use resolution::{
+    Setting, Typed, TypedSpot, pointed_type, resolve, resolve_place, scalar_of, size_of,
+};
 pub use terms::{Spot, Term};

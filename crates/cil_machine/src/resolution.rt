@@ -524,8 +524,8 @@ fn local(s: &Setting, n: LocalId) -> TypedSpot
     }
 }
 
-/// The type of what an expression points to.
-fn pointed_type(s: &Setting, e: Option<Seen>) -> Option<TypeId>
+/// The type of what an expression points to, if its type is a pointer (C11 6.5.3.2p4).
+pub fn pointed_type(s: &Setting, e: Option<Seen>) -> Option<TypeId>
     requires { IfSome e (IsThere s.now.scope.unit.now.graph) }
     ensures told { at s.now.scope.unit.now.graph result ≡ option_and_then pointed (told s.now.scope.unit.now.graph e) }
     ensures there { IfSome result (λ t. t.0 < length s.now.scope.unit.now.graph.nodes) }

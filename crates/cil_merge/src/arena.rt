@@ -5,13 +5,14 @@ ghost use Rattle.type_iso.specs.Classes.{class_count};
 ghost use Rattle.cil_merge.specs.Classes.{IsAggregate, IsMember, AreMembers, AreClassesOf, AreTypes, HasTypes};
 ghost use Rattle.cil_merge.specs.Numbering.{GainsTypes, AreRepresentatives, AreBegun, AreOnWay, Completes};
 
-use crate::numbers::{impossible, type_in, unit_number};
+use crate::numbers::type_in;
 use cil_base::{Abi, AggId, Memory, TypeId, UnitNo};
-use link_names::Fronted;
+use link_names::{Fronted, unit_at, unit_number};
 use map_graph::map_graph;
 use std::alloc::Global;
 use type_graph::{Aggregate, Member, Members, QualType, TypeGraph};
 use type_iso::{ClassNo, Classes};
+use type_things::impossible;
 use unit_types::can_complete;
 
 /// The types of a program, and for each unit the numbers that its types have there.
@@ -44,16 +45,6 @@ fn representatives(alloc: Global, classes: &Classes) -> Result<Vec<(UnitNo, AggI
         all.push(found)?;
     }
     Ok(all)
-}
-
-/// A unit.
-fn unit_at(units: &[Fronted], u: UnitNo) -> Result<&Fronted, Memory>
-    ensures { IfOk result (λ f. slice_get units.now u.0 ≡ Some f.now) }
-{
-    match units.get(u.0 as usize) {
-        Some(unit) => Ok(unit),
-        None => Err(impossible()),
-    }
 }
 
 /// A struct, union or enum of a unit.

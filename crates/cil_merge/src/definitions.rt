@@ -1,11 +1,11 @@
 ghost use Rattle.std.specs.Prelude.{◌≡◌, map, OnOk};
 ghost use Rattle.cil_merge.specs.Listing.{mark};
 
-use crate::numbers::impossible;
 use cil_base::{EntityId, Memory};
 use cil_bodies::{Mapping, map_definition};
 use cil_tree::{GlobalDecl, GlobalDef};
 use std::alloc::Global;
+use type_things::impossible;
 
 /// Whether a definition takes the place of another: whatever defines that of a declaration, and a value or a body that of zeroes
 /// (C11 6.9.2, J.5.11).

@@ -3,14 +3,15 @@ ghost use Rattle.cil_merge.specs.Listing.{mark, once_each, marks_of};
 ghost use Rattle.cil_merge.specs.Numbering.{with_mark, with_marks, marks, IsKnown, GainsTypes};
 
 use crate::arena::Arena;
-use crate::numbers::{entity_number, impossible, type_in};
+use crate::numbers::type_in;
 use cil_base::{EntityId, Memory, NameId, TypeId};
 use cil_bodies::Use;
 use cil_tree::{CilUnit, GlobalDecl, GlobalDef};
 use indexmap::IndexMap;
-use link_names::Fronted;
+use link_names::{Fronted, entity_number};
 use std::alloc::Global;
 use type_graph::{Node, QualType, Quals, TypeGraph};
+use type_things::impossible;
 
 /// The globals of a program while they are numbered: external ones by their names.
 #[derive(Drop)]

@@ -11,7 +11,6 @@ ghost use Rattle.cil_merge.specs.Merging.{graphs_of, Correspond, IsMergeRefusal}
 use crate::arena::{Arena, arena_of};
 use crate::definitions::give_definitions;
 use crate::globals::{all_globals, uses_of};
-use crate::numbers::impossible;
 use crate::refusals::class_stop;
 use cil_base::{EntityId, Memory, Mode, NamePool, Stop, TypeId};
 use cil_bodies::Mapping;
@@ -21,6 +20,7 @@ use static_rename::rename;
 use std::alloc::Global;
 use type_graph::TypeGraph;
 use type_iso::{Classes, classes};
+use type_things::impossible;
 
 /// Adds the definitions of a unit to the globals of the program.
 fn add_unit(

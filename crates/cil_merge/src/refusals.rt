@@ -3,10 +3,10 @@ ghost use Rattle.link_names.specs.Grouping.{linked_of};
 ghost use Rattle.cil_merge.specs.Merging.{AreSites, IsSiteOf, IsLinkRefusal};
 ghost use Rattle.cil_merge.specs.Refusing.{IsLinkStop};
 
-use crate::numbers::impossible;
 use cil_base::{Fault, Memory, Place, Refusal, Stop};
 use link_names::{LinkedName, LinkedSite};
 use type_iso::ClassStop;
+use type_things::impossible;
 
 /// The declarations of a name, by the name's place.
 fn sites(names: &[LinkedName], group: u32) -> Result<&[LinkedSite], Memory>

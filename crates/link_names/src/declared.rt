@@ -5,11 +5,7 @@ use crate::names::LinkedSite;
 use crate::units::Site;
 use cil_base::{Memory, NameId, UnitNo};
 use cil_tree::GlobalDecl;
-
-/// What a branch answers that never comes.
-pub(crate) fn impossible() -> Memory {
-    Memory
-}
+use type_things::impossible;
 
 /// What a unit says of an external name.
 pub(crate) fn declared(

@@ -2,13 +2,15 @@ ghost use Rattle.std.specs.Prelude.{◌≡◌, [], ◌∷◌, ◌++◌, map, OnO
 ghost use Rattle.link_names.specs.Linking.{declared_in, declared_from, grouped};
 ghost use Rattle.link_names.specs.Grouping.{InStep, with_site, sites_at, added, added_all, linked_of, found};
 
-use crate::declared::{declared, impossible};
+use crate::declared::declared;
 use crate::names::{LinkedName, LinkedSite};
+use crate::numbers::unit_number;
 use crate::units::{Fronted, Site};
 use cil_base::{Memory, NameId, UnitNo};
 use cil_tree::GlobalDecl;
 use indexmap::IndexSet;
 use std::alloc::Global;
+use type_things::impossible;
 
 /// External names while they are found, and their places by the names.
 #[derive(Drop)]
@@ -90,16 +92,6 @@ fn add_unit(
         add(alloc, f, name, declared)?;
     }
     Ok(())
-}
-
-/// The number of a unit.
-fn unit_number(u: usize) -> Result<UnitNo, Memory>
-    ensures { IfOk result (λ n. n.0 ≡ u) }
-{
-    if u > 4294967295 {
-        return Err(impossible());
-    }
-    Ok(UnitNo(u as u32))
 }
 
 /// Adds what all units say of their external names.

@@ -11,9 +11,11 @@ mod duplicates;
 mod grouping;
 mod linking;
 mod names;
+mod numbers;
 mod parties;
 mod units;
 
 pub use linking::links;
 pub use names::{LinkedName, LinkedSite, Links};
+pub use numbers::{entity_number, unit_at, unit_number};
 pub use units::{Fronted, Site};

@@ -4,11 +4,11 @@ ghost use Rattle.static_rename.specs.Local.{IsTable, AreNamedLocals};
 ghost use Rattle.static_rename.specs.Within.{is_sought, labels_from, label_order, label_wish, with_labels, named_locals, named_params, local_wishes, AreNamedLabels, IsNamedBody, IsNamedWithin, Each};
 
 use crate::locals::{FileNames, local_names};
-use crate::numbers::impossible;
 use cil_base::{Bases, Memory, NameId, NamePool};
 use cil_tree::{Body, GlobalDecl, GlobalDef, Local};
 use fresh_names::{Fresh, Wish};
 use std::alloc::Global;
+use type_things::impossible;
 
 /// What the locals of a function ask for.
 fn local_wishes(alloc: Global, base: NameId, locals: &[Local]) -> Result<Vec<Wish>, Memory>

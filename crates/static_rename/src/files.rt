@@ -5,14 +5,14 @@ ghost use Rattle.fresh_names.specs.Giving.{IsReady};
 ghost use Rattle.static_rename.specs.Files.{is_internal, is_named, unlinked_at, unlinked_from, named_in, global_wish, enumerator_wish, member_wish, wish_at, renamed_at, with_given};
 ghost use Rattle.static_rename.specs.Filing.{same_entity, Links, AreLinked, Files, FilesAll};
 
-use crate::numbers::impossible;
 use cil_base::{AggId, Bases, EntityId, Memory, NameId, NamePool};
 use cil_tree::GlobalDecl;
 use fresh_names::{Fresh, Wish};
 use indexmap::IndexSet;
-use link_names::Fronted;
+use link_names::{Fronted, entity_number};
 use std::alloc::Global;
 use type_graph::{Member, TypeGraph};
+use type_things::impossible;
 use typed_tree::Ordinary;
 
 /// What a unit has that gets a name at file scope, and these names.
@@ -89,16 +89,6 @@ fn with_linkage(alloc: Global, ordinary: &[Ordinary]) -> Result<IndexSet<EntityI
     Ok(all)
 }
 
-/// The number of a global.
-fn entity(e: usize) -> Result<EntityId, Memory>
-    ensures { IfOk result (λ d. d.0 ≡ e) }
-{
-    if e > 4294967295 {
-        return Err(impossible());
-    }
-    Ok(EntityId(e as u32))
-}
-
 /// Puts an object without linkage behind others.
 fn push_unlinked_at(
     all: &mut Vec<Ordinary>,
@@ -125,7 +115,7 @@ fn push_unlinked(
 {
     let linked = with_linkage(alloc, ordinary)?;
     for e in 0..globals.len() {
-        push_unlinked_at(all, &linked, entity(e)?, &globals[e])?;
+        push_unlinked_at(all, &linked, entity_number(e)?, &globals[e])?;
     }
     Ok(())
 }

@@ -10,7 +10,6 @@ mod bodies;
 mod files;
 mod kept;
 mod locals;
-mod numbers;
 mod renaming;
 mod standing;
 mod tags;

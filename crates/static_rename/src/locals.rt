@@ -5,11 +5,11 @@ ghost use Rattle.fresh_names.specs.Naming.{is_taken, IsLeast, AreNamed};
 ghost use Rattle.fresh_names.specs.Giving.{IsLeastFrom, AreTakenBelow, Gives};
 ghost use Rattle.static_rename.specs.Local.{IsTable};
 
-use crate::numbers::impossible;
 use cil_base::{Memory, NameId, NamePool};
 use fresh_names::{Fresh, Wish};
 use indexmap::IndexMap;
 use std::alloc::Global;
+use type_things::impossible;
 
 /// A base, and the number from which a suffixed name is looked for.
 #[derive(Clone, Copy, PartialEq, Eq, Hash)]

@@ -9,14 +9,14 @@ use crate::bodies::name_bodies;
 use crate::files::{Filed, file_units, put_all_given};
 use crate::kept::kept_names;
 use crate::locals::FileNames;
-use crate::numbers::{impossible, unit_number};
 use crate::standing::{all_standing, standing_from};
 use crate::tags::{name_enumerators, name_tags};
 use crate::types::{NamedTypes, rename_aggregates};
 use cil_base::{Memory, NamePool, UnitNo};
-use link_names::{Fronted, Links};
+use link_names::{Fronted, Links, unit_number};
 use std::alloc::Global;
 use type_iso::Classes;
+use type_things::impossible;
 
 /// Gives what a unit declares its names.
 #[tactic(auto, using(crate::proofs::UnitLaws::unit_named))]

@@ -3,22 +3,12 @@ ghost use Rattle.type_graph.specs.declared.aggregates.Aggregate.{Aggregate};
 ghost use Rattle.type_iso.specs.Classes.{class_in, representative_in};
 ghost use Rattle.static_rename.specs.Tags.{aggregate_at, is_at, stands_for, standing_in, standing_from, all_standing};
 
-use crate::numbers::{impossible, unit_number};
 use cil_base::{AggId, Memory, UnitNo};
-use link_names::Fronted;
+use link_names::{Fronted, unit_at, unit_number};
 use std::alloc::Global;
 use type_graph::{Aggregate, TypeGraph};
 use type_iso::{ClassNo, Classes};
-
-/// A unit.
-fn unit_at(units: &[Fronted], u: UnitNo) -> Result<&Fronted, Memory>
-    ensures { IfOk result (λ f. slice_get units.now u.0 ≡ Some f.now) }
-{
-    match units.get(u.0 as usize) {
-        Some(unit) => Ok(unit),
-        None => Err(impossible()),
-    }
-}
+use type_things::impossible;
 
 /// An aggregate of a graph.
 fn aggregate_in(g: &TypeGraph, a: AggId) -> Result<&Aggregate, Memory>

@@ -5,14 +5,14 @@ ghost use Rattle.static_rename.specs.Tags.{members_in, members_at, tag_wish, cla
 ghost use Rattle.static_rename.specs.Tagging.{lists, with_enumerator, with_thing, with_things, given_filed};
 
 use crate::files::Filed;
-use crate::numbers::{impossible, unit_number};
 use crate::standing::{aggregate_at, class_of};
 use cil_base::{AggId, Bases, Memory, NameId, NamePool, UnitNo};
 use fresh_names::{Fresh, Wish};
-use link_names::Fronted;
+use link_names::{Fronted, unit_number};
 use std::alloc::Global;
 use type_graph::{Aggregate, Member};
 use type_iso::{ClassNo, Classes};
+use type_things::impossible;
 use typed_tree::Ordinary;
 
 /// What an aggregate with a tag, or without one, asks for.

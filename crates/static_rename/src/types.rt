@@ -4,13 +4,13 @@ ghost use Rattle.static_rename.specs.Tags.{member_names, names_under};
 ghost use Rattle.static_rename.specs.Tagging.{RetagsAt, Retags, lists, named_by};
 ghost use Rattle.static_rename.specs.Renamed.{AreRetagged};
 
-use crate::numbers::impossible;
 use crate::standing::class_of;
 use crate::tags::own_names;
 use cil_base::{AggId, Bases, Memory, NameId, UnitNo};
 use std::alloc::Global;
 use type_graph::{AggKind, Aggregate, Member, TypeGraph};
 use type_iso::{ClassNo, Classes};
+use type_things::impossible;
 
 /// The names of the classes of units.
 #[derive(Drop)]
