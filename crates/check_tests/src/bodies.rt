@@ -1,15 +1,15 @@
+use crate::equal::equal;
 use crate::graphs::{Form, array, finish, function, pointer, qualified};
 use crate::program::{add_function, add_local, add_zero, declare, empty, no_body};
 use cil_base::{BinOp, EntityId, IntKind, LocalId, Memory, NamePool, TypeId, UnOp};
 use cil_check::check;
 use cil_tree::{Body, Callee, CilUnit, Exp, GlobalDecl, Host, Instr, Local, Lval, Offset, Stmt};
 use std::alloc::Global;
-use std::test::Fail;
 use type_graph::{AggKind, Node, TypeGraph};
 
 /// The locals of `main`, by their types: `int`, `long`, `char`, `int *`, `long *`, `void *`, `struct s { int n ; }`,
 /// `int [ 2 ]` and `int ( * ) ( int )`.
-#[derive(Clone, Copy, Debug)]
+#[derive(Clone, Copy)]
 enum Var {
     Int,
     Long,
@@ -24,7 +24,7 @@ enum Var {
 
 /// The globals besides `main`: `int one ( int )`, `void none ( void )`, `int many ( int , ... )`, `int old ( )`, `int n`
 /// and `struct t open ( void )`, where `struct t` is incomplete; and a number that is none.
-#[derive(Clone, Copy, Debug)]
+#[derive(Clone, Copy)]
 enum Name {
     One,
     Nothing,
@@ -36,7 +36,7 @@ enum Name {
 }
 
 /// An expression over locals.
-#[derive(Clone, Copy, Debug)]
+#[derive(Clone, Copy)]
 enum Value {
     Of(Var),
     Target(Var),
@@ -229,7 +229,7 @@ fn values() -> &'static [(Var, Value, bool)] {
 }
 
 /// What is called.
-#[derive(Clone, Copy, Debug)]
+#[derive(Clone, Copy)]
 enum Called {
     Named(Name),
     Through(Var),
@@ -283,7 +283,7 @@ fn calls() -> &'static [(Option<Var>, Called, &'static [Var], bool)] {
 }
 
 /// A statement that holds others, or stands in one.
-#[derive(Clone, Copy, Debug)]
+#[derive(Clone, Copy)]
 enum Shape {
     If(Var),
     Zero(Var),
@@ -779,39 +779,27 @@ fn answer(alloc: Global, tried: Tried) -> Result<bool, Memory> {
 
 /// Expressions are typed as C11 6.5 says, without its conversions.
 #[test]
-fn tells_types_of_expressions(rt: HostRuntime) -> Result<(), Fail> {
-    for (to, value, right) in values() {
-        assert_eq!(rt;
-            answer(rt.alloc(), Tried::Assigned(*to, *value))?,
-            *right,
-            "{to:?} = {value:?}"
-        );
+fn tells_types_of_expressions(rt: HostRuntime) {
+    for (number, (to, value, right)) in values().iter().enumerate() {
+        let found = answer(rt.alloc(), Tried::Assigned(*to, *value));
+        equal(&rt, &number, &found, &Ok(*right));
     }
-    Ok(())
 }
 
 /// Calls have the arguments and results that their function's type asks.
 #[test]
-fn tells_calls(rt: HostRuntime) -> Result<(), Fail> {
-    for (to, called, vars, right) in calls() {
-        assert_eq!(rt;
-            answer(rt.alloc(), Tried::Called(*to, *called, vars))?,
-            *right,
-            "{to:?} = {called:?} {vars:?}"
-        );
+fn tells_calls(rt: HostRuntime) {
+    for (number, (to, called, vars, right)) in calls().iter().enumerate() {
+        let found = answer(rt.alloc(), Tried::Called(*to, *called, vars));
+        equal(&rt, &number, &found, &Ok(*right));
     }
-    Ok(())
 }
 
 /// Statements nest as C11 6.8 says.
 #[test]
-fn tells_statements(rt: HostRuntime) -> Result<(), Fail> {
-    for (shape, right) in shapes() {
-        assert_eq!(rt;
-            answer(rt.alloc(), Tried::Shaped(*shape))?,
-            *right,
-            "{shape:?}"
-        );
+fn tells_statements(rt: HostRuntime) {
+    for (number, (shape, right)) in shapes().iter().enumerate() {
+        let found = answer(rt.alloc(), Tried::Shaped(*shape));
+        equal(&rt, &number, &found, &Ok(*right));
     }
-    Ok(())
 }

@@ -1,14 +1,14 @@
 ghost use Rattle.std.specs.Prelude.{◌≡◌, ◌<◌, true, None, length, IfOk, IsTrue};
 ghost use Rattle.type_graph.specs.Arena.{EachType, complete, members_of};
 
+use crate::equal::equal;
 use cil_base::{AggId, IntKind, Memory, NameId, TypeId};
 use cil_check::types_are_well_formed;
 use std::alloc::Global;
-use std::test::Fail;
 use type_graph::{AggKind, Member, Members, Node, QualType, Quals, TypeGraph, TypeList};
 
 /// The type from which another is derived.
-#[derive(Clone, Copy, Debug, PartialEq, Eq)]
+#[derive(Clone, Copy, PartialEq, Eq)]
 enum Of {
     Void,
     Char,
@@ -22,7 +22,7 @@ enum Of {
 }
 
 /// The forms of a function type.
-#[derive(Clone, Copy, Debug)]
+#[derive(Clone, Copy)]
 pub(crate) enum Form {
     Prototype,
     Variadic,
@@ -31,7 +31,7 @@ pub(crate) enum Form {
 }
 
 /// What is added to a graph.
-#[derive(Clone, Copy, Debug)]
+#[derive(Clone, Copy)]
 enum Added {
     Pointer(Of),
     Array(Of, Option<u64>),
@@ -395,9 +395,8 @@ fn answer(alloc: Global, added: Added) -> Result<bool, Memory> {
 
 /// Types that keep the rules pass, and one that breaks one rule does not.
 #[test]
-fn tells_well_formed_types(rt: HostRuntime) -> Result<(), Fail> {
-    for (added, right) in rows() {
-        assert_eq!(rt; answer(rt.alloc(), *added)?, *right, "with {added:?}");
+fn tells_well_formed_types(rt: HostRuntime) {
+    for (number, (added, right)) in rows().iter().enumerate() {
+        equal(&rt, &number, &answer(rt.alloc(), *added), &Ok(*right));
     }
-    Ok(())
 }

@@ -1,14 +1,14 @@
+use crate::equal::equal;
 use crate::graphs::{Form, function};
 use crate::program::{add_function, empty, no_body};
 use cil_base::{EntityId, IntKind, LabelId, LocalId, Memory, NameId, NamePool, TypeId};
 use cil_check::check;
 use cil_tree::{Body, CilUnit, Exp, Host, Instr, Local, Lval, Stmt};
 use std::alloc::Global;
-use std::test::Fail;
 use type_graph::Node;
 
 /// What is changed in the program `int main ( void ) { int y ; again : ; out : ; return 0 ; }`.
-#[derive(Clone, Copy, Debug, PartialEq, Eq)]
+#[derive(Clone, Copy, PartialEq, Eq)]
 enum Change {
     Nothing,
     GotoThere,
@@ -186,9 +186,8 @@ fn answer(alloc: Global, change: Change) -> Result<bool, Memory> {
 
 /// Labels are set in order and once, jumps and returns are where they may be, and each number names something.
 #[test]
-fn tells_jumps_and_numbers(rt: HostRuntime) -> Result<(), Fail> {
-    for (change, right) in rows() {
-        assert_eq!(rt; answer(rt.alloc(), *change)?, *right, "with {change:?}");
+fn tells_jumps_and_numbers(rt: HostRuntime) {
+    for (number, (change, right)) in rows().iter().enumerate() {
+        equal(&rt, &number, &answer(rt.alloc(), *change), &Ok(*right));
     }
-    Ok(())
 }

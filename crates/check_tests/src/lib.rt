@@ -6,6 +6,8 @@
 #[cfg(test)]
 mod bodies;
 #[cfg(test)]
+mod equal;
+#[cfg(test)]
 mod graphs;
 #[cfg(test)]
 mod jumps;

@@ -1,16 +1,16 @@
+use crate::equal::equal;
 use crate::graphs::{Form, array, finish, finish_with_two, function, pointer, qualified};
 use crate::program::{add_local, declare, empty, no_body};
 use cil_base::{AggId, Constant, EntityId, IntKind, Memory, NameId, NamePool, TypeId};
 use cil_check::check;
 use cil_tree::{Body, CilUnit, Exp, GlobalDecl, GlobalDef, ImageItem, Step, Stmt};
 use std::alloc::Global;
-use std::test::Fail;
 use type_graph::{AggKind, Node, QualType, TypeGraph};
 
 /// The types that the global has: `char`, `int`, `int *`, `enum e { red }`, `int [ 2 ]`, `int [ ]`,
 /// `union u { int i ; int row [ 2 ] ; }`, `struct s { int x ; union u v ; }`, `struct t`, `void`, `int ( void )`,
 /// `int ( int )`, `int ( int , ... )`, `int ( )`, `struct t ( void )` and `void ( void )`.
-#[derive(Clone, Copy, Debug)]
+#[derive(Clone, Copy)]
 enum Of {
     Char,
     Int,
@@ -31,7 +31,7 @@ enum Of {
 }
 
 /// What the global is.
-#[derive(Clone, Copy, Debug)]
+#[derive(Clone, Copy)]
 enum Def {
     Declared,
     InternalDeclared,
@@ -408,29 +408,26 @@ fn initialised(alloc: Global, of: Of, image: Image) -> Result<bool, Memory> {
 
 /// Globals are defined as their types allow.
 #[test]
-fn tells_definitions(rt: HostRuntime) -> Result<(), Fail> {
-    for (of, def, right) in definitions() {
-        assert_eq!(rt; defined(rt.alloc(), *of, *def)?, *right, "{of:?} {def:?}");
+fn tells_definitions(rt: HostRuntime) {
+    for (number, (of, def, right)) in definitions().iter().enumerate() {
+        equal(&rt, &number, &defined(rt.alloc(), *of, *def), &Ok(*right));
     }
-    Ok(())
 }
 
 /// The paths of an image lead to scalars, rise, and take one member of each union.
 #[test]
-fn tells_paths_of_images(rt: HostRuntime) -> Result<(), Fail> {
-    for (of, paths, right) in images() {
-        let found = initialised(rt.alloc(), *of, Image::Ones(paths))?;
-        assert_eq!(rt; found, *right, "{of:?} {paths:?}");
+fn tells_paths_of_images(rt: HostRuntime) {
+    for (number, (of, paths, right)) in images().iter().enumerate() {
+        let found = initialised(rt.alloc(), *of, Image::Ones(paths));
+        equal(&rt, &number, &found, &Ok(*right));
     }
-    Ok(())
 }
 
 /// A scalar's value has its type and is not zero.
 #[test]
-fn tells_values_of_images(rt: HostRuntime) -> Result<(), Fail> {
-    for (of, value, right) in constants() {
-        let found = initialised(rt.alloc(), *of, Image::Scalar(*value))?;
-        assert_eq!(rt; found, *right, "{of:?} {value:?}");
+fn tells_values_of_images(rt: HostRuntime) {
+    for (number, (of, value, right)) in constants().iter().enumerate() {
+        let found = initialised(rt.alloc(), *of, Image::Scalar(*value));
+        equal(&rt, &number, &found, &Ok(*right));
     }
-    Ok(())
 }

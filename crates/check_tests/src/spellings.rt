@@ -1,15 +1,15 @@
+use crate::equal::equal;
 use crate::graphs::{Form, finish, finish_with_two, function, pointer, qualified};
 use crate::program::{add_function, add_zero, empty, no_body};
 use cil_base::{IntKind, LabelId, Memory, NameId, NamePool, TypeId};
 use cil_check::check;
 use cil_tree::{Body, CilUnit, Exp, GlobalDecl, GlobalDef, Local, Stmt};
 use std::alloc::Global;
-use std::test::Fail;
 use type_graph::{AggKind, Node, TypeGraph, TypeList};
 
 /// What has a name in the program `enum color { red } ; struct s { int x ; int y ; } ; int n ; static int k ;`
 /// `int main ( void ) { int i ; int j ; l : ; m : ; return 0 ; }`.
-#[derive(Clone, Copy, Debug, PartialEq, Eq)]
+#[derive(Clone, Copy, PartialEq, Eq)]
 enum Named {
     EnumTag,
     StructTag,
@@ -194,19 +194,15 @@ fn answer(alloc: Global, changed: Named, other: &[u8]) -> Result<bool, Memory> {
 
 /// Names are identifiers, and differ where they have to.
 #[test]
-fn tells_names(rt: HostRuntime) -> Result<(), Fail> {
-    for (changed, other, right) in rows() {
-        assert_eq!(rt;
-            answer(rt.alloc(), *changed, other)?,
-            *right,
-            "{changed:?} named {other:?}"
-        );
+fn tells_names(rt: HostRuntime) {
+    for (number, (changed, other, right)) in rows().iter().enumerate() {
+        let found = answer(rt.alloc(), *changed, other);
+        equal(&rt, &number, &found, &Ok(*right));
     }
-    Ok(())
 }
 
 /// How `__builtin_memset` is declared.
-#[derive(Clone, Copy, Debug)]
+#[derive(Clone, Copy)]
 struct Memset {
     length: IntKind,
     internal: bool,
@@ -258,14 +254,18 @@ fn with_memset(alloc: Global, memset: Memset) -> Result<bool, Memory> {
 
 /// `__builtin_memset` is external and has its type.
 #[test]
-fn tells_the_builtin(rt: HostRuntime) -> Result<(), Fail> {
+fn tells_the_builtin(rt: HostRuntime) {
     for (length, internal, right) in [
         (IntKind::ULong, false, true),
         (IntKind::UInt, false, false),
         (IntKind::ULong, true, false),
     ] {
         let memset = Memset { length, internal };
-        assert_eq!(rt; with_memset(rt.alloc(), memset)?, right, "with {memset:?}");
+        equal(
+            &rt,
+            &(length, internal),
+            &with_memset(rt.alloc(), memset),
+            &Ok(right),
+        );
     }
-    Ok(())
 }

@@ -54,8 +54,8 @@ fn fill_sample(store: &mut Store) -> Result<(), Memory> {
     store.make_function(EntityId(2))
 }
 
-fn sample(alloc: Global) -> Result<Store, Memory> {
-    let mut store = Store::new(alloc);
+fn sample(alloc: Global) -> Result<Box<Store>, Memory> {
+    let mut store = Box::new(alloc, Store::new(alloc))?;
     fill_sample(&mut store)?;
     Ok(store)
 }

@@ -1,4 +1,4 @@
-ghost use Rattle.std.specs.Prelude.{◌≡◌};
+ghost use Rattle.std.specs.Prelude.{◌≡◌, ◌<◌, length};
 
 use crate::equal::equal;
 use cil_base::{IntKind, Memory, TypeId};
@@ -19,10 +19,18 @@ fn qualified(of: TypeId, constant: bool) -> QualType
     }
 }
 
+/// A type is one of the graph's.
+fn is_there(rt: &impl Abort, g: &TypeGraph, t: TypeId)
+    ensures { t.0 < length g.now.nodes }
+{
+    assert!(rt; t.0 < g.len());
+}
+
 /// Each row holds two types, and whether they are compatible.
 fn are_compared(rt: &impl Abort, g: &TypeGraph, rows: &[(TypeId, TypeId, bool)]) {
     for (a, b, answer) in rows {
-        assert!(rt; a.0 < g.len() && b.0 < g.len());
+        is_there(rt, g, *a);
+        is_there(rt, g, *b);
         equal(rt, &(*a, *b), &compatible(g, *a, *b), answer);
     }
 }
@@ -34,7 +42,8 @@ fn are_composed(
     rows: &[(TypeId, TypeId, TypeId)],
 ) -> Result<(), Memory> {
     for (a, b, answer) in rows {
-        assert!(rt; a.0 < g.len() && b.0 < g.len());
+        is_there(rt, g, *a);
+        is_there(rt, g, *b);
         let made = composite(g.alloc(), g, *a, *b)?;
         equal(rt, &(*a, *b), &made, answer);
     }
@@ -48,7 +57,7 @@ fn pointer(
     to: TypeId,
     constant: bool,
 ) -> Result<TypeId, Memory> {
-    assert!(rt; to.0 < g.len());
+    is_there(rt, g, to);
     g.add_node(Node::Ptr(qualified(to, constant)))
 }
 
@@ -59,7 +68,7 @@ fn array(
     of: TypeId,
     bound: Option<u64>,
 ) -> Result<TypeId, Memory> {
-    assert!(rt; of.0 < g.len());
+    is_there(rt, g, of);
     g.add_node(Node::Array(qualified(of, false), bound))
 }
 
@@ -131,7 +140,8 @@ fn function(
         proto,
         variadic,
     } = parameters;
-    assert!(rt; int.0 < g.len() && of.0 < g.len());
+    is_there(rt, g, int);
+    is_there(rt, g, of);
     let mut params = Vec::new(g.alloc());
     if proto {
         params.push(of)?;
@@ -224,7 +234,7 @@ fn pointer_taking_none(
     ret: TypeId,
     proto: bool,
 ) -> Result<TypeId, Memory> {
-    assert!(rt; ret.0 < g.len());
+    is_there(rt, g, ret);
     let function = g.add_node(Node::Func {
         ret,
         params: TypeList::new(Vec::new(g.alloc())),
@@ -242,7 +252,9 @@ fn pointer_taking(
     first: TypeId,
     second: TypeId,
 ) -> Result<TypeId, Memory> {
-    assert!(rt; ret.0 < g.len() && first.0 < g.len() && second.0 < g.len());
+    is_there(rt, g, ret);
+    is_there(rt, g, first);
+    is_there(rt, g, second);
     let mut params = Vec::new(g.alloc());
     params.push(first)?;
     params.push(second)?;

@@ -14,235 +14,258 @@ const INT: TypeId = TypeId(0);
 
 const POINTER: TypeId = TypeId(1);
 
-/// An expression that builders make.
+/// A part of an expression, written behind its operands.
 #[derive(Clone, Copy)]
-enum Sample {
+enum Word {
+    /// The constant 2.
     Two,
-    Variable,
-    Value,
-    Sum,
-    Set,
-    SumOfSet,
-    Element,
-    MemberOfValue,
-    MemberOfPlace,
-    Doubled,
+    Local(TypeId, LocalId),
+    Entity(TypeId, EntityId),
+    Load,
+    Decay,
+    /// The member 1 of a struct.
+    Member,
+    /// `++` behind its operand.
     Next,
+    Bin(BinOp),
+    Assign,
+    /// `*=`
+    Doubled,
+    Subscript,
     Choice,
-    Called,
+    /// A call with one argument.
+    Call,
 }
+
+/// The int of number 3.
+const X: Word = Word::Local(INT, LocalId(3));
+
+/// A struct.
+const RECORD: Word = Word::Local(TypeId(3), LocalId(0));
+
+const ARRAY: Word = Word::Entity(TypeId(2), EntityId(0));
+
+const FUNCTION: Word = Word::Entity(TypeId(4), EntityId(1));
+
+const ADD: Word = Word::Bin(BinOp::Add);
 
 /// What a builder makes: whether an effect stands in it, and whether it is a place.
 struct Row {
     name: &'static str,
-    sample: Sample,
+    words: &'static [Word],
     effect: bool,
     place: bool,
 }
 
-fn two(alloc: Global) -> Result<TypedExp, Memory> {
-    integer(alloc, INT, 2)
+fn popped(stack: &mut Vec<TypedExp>) -> Result<TypedExp, Memory> {
+    match stack.pop() {
+        Some(e) => Ok(e),
+        None => Err(Memory),
+    }
 }
 
-fn variable(alloc: Global) -> Result<TypedExp, Memory> {
-    local(alloc, unqualified(INT), LocalId(3))
+/// A word without operands.
+fn on_none(alloc: Global, word: Word) -> Result<TypedExp, Memory> {
+    match word {
+        Word::Local(of, n) => local(alloc, unqualified(of), n),
+        Word::Entity(of, n) => entity(alloc, unqualified(of), n),
+        _ => integer(alloc, INT, 2),
+    }
 }
 
-fn value(alloc: Global) -> Result<TypedExp, Memory> {
-    load(alloc, variable(alloc)?)
+/// A word on one operand.
+fn on_one(alloc: Global, word: Word, stack: &mut Vec<TypedExp>) -> Result<TypedExp, Memory> {
+    let e = popped(stack)?;
+    match word {
+        Word::Load => load(alloc, e),
+        Word::Decay => decay(alloc, POINTER, e),
+        Word::Member => member(alloc, unqualified(INT), e, AggId(0), 1),
+        _ => step(alloc, StepForm::PostIncrement, INT, e),
+    }
 }
 
-fn sum(alloc: Global) -> Result<TypedExp, Memory> {
-    let left = value(alloc)?;
-    let right = two(alloc)?;
-    binary(alloc, INT, BinOp::Add, left, right)
+/// A word on two operands.
+fn on_two(alloc: Global, word: Word, stack: &mut Vec<TypedExp>) -> Result<TypedExp, Memory> {
+    let right = popped(stack)?;
+    let left = popped(stack)?;
+    match word {
+        Word::Bin(op) => binary(alloc, INT, op, left, right),
+        Word::Assign => assign(alloc, left, right),
+        Word::Doubled => compute(alloc, BinOp::Mul, INT, left, right),
+        _ => subscript(alloc, unqualified(INT), left, right),
+    }
 }
 
-fn set(alloc: Global) -> Result<TypedExp, Memory> {
-    let place = variable(alloc)?;
-    let value = two(alloc)?;
-    assign(alloc, place, value)
-}
-
-fn sum_of_set(alloc: Global) -> Result<TypedExp, Memory> {
-    let left = two(alloc)?;
-    let right = set(alloc)?;
-    binary(alloc, INT, BinOp::Sub, left, right)
-}
-
-fn element(alloc: Global) -> Result<TypedExp, Memory> {
-    let array = decay(
-        alloc,
-        POINTER,
-        entity(alloc, unqualified(TypeId(2)), EntityId(0))?,
-    )?;
-    let index = two(alloc)?;
-    subscript(alloc, unqualified(INT), array, index)
-}
-
-fn member_of_value(alloc: Global) -> Result<TypedExp, Memory> {
-    let record = load(alloc, local(alloc, unqualified(TypeId(3)), LocalId(0))?)?;
-    member(alloc, unqualified(INT), record, AggId(0), 1)
-}
-
-fn member_of_place(alloc: Global) -> Result<TypedExp, Memory> {
-    let record = local(alloc, unqualified(TypeId(3)), LocalId(0))?;
-    member(alloc, unqualified(INT), record, AggId(0), 1)
-}
-
-fn doubled(alloc: Global) -> Result<TypedExp, Memory> {
-    let place = variable(alloc)?;
-    let value = two(alloc)?;
-    compute(alloc, BinOp::Mul, INT, place, value)
-}
-
-fn next(alloc: Global) -> Result<TypedExp, Memory> {
-    step(alloc, StepForm::PostIncrement, INT, variable(alloc)?)
-}
-
-/// The expressions of a conditional: `2` and `x + 2`.
-fn branches(alloc: Global) -> Result<Box<Branches>, Memory> {
-    let holds = two(alloc)?;
-    let fails = sum(alloc)?;
+/// The last two expressions of a conditional.
+fn branches(alloc: Global, stack: &mut Vec<TypedExp>) -> Result<Box<Branches>, Memory> {
+    let fails = popped(stack)?;
+    let holds = popped(stack)?;
     Ok(Box::new(alloc, Branches { holds, fails })?)
 }
 
-fn choice(alloc: Global) -> Result<TypedExp, Memory> {
-    let test = value(alloc)?;
-    let branches = branches(alloc)?;
+fn choice(alloc: Global, stack: &mut Vec<TypedExp>) -> Result<TypedExp, Memory> {
+    let branches = branches(alloc, stack)?;
+    let test = popped(stack)?;
     conditional(alloc, INT, test, branches)
 }
 
-/// The arguments of a call: `2`.
-fn one_argument(alloc: Global) -> Result<Vec<TypedExp>, Memory> {
+/// The last expression as the arguments of a call.
+fn one_argument(alloc: Global, stack: &mut Vec<TypedExp>) -> Result<Vec<TypedExp>, Memory> {
+    let e = popped(stack)?;
     let mut arguments = Vec::new(alloc);
-    arguments.push(two(alloc)?)?;
+    arguments.push(e)?;
     Ok(arguments)
 }
 
-fn called(alloc: Global) -> Result<TypedExp, Memory> {
-    let callee = decay(
-        alloc,
-        POINTER,
-        entity(alloc, unqualified(TypeId(4)), EntityId(1))?,
-    )?;
-    let arguments = one_argument(alloc)?;
+fn called(alloc: Global, stack: &mut Vec<TypedExp>) -> Result<TypedExp, Memory> {
+    let arguments = one_argument(alloc, stack)?;
+    let callee = popped(stack)?;
     call(alloc, INT, callee, arguments)
 }
 
-fn compound_literal(alloc: Global) -> Result<TypedExp, Memory> {
-    literal(alloc, unqualified(INT), 0, one_scalar(alloc)?)
-}
-
-fn built(alloc: Global, sample: Sample) -> Result<TypedExp, Memory> {
-    match sample {
-        Sample::Two => two(alloc),
-        Sample::Variable => variable(alloc),
-        Sample::Value => value(alloc),
-        Sample::Sum => sum(alloc),
-        Sample::Set => set(alloc),
-        Sample::SumOfSet => sum_of_set(alloc),
-        Sample::Element => element(alloc),
-        Sample::MemberOfValue => member_of_value(alloc),
-        Sample::MemberOfPlace => member_of_place(alloc),
-        Sample::Doubled => doubled(alloc),
-        Sample::Next => next(alloc),
-        Sample::Choice => choice(alloc),
-        Sample::Called => called(alloc),
+/// What a word makes of its operands, which are taken off the stack.
+fn made(alloc: Global, word: Word, stack: &mut Vec<TypedExp>) -> Result<TypedExp, Memory> {
+    match word {
+        Word::Two | Word::Local(..) | Word::Entity(..) => on_none(alloc, word),
+        Word::Load | Word::Decay | Word::Member | Word::Next => on_one(alloc, word, stack),
+        Word::Bin(_) | Word::Assign | Word::Doubled | Word::Subscript => {
+            on_two(alloc, word, stack)
+        }
+        Word::Choice => choice(alloc, stack),
+        Word::Call => called(alloc, stack),
     }
 }
+
+/// Puts behind the others what a word makes.
+fn put(alloc: Global, word: Word, stack: &mut Vec<TypedExp>) -> Result<(), Memory> {
+    let e = made(alloc, word, stack)?;
+    stack.push(e)?;
+    Ok(())
+}
+
+/// The last of the expressions that the words write.
+fn last_read(alloc: Global, words: &[Word], stack: &mut Vec<TypedExp>) -> Result<TypedExp, Memory> {
+    for word in words {
+        put(alloc, *word, stack)?;
+    }
+    popped(stack)
+}
+
+/// The expression that the words write.
+fn read(alloc: Global, words: &[Word]) -> Result<TypedExp, Memory> {
+    let mut stack = Vec::new(alloc);
+    last_read(alloc, words, &mut stack)
+}
+
+/// `2`
+const TWO: &[Word] = &[Word::Two];
+
+/// `x`, as a value
+const VALUE: &[Word] = &[X, Word::Load];
+
+/// `x = 2`
+const SET: &[Word] = &[X, Word::Two, Word::Assign];
 
 const ROWS: [Row; 13] = [
     Row {
         name: "2",
-        sample: Sample::Two,
+        words: TWO,
         effect: false,
         place: false,
     },
     Row {
         name: "x",
-        sample: Sample::Variable,
+        words: &[X],
         effect: false,
         place: true,
     },
     Row {
         name: "x, as a value",
-        sample: Sample::Value,
+        words: VALUE,
         effect: false,
         place: false,
     },
     Row {
         name: "x + 2",
-        sample: Sample::Sum,
+        words: &[X, Word::Load, Word::Two, ADD],
         effect: false,
         place: false,
     },
     Row {
         name: "x = 2",
-        sample: Sample::Set,
+        words: SET,
         effect: true,
         place: false,
     },
     Row {
         name: "2 - (x = 2)",
-        sample: Sample::SumOfSet,
+        words: &[Word::Two, X, Word::Two, Word::Assign, Word::Bin(BinOp::Sub)],
         effect: true,
         place: false,
     },
     Row {
         name: "a[2]",
-        sample: Sample::Element,
+        words: &[ARRAY, Word::Decay, Word::Two, Word::Subscript],
         effect: false,
         place: true,
     },
     Row {
         name: "a member of a value",
-        sample: Sample::MemberOfValue,
+        words: &[RECORD, Word::Load, Word::Member],
         effect: false,
         place: false,
     },
     Row {
         name: "a member of a place",
-        sample: Sample::MemberOfPlace,
+        words: &[RECORD, Word::Member],
         effect: false,
         place: true,
     },
     Row {
         name: "x *= 2",
-        sample: Sample::Doubled,
+        words: &[X, Word::Two, Word::Doubled],
         effect: true,
         place: false,
     },
     Row {
         name: "x++",
-        sample: Sample::Next,
+        words: &[X, Word::Next],
         effect: true,
         place: false,
     },
     Row {
         name: "x ? 2 : x + 2",
-        sample: Sample::Choice,
+        words: &[
+            X,
+            Word::Load,
+            Word::Two,
+            X,
+            Word::Load,
+            Word::Two,
+            ADD,
+            Word::Choice,
+        ],
         effect: true,
         place: false,
     },
     Row {
         name: "f(2)",
-        sample: Sample::Called,
+        words: &[FUNCTION, Word::Decay, Word::Two, Word::Call],
         effect: true,
         place: false,
     },
 ];
 
 /// Whether an effect stands in an expression, and whether it is a place.
-fn effect_and_place(alloc: Global, sample: Sample) -> Result<(bool, bool), Memory> {
-    let e = built(alloc, sample)?;
+fn effect_and_place(alloc: Global, words: &[Word]) -> Result<(bool, bool), Memory> {
+    let e = read(alloc, words)?;
     Ok((e.has_effect(), e.is_place()))
 }
 
 #[test]
 fn builders_tell_effects_and_places(rt: HostRuntime) -> Result<(), Memory> {
     for row in &ROWS {
-        let got = effect_and_place(rt.alloc(), row.sample)?;
+        let got = effect_and_place(rt.alloc(), row.words)?;
         equal(&rt, &row.name, &got, &(row.effect, row.place));
     }
     Ok(())
@@ -250,9 +273,16 @@ fn builders_tell_effects_and_places(rt: HostRuntime) -> Result<(), Memory> {
 
 /// `{ 2 }`, of a scalar.
 fn one_scalar(alloc: Global) -> Result<TypedInit, Memory> {
+    let two = read(alloc, TWO)?;
     let mut steps = Vec::new(alloc);
-    steps.push(scalar_part(Path::new(alloc), two(alloc)?))?;
+    steps.push(scalar_part(Path::new(alloc), two))?;
     Ok(initialiser(steps))
+}
+
+/// `( int ) { 2 }`
+fn compound_literal(alloc: Global) -> Result<TypedExp, Memory> {
+    let init = one_scalar(alloc)?;
+    literal(alloc, unqualified(INT), 0, init)
 }
 
 #[test]
@@ -274,7 +304,7 @@ fn nodes_are_small(rt: HostRuntime) {
 
 /// `x = 2;`
 fn put_assignment(alloc: Global, items: &mut Vec<TypedStmt>) -> Result<(), Memory> {
-    let e = set(alloc)?;
+    let e = read(alloc, SET)?;
     items.push(evaluation(e))?;
     Ok(())
 }
@@ -295,7 +325,7 @@ fn one_assignment(alloc: Global) -> Result<Vec<TypedStmt>, Memory> {
 
 /// `if (x) x = 2;`
 fn put_selection(alloc: Global, items: &mut Vec<TypedStmt>) -> Result<(), Memory> {
-    let test = value(alloc)?;
+    let test = read(alloc, VALUE)?;
     let holds = one_assignment(alloc)?;
     items.push(selection(test, holds, Vec::new(alloc)))?;
     Ok(())
