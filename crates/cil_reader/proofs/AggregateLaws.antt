@@ -1022,12 +1022,6 @@ holds_all s names a h less =
 pub holds_fields : (s : Setting) (names : List (List ℕ)) → Holds s names (length s.graph.aggs) → (env_in s).members ≡ map seen_fields (aggregates_in s.graph names)
 holds_fields s names h = h.fields ∙ ap (map seen_fields) (take_all (length s.graph.aggs) (aggregates_in s.graph names) (omega (arith, count_in s.graph names)))
 
-pub holds_plain : (s : Setting) (names : List (List ℕ)) (k : ℕ) → Holds s names k → list_all members_are_unqualified s.graph.aggs ≡ true
-holds_plain s names k h = h.plain
-
-pub holds_tags : (s : Setting) (names : List (List ℕ)) (k : ℕ) → Holds s names k → (env_in s).tags ≡ map tag_of (aggregates_in s.graph names)
-holds_tags s names k h = h.tags
-
 -- all aggregates
 
 enums_some : (n : ℕ) (ls vs : Lines) (xs : List SeenAggregate) → enums_from n [] ls ≡ Some (xs, vs) → (read_enums n ls ≡ Some (xs, vs)) × (are_different (map tag_of xs) ≡ true)
@@ -1368,6 +1362,3 @@ struct_left s names a n ls ys h less e f =
 
 pub left_rest : (s t : Setting) (names : List (List ℕ)) (k : ℕ) → t.graph ≡ s.graph → drop k (aggregates_in t.graph names) ≡ drop k (aggregates_in s.graph names)
 left_rest s t names k e = ap (λ (g : Graph). drop k (aggregates_in g names)) e
-
-pub holds_seen : (s : Setting) (names : List (List ℕ)) (k : ℕ) → Holds s names k → AggregatesKnown s.graph names
-holds_seen s names k h = h.seen

@@ -11,7 +11,7 @@ use Rattle.cil_base.specs.declared.numbers.TypeId.{TypeId}
 use Rattle.type_graph.specs.declared.nodes.Node.{Node}
 use Rattle.type_graph.specs.Shapes.{Shape, shape}
 use Rattle.type_graph.specs.Arena.{Graph}
-use Rattle.type_graph.specs.Growth.{Grows, KeepsAggregates}
+use Rattle.type_graph.specs.Growth.{Grows}
 use Rattle.type_graph.proofs.ShapeLaws.{kept}
 use Rattle.type_graph.proofs.GrowthLaws.{grows_twice, grows_none}
 use Rattle.cil_tree.specs.declared.globals.GlobalDecl.{GlobalDecl as SeenGlobal}
@@ -99,12 +99,6 @@ declarations_kept g h [] r e = refl
 declarations_kept g h (d ∷ ds) r e = ap (λ (x : Declaration). x ∷ declarations_of h.nodes ds) (declaration_kept g h d r e.0) ∙ ap (λ (xs : List Declaration). declaration_of g.nodes d ∷ xs) (declarations_kept g h ds r e.1)
 
 -- lines
-
-pub keeps_twice : (f g h : Graph) → KeepsAggregates f g → KeepsAggregates g h → KeepsAggregates f h
-keeps_twice f g h a b = (b.0 ∙ a.0, b.1 ∙ a.1)
-
-pub keeps_none : (g : Graph) → KeepsAggregates g g
-keeps_none g = (refl, refl)
 
 abbrev ended_with : Bool → Named × List Word → Option Declaration
 ended_with internal ((s, None), ws) = None
@@ -236,11 +230,6 @@ pub declarations_fail : (env now : Env) (n : ℕ) (ds : List Declaration) (lines
 declarations_fail env now n ds lines i d whole less same told e inv =
     sym inv ∙ declarations_at (bases env) n ds lines i d less e
     ∙ ap (option_and_then (declarations_on (bases env) n (all_lines (drop (i + 1) lines)))) (ap (λ v. option_map (declaration_behind ds) (declaration_from (bases v) n (all_said (get_or lines i d).items))) (sym same) ∙ told)
-
-pub declarations_stops : (env now : Env) (n : ℕ) (ds : List Declaration) (lines : List (Vec Seen Global)) (i : ℕ) (d : Vec Seen Global) (whole : LinesReading (List Declaration)) (e : Stop) → i < length lines → now ≡ env → Fails e (option_map (declaration_behind ds) (declaration_from (bases now) n (all_said (get_or lines i d).items))) →
-    declares (all_said (get_or lines i d).items) ≡ true → option_map (declarations_behind ds) (read_declarations (bases env) n (all_lines (drop i lines))) ≡ whole → Fails e whole
-declarations_stops env now n ds lines i d whole NotCil less same told e inv = declarations_fail env now n ds lines i d whole less same told e inv
-declarations_stops env now n ds lines i d whole WantOfMemory less same told e inv = tt
 
 pub declarations_next : (env now : Env) (n : ℕ) (ds es : List Declaration) (lines : List (Vec Seen Global)) (i : ℕ) (d : Vec Seen Global) (whole : LinesReading (List Declaration)) → i < length lines → now ≡ env → option_map (declaration_behind ds) (declaration_from (bases now) n (all_said (get_or lines i d).items)) ≡ Some es →
     declares (all_said (get_or lines i d).items) ≡ true → option_map (declarations_behind ds) (read_declarations (bases env) n (all_lines (drop i lines))) ≡ whole → option_map (declarations_behind es) (read_declarations (bases env) n (all_lines (drop (i + 1) lines))) ≡ whole
@@ -469,9 +458,6 @@ flat_zero = record { steady = λ nodes names. refl }
 
 pub flat_declared : DefinitionFlat def.Declared
 flat_declared = record { steady = λ nodes names. refl }
-
-default_by : (d : Declaration) → default_of d ≡ cond (is_function d.type) Declared (cond d.internal Zeros Declared)
-default_by d = refl
 
 pub default_function : (d : Declaration) → is_function d.type ≡ true → Declared ≡ default_of d
 default_function d e = sym (ap (λ b. cond b Declared (cond d.internal Zeros Declared)) e)

@@ -15,10 +15,10 @@ use Rattle.cil_tree.specs.declared.expressions.Exp.{Exp as SeenExp}
 use Rattle.cil_tree.specs.declared.statements.Instr.{Instr as SeenInstr}
 use Rattle.cil_tree.specs.declared.statements.Stmt.{Stmt as SeenStmt}
 use Rattle.cil_tree.specs.declared.statements.Stmt.TheVariants as stmt
-use Rattle.cil_tree.specs.Tree.{Exp, Instr, Stmt, Do, Label, Return}
+use Rattle.cil_tree.specs.Tree.{Exp, Instr, Do, Label, Return}
 use Rattle.cil_tree.specs.Tree as plain
 use Rattle.cil_tree.specs.View.{stmt_of}
-use Rattle.cil_text.specs.Words.{Word, LeftParen, RightParen, LeftBrace, RightBrace, ElseWord, Colon, Semicolon, IfWord, SwitchWord, WhileWord, CaseWord, DefaultWord, GotoWord, BreakWord, ReturnWord}
+use Rattle.cil_text.specs.Words.{Word, LeftParen, RightParen, LeftBrace, Colon, Semicolon}
 use Rattle.cil_text.specs.ReadTypes.{Reading, closed}
 use Rattle.cil_text.specs.ReadExps.{Env, enclosed, read_exp}
 use Rattle.cil_text.specs.ReadStmts.{Numbered, Head, Whole, Tested, Turned, opened_by, read_tested, is_end_of_line, returned, read_return, case_of, is_label, label_text, read_simple, read_instr, read_head, read_heads, head_first}
@@ -26,13 +26,11 @@ use Rattle.cil_reader.specs.declared.heads.Head.{Head as SeenHead}
 use Rattle.cil_reader.specs.declared.heads.Head.TheVariants as seen
 use Rattle.cil_reader.specs.Parts.{ExpKnown}
 use Rattle.cil_reader.specs.Instructions.{InstrKnown}
-use Rattle.cil_forms.specs.Forms.{is_end, ends_opening, ends_case, is_block, is_jump}
+use Rattle.cil_forms.specs.Forms.{is_end, ends_opening, ends_case}
 use Rattle.cil_scan.specs.declared.words.Word.{Word as Seen}
 use Rattle.cil_scan.specs.Said.{all_said, all_lines}
-use Rattle.cil_reader.specs.Heads.{head_of, heads_of, heads_behind, StmtKnown, HeadKnown, HeadsKnown, opens, opening, labelled, brace_of, block_line, jump_line}
+use Rattle.cil_reader.specs.Heads.{head_of, heads_of, heads_behind, StmtKnown, HeadKnown, HeadsKnown, opens, opening, labelled}
 use Rattle.cil_reader.proofs.InstructionLaws.{ended, unended}
-
--- numbers
 
 -- lines that open blocks
 
@@ -118,52 +116,6 @@ pub simple_instr : (env : Env) (labels : List (List ℕ)) (n : ℕ) (ws : List W
 simple_instr env labels n ws e = ap (λ v. cond v (labelled labels Label (label_text ws)) (option_map (λ (i : Instr). Whole (Do i)) (read_instr env n ws))) e
 
 -- lines that begin with `}`
-
-brace_is : (env : Env) (labels : List (List ℕ)) (n : ℕ) (ws : List Word) → read_head env labels n (RightBrace ∷ ws) ≡ Some (brace_of ws)
-brace_is env labels n (ElseWord ∷ ws) = refl
-brace_is env labels n _ = refl
-
-pub brace_gives : (env : Env) (labels : List (List ℕ)) (n : ℕ) (ws : List Word) (h : Head) → h ≡ brace_of ws → read_head env labels n (RightBrace ∷ ws) ≡ Some h
-brace_gives env labels n ws h e = brace_is env labels n ws ∙ ap Some (sym e)
-
-pub head_block : (env : Env) (labels : List (List ℕ)) (n : ℕ) (ws : List Word) → is_block ws ≡ true → read_head env labels n ws ≡ block_line env n ws
-head_block env labels n (IfWord ∷ ws) e = refl
-head_block env labels n (SwitchWord ∷ ws) e = refl
-head_block env labels n (WhileWord ∷ ws) e = refl
-head_block env labels n (LeftBrace ∷ ws) e = refl
-head_block env labels n (RightBrace ∷ ws) e = brace_is env labels n ws
-head_block env labels n (CaseWord ∷ ws) e = absurd (cc e)
-head_block env labels n (DefaultWord ∷ ws) e = absurd (cc e)
-head_block env labels n (GotoWord ∷ ws) e = absurd (cc e)
-head_block env labels n (BreakWord ∷ ws) e = absurd (cc e)
-head_block env labels n (ReturnWord ∷ ws) e = absurd (cc e)
-head_block env labels n _ e = absurd (cc e)
-
-pub head_jump : (env : Env) (labels : List (List ℕ)) (n : ℕ) (ws : List Word) → is_jump ws ≡ true → read_head env labels n ws ≡ jump_line env labels n ws
-head_jump env labels n (IfWord ∷ ws) e = absurd (cc e)
-head_jump env labels n (SwitchWord ∷ ws) e = absurd (cc e)
-head_jump env labels n (WhileWord ∷ ws) e = absurd (cc e)
-head_jump env labels n (LeftBrace ∷ ws) e = absurd (cc e)
-head_jump env labels n (RightBrace ∷ ws) e = absurd (cc e)
-head_jump env labels n (CaseWord ∷ ws) e = refl
-head_jump env labels n (DefaultWord ∷ ws) e = refl
-head_jump env labels n (GotoWord ∷ ws) e = refl
-head_jump env labels n (BreakWord ∷ ws) e = refl
-head_jump env labels n (ReturnWord ∷ ws) e = refl
-head_jump env labels n _ e = absurd (cc e)
-
-pub head_simple : (env : Env) (labels : List (List ℕ)) (n : ℕ) (ws : List Word) → is_block ws ≡ false → is_jump ws ≡ false → read_head env labels n ws ≡ read_simple env labels n ws
-head_simple env labels n (IfWord ∷ ws) d e = absurd (cc d)
-head_simple env labels n (SwitchWord ∷ ws) d e = absurd (cc d)
-head_simple env labels n (WhileWord ∷ ws) d e = absurd (cc d)
-head_simple env labels n (LeftBrace ∷ ws) d e = absurd (cc d)
-head_simple env labels n (RightBrace ∷ ws) d e = absurd (cc d)
-head_simple env labels n (CaseWord ∷ ws) d e = absurd (cc e)
-head_simple env labels n (DefaultWord ∷ ws) d e = absurd (cc e)
-head_simple env labels n (GotoWord ∷ ws) d e = absurd (cc e)
-head_simple env labels n (BreakWord ∷ ws) d e = absurd (cc e)
-head_simple env labels n (ReturnWord ∷ ws) d e = absurd (cc e)
-head_simple env labels n _ d e = refl
 
 -- what is known of lines
 

@@ -246,10 +246,6 @@ callee_none nodes exp k o l ws is = ap (option_and_then (λ (f : Callee). read_c
 
 -- lines
 
-pub assigned_next : (exp : List Word → Reading Exp) (k : ℕ) (l : Lval) (x : Exp) (o : Reading Exp) (ws : List Word) → o ≡ Some (x, ws) →
-    option_and_then (λ (r : Exp × List Word). read_assigned exp k l r.0 r.1) o ≡ read_assigned exp k l x ws
-assigned_next exp k l x o ws e = ap (option_and_then (λ (r : Exp × List Word). read_assigned exp k l r.0 r.1)) e
-
 pub assigned_later : (env now : Env) (k : ℕ) (l m : Lval) (x : Exp) (ws vs : List Word) → now ≡ env → m ≡ l → read_exp env k ws ≡ Some (x, vs) →
     option_and_then (λ (r : Exp × List Word). read_assigned (read_exp env k) k l r.0 r.1) (read_exp env k ws) ≡ read_assigned (read_exp now k) k m x vs
 assigned_later env now k l m x ws vs same place e =

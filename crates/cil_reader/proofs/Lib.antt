@@ -1,6 +1,6 @@
 mod SettingsLaws
 mod OnwardLaws
-mod OnwardParts
+mod OutsideLaws
 mod PartsLaws
 mod OperandLaws
 mod InstructionLaws
@@ -21,6 +21,7 @@ mod MemberLaws
 mod AggregateLaws
 mod FilledLaws
 mod AddedMembers
+mod ReadLaws
 mod SameLaws
 mod ImageLaws
 mod GlobalLaws

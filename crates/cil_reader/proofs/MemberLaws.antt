@@ -124,9 +124,6 @@ nothing_known g k v x known none is = record {
 pub nothing_same : (g : Graph) (k : Known) (v : Vec Names Global) → KnownIn g k → v.items ≡ k.members.items → KnownIn g (record k { members = v })
 nothing_same g k v known is = record { tags = known.tags; members = subst (EachNames (length g.nodes)) (sym is) known.members; globals = known.globals; locals = known.locals }
 
-pub globals_known : (g : Graph) (k : Known) (x : Names) → KnownIn g k → EachType (length g.nodes) x.types.items → KnownIn g (record k { globals = x })
-globals_known g k x known e = record { tags = known.tags; members = known.members; globals = e; locals = known.locals }
-
 pub locals_known : (g : Graph) (k : Known) (x : Names) → KnownIn g k → EachType (length g.nodes) x.types.items → KnownIn g (record k { locals = x })
 locals_known g k x known e = record { tags = known.tags; members = known.members; globals = known.globals; locals = e }
 

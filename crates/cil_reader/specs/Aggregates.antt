@@ -1,5 +1,5 @@
 -- Device: aggregates while they are read, as the graph and the pool of names have them, their readings by the code's steps, and what these add to the graph.
-use Rattle.std.specs.Prelude.{◌≡◌, ℕ, nat_eq, Bool, true, false, if◌then◌else◌, List, [], ◌∷◌, ◌++◌, Option, Some, None, map, take, drop, slice_get}
+use Rattle.std.specs.Prelude.{◌≡◌, ◌+◌, ℕ, nat_eq, Bool, true, false, if◌then◌else◌, List, [], ◌∷◌, ◌++◌, Option, Some, None, length, map, take, drop, slice_get}
 use Rattle.std.specs.List.{list_all}
 use Rattle.std.specs.Option.{option_map, option_and_then}
 use Rattle.cil_base.specs.declared.kinds.Abi.{Abi}
@@ -216,3 +216,16 @@ pub record MembersAdded (f g : Graph) (names : List (List ℕ)) : Type 0 where
 pub record AggregatesAdded (g h : Graph) (names later : List (List ℕ)) : Type 0 where
   pub added : (f : Graph) → MembersAdded f g names → MembersAdded f h later
   pub model : h.abi ≡ g.abi
+
+-- what reading leaves
+
+-- of aggregates, of which the first k have been read to the end: what is known of them, and what was added
+pub record AggregatesRead (old new : Setting) (names later : List (List ℕ)) (k : ℕ) : Type 0 where
+  pub holds : Holds new later k
+  pub adds : AggregatesAdded old.graph new.graph names later
+
+-- beside the aggregate with this number: those behind it, the tags, and how many there are
+pub record OthersStay (old new : Setting) (names later : List (List ℕ)) (a : ℕ) : Type 0 where
+  pub rest : drop (a + 1) (aggregates_in new.graph later) ≡ drop (a + 1) (aggregates_in old.graph names)
+  pub tags : (env_in new).tags ≡ (env_in old).tags
+  pub count : length new.graph.aggs ≡ length old.graph.aggs

@@ -10,6 +10,7 @@ use Rattle.std.specs.Option.{option_map}
 use Rattle.cil_text.specs.ReadExps.{Env, find_named, type_of_named}
 use Rattle.cil_reader.specs.declared.names.Names.{Names}
 use Rattle.cil_reader.specs.declared.names.Known.{Known}
+use Rattle.cil_reader.specs.Pools.{KeepsNames}
 
 -- names with the types that stand at the same places
 abbrev pub zipped : List Node → List (List ℕ) → List TypeId → List Local
@@ -58,6 +59,13 @@ with_locals env xs = record env { locals = xs }
 -- what is known outside functions
 abbrev pub outside : Env → Env
 outside env = record env { locals = [] }
+
+-- what the reading of functions leaves: what is known outside of them stays, and the pool keeps its names
+pub record OnwardOutside (old new : Setting) (names later : List (List ℕ)) : Type 0 where
+  pub grows : Grows old.graph new.graph
+  pub keeps : KeepsAggregates old.graph new.graph
+  pub env : outside (env_in new) ≡ outside (env_in old)
+  pub pool : KeepsNames names later
 
 -- the shape of a type that may be none
 abbrev pub type_in : List Node → Option TypeId → Option Shape

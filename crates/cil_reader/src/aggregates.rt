@@ -15,7 +15,7 @@ ghost use Rattle.cil_declarators.specs.Gives.{Gives};
 ghost use Rattle.cil_reader.specs.Settings.{Onward, env_in};
 ghost use Rattle.cil_reader.specs.Pools.{KeepsNames};
 ghost use Rattle.cil_reader.specs.Members.{AreThere, IsMember, MembersKnown, FieldsKnown, members_in, valued, enumerator_with, enumerator_more, member_with, with_other, member_more, next_line, enumerators_from, members_from};
-ghost use Rattle.cil_reader.specs.Aggregates.{aggregates_in, AggregatesKnown, Holds, IsBlank, AreOpen, ArePlain, one_enum, next_enum, enums_from, with_tag, next_tag, tags_from, tag_at, one_complete, one_struct, own_members, tagged_structs, bit, types_at, FieldsAdded, AggregatesAdded};
+ghost use Rattle.cil_reader.specs.Aggregates.{aggregates_in, AggregatesKnown, Holds, IsBlank, AreOpen, ArePlain, one_enum, next_enum, enums_from, with_tag, next_tag, tags_from, tag_at, one_complete, one_struct, own_members, tagged_structs, bit, types_at, FieldsAdded, AggregatesAdded, AggregatesRead, OthersStay};
 
 use crate::names::Names;
 use crate::reader::Reader;
@@ -86,7 +86,7 @@ fn member(pool: &mut NamePool, text: &[u8], of: TypeId, value: i32) -> Result<Me
 }
 
 /// One enumerator more, by its line.
-#[tactic(auto, using(crate::proofs::MemberLaws::enumerator_added, crate::proofs::MemberLaws::enumerator_none, crate::proofs::MemberLaws::members_more, crate::proofs::MemberLaws::member_there))]
+#[tactic(auto, using(crate::proofs::MemberLaws::enumerator_added, crate::proofs::MemberLaws::enumerator_none, crate::proofs::MemberLaws::member_there))]
 fn one_enumerator(
     r: &Reader,
     pool: &mut NamePool,
@@ -143,7 +143,7 @@ fn next_enumerator<'w, 'a>(
 }
 
 /// Enumerators up to the line that closes their enum, and the lines behind it.
-#[tactic(auto, using(crate::proofs::MemberLaws::none_there, crate::proofs::MemberLaws::none_known, crate::proofs::MemberLaws::enumerators_begin, crate::proofs::MemberLaws::enumerators_none, crate::proofs::MemberLaws::enumerators_next, crate::proofs::MemberLaws::enumerators_end, crate::proofs::MemberLaws::enumerators_fail, crate::proofs::PoolLaws::pool_same, crate::proofs::PoolLaws::pool_twice))]
+#[tactic(auto, using(crate::proofs::MemberLaws::none_there, crate::proofs::MemberLaws::enumerators_begin, crate::proofs::MemberLaws::enumerators_none, crate::proofs::MemberLaws::enumerators_end, crate::proofs::MemberLaws::enumerators_fail, crate::proofs::PoolLaws::pool_twice))]
 fn read_enumerators<'w, 'a>(
     r: &Reader,
     pool: &mut NamePool,
@@ -168,7 +168,7 @@ fn read_enumerators<'w, 'a>(
 }
 
 /// Behind the line that opens an enum: its enumerators.
-#[tactic(auto, using(crate::proofs::AggregateLaws::never, crate::proofs::AggregateLaws::enum_fails, crate::proofs::AggregateLaws::enum_twice, crate::proofs::AggregateLaws::enum_refused, crate::proofs::AggregateLaws::enum_gives, crate::proofs::AggregateLaws::enum_holds, crate::proofs::AggregateLaws::holds_later, crate::proofs::AggregateLaws::nothing_types, crate::proofs::PoolLaws::pool_same, crate::proofs::AddedMembers::enum_added, crate::proofs::PoolLaws::pool_twice, crate::proofs::OnwardLaws::onward_grows, crate::proofs::OnwardParts::onward_keeps, crate::proofs::OnwardLaws::onward_env))]
+#[tactic(auto, using(crate::proofs::AggregateLaws::nothing_types, crate::proofs::PoolLaws::pool_same, crate::proofs::PoolLaws::pool_twice))]
 fn read_enum<'w, 'a>(
     r: &mut Reader,
     pool: &mut NamePool,
@@ -177,8 +177,7 @@ fn read_enum<'w, 'a>(
 ) -> Result<&'w [Vec<Word<'a>>], Stop>
     requires holds { Holds r.old pool.old (length r.old.graph.aggs) }
     ensures gives { Gives (λ rest. (aggregates_in r.new.graph pool.new, all_lines rest.now)) result (one_enum (aggregates_in r.old.graph pool.old) tag.now (all_lines lines.now)) }
-    ensures holds { OnOk result (Holds r.new pool.new (length r.new.graph.aggs)) }
-    ensures adds { OnOk result (AggregatesAdded r.old.graph r.new.graph pool.old pool.new) }
+    ensures read { OnOk result (AggregatesRead r.old r.new pool.old pool.new (length r.new.graph.aggs)) }
     ensures pool { KeepsNames pool.old pool.new }
 {
     let int = r.int_type()?;
@@ -190,7 +189,7 @@ fn read_enum<'w, 'a>(
 }
 
 /// Whether an enum stands next, which is then read, and the lines behind it.
-#[tactic(auto, using(crate::proofs::AddedMembers::added_none, crate::proofs::PoolLaws::pool_same))]
+#[tactic(auto, using(crate::proofs::ReadLaws::read_none, crate::proofs::PoolLaws::pool_same))]
 fn next_enum<'w, 'a>(
     r: &mut Reader,
     pool: &mut NamePool,
@@ -198,8 +197,7 @@ fn next_enum<'w, 'a>(
 ) -> Result<(bool, &'w [Vec<Word<'a>>]), Stop>
     requires holds { Holds r.old pool.old (length r.old.graph.aggs) }
     ensures gives { Gives (λ x. (x.0, (aggregates_in r.new.graph pool.new, all_lines x.1.now))) result (next_enum (aggregates_in r.old.graph pool.old) (all_lines lines.now)) }
-    ensures holds { OnOk result (Holds r.new pool.new (length r.new.graph.aggs)) }
-    ensures adds { OnOk result (AggregatesAdded r.old.graph r.new.graph pool.old pool.new) }
+    ensures read { OnOk result (AggregatesRead r.old r.new pool.old pool.new (length r.new.graph.aggs)) }
     ensures pool { KeepsNames pool.old pool.new }
 {
     if let [line, behind @ ..] = lines {
@@ -212,7 +210,7 @@ fn next_enum<'w, 'a>(
 }
 
 /// Enums, and the lines behind them. Their number is bounded.
-#[tactic(auto, using(crate::proofs::AggregateLaws::enums_nothing, crate::proofs::AggregateLaws::enums_begin, crate::proofs::AggregateLaws::enums_none, crate::proofs::AggregateLaws::enums_next, crate::proofs::AggregateLaws::enums_end, crate::proofs::AggregateLaws::enums_fail, crate::proofs::AggregateLaws::enums_stop, crate::proofs::AddedMembers::added_none, crate::proofs::AddedMembers::added_twice, crate::proofs::PoolLaws::pool_same, crate::proofs::PoolLaws::pool_twice))]
+#[tactic(auto, using(crate::proofs::AggregateLaws::enums_nothing, crate::proofs::AggregateLaws::enums_begin, crate::proofs::AggregateLaws::enums_none, crate::proofs::AggregateLaws::enums_end, crate::proofs::AggregateLaws::enums_fail, crate::proofs::AggregateLaws::enums_stop, crate::proofs::ReadLaws::read_none, crate::proofs::ReadLaws::read_both, crate::proofs::ReadLaws::read_holds, crate::proofs::ReadLaws::read_adds, crate::proofs::PoolLaws::pool_same, crate::proofs::PoolLaws::pool_twice))]
 fn read_enums<'w, 'a>(
     r: &mut Reader,
     pool: &mut NamePool,
@@ -221,8 +219,7 @@ fn read_enums<'w, 'a>(
 ) -> Result<&'w [Vec<Word<'a>>], Stop>
     requires holds { Holds r.old pool.old (length r.old.graph.aggs) }
     ensures gives { Gives (λ rest. (aggregates_in r.new.graph pool.new, all_lines rest.now)) result (enums_from left (aggregates_in r.old.graph pool.old) (all_lines lines.now)) }
-    ensures holds { OnOk result (Holds r.new pool.new (length r.new.graph.aggs)) }
-    ensures adds { OnOk result (AggregatesAdded r.old.graph r.new.graph pool.old pool.new) }
+    ensures read { OnOk result (AggregatesRead r.old r.new pool.old pool.new (length r.new.graph.aggs)) }
     ensures pool { KeepsNames pool.old pool.new }
 {
     if left == 0 {
@@ -241,7 +238,7 @@ fn read_enums<'w, 'a>(
 }
 
 /// Adds a struct or union without members.
-#[tactic(auto, using(crate::proofs::AggregateLaws::tag_gives, crate::proofs::AggregateLaws::tag_refused, crate::proofs::AggregateLaws::tag_holds, crate::proofs::AggregateLaws::tag_count, crate::proofs::AddedMembers::tag_added))]
+#[tactic(auto, using(crate::proofs::AggregateLaws::tag_gives, crate::proofs::AggregateLaws::tag_refused, crate::proofs::AggregateLaws::tag_count))]
 fn add_tag(
     r: &mut Reader,
     pool: &mut NamePool,
@@ -252,8 +249,7 @@ fn add_tag(
     requires holds { Holds r.old pool.old first }
     requires within { first ≤ length r.old.graph.aggs }
     ensures gives { Gives (λ u. aggregates_in r.new.graph pool.new) result (with_tag (aggregates_in r.old.graph pool.old) (kind, tag.now)) }
-    ensures holds { OnOk result (Holds r.new pool.new first) }
-    ensures adds { OnOk result (AggregatesAdded r.old.graph r.new.graph pool.old pool.new) }
+    ensures read { OnOk result (AggregatesRead r.old r.new pool.old pool.new first) }
     ensures within { OnOk result (first ≤ length r.new.graph.aggs) }
     ensures pool { KeepsNames pool.old pool.new }
 {
@@ -262,7 +258,7 @@ fn add_tag(
 }
 
 /// Whether a struct or union stands next, whose tag is then added, and the lines behind it.
-#[tactic(auto, using(crate::proofs::AddedMembers::added_none, crate::proofs::PoolLaws::pool_same))]
+#[tactic(auto, using(crate::proofs::ReadLaws::read_none, crate::proofs::PoolLaws::pool_same))]
 fn next_tag<'w, 'a>(
     r: &mut Reader,
     pool: &mut NamePool,
@@ -272,8 +268,7 @@ fn next_tag<'w, 'a>(
     requires holds { Holds r.old pool.old first }
     requires within { first ≤ length r.old.graph.aggs }
     ensures gives { Gives (λ x. (x.0, (aggregates_in r.new.graph pool.new, all_lines x.1.now))) result (next_tag (aggregates_in r.old.graph pool.old) (all_lines lines.now)) }
-    ensures holds { OnOk result (Holds r.new pool.new first) }
-    ensures adds { OnOk result (AggregatesAdded r.old.graph r.new.graph pool.old pool.new) }
+    ensures read { OnOk result (AggregatesRead r.old r.new pool.old pool.new first) }
     ensures within { OnOk result (first ≤ length r.new.graph.aggs) }
     ensures less { IfOk result (λ x. length x.1.now + bit x.0 ≤ length lines.now) }
     ensures pool { KeepsNames pool.old pool.new }
@@ -288,7 +283,7 @@ fn next_tag<'w, 'a>(
 }
 
 /// The tags of structs and unions, the first of which has this number, and the lines behind them.
-#[tactic(auto, using(crate::proofs::AggregateLaws::tags_begin, crate::proofs::AggregateLaws::tags_none, crate::proofs::AggregateLaws::tags_next, crate::proofs::AggregateLaws::tags_end, crate::proofs::AggregateLaws::tags_fail, crate::proofs::AggregateLaws::bit_falls, crate::proofs::AddedMembers::added_twice, crate::proofs::PoolLaws::pool_twice))]
+#[tactic(auto, using(crate::proofs::AggregateLaws::tags_begin, crate::proofs::AggregateLaws::tags_none, crate::proofs::AggregateLaws::tags_end, crate::proofs::AggregateLaws::tags_fail, crate::proofs::AggregateLaws::bit_falls, crate::proofs::ReadLaws::read_both, crate::proofs::ReadLaws::read_holds, crate::proofs::ReadLaws::read_adds, crate::proofs::PoolLaws::pool_twice))]
 fn read_tags<'w, 'a>(
     r: &mut Reader,
     pool: &mut NamePool,
@@ -298,8 +293,7 @@ fn read_tags<'w, 'a>(
     requires holds { Holds r.old pool.old first }
     requires within { first ≤ length r.old.graph.aggs }
     ensures gives { Gives (λ rest. (aggregates_in r.new.graph pool.new, all_lines rest.now)) result (tags_from (aggregates_in r.old.graph pool.old) (all_lines lines.now)) }
-    ensures holds { OnOk result (Holds r.new pool.new first) }
-    ensures adds { OnOk result (AggregatesAdded r.old.graph r.new.graph pool.old pool.new) }
+    ensures read { OnOk result (AggregatesRead r.old r.new pool.old pool.new first) }
     ensures within { OnOk result (first ≤ length r.new.graph.aggs) }
     ensures pool { KeepsNames pool.old pool.new }
 {
@@ -313,7 +307,7 @@ fn read_tags<'w, 'a>(
 }
 
 /// The name and the type in a member's line (C11 6.7.2.1).
-#[tactic(auto, using(crate::proofs::MemberLaws::declared_gives, crate::proofs::MemberLaws::declared_nameless, crate::proofs::MemberLaws::declared_open, crate::proofs::MemberLaws::declared_fails, crate::proofs::OnwardLaws::onward_twice, crate::proofs::OnwardLaws::onward_env, crate::proofs::OnwardLaws::onward_grows, crate::proofs::OnwardLaws::onward_none))]
+#[tactic(auto, using(crate::proofs::MemberLaws::declared_gives, crate::proofs::MemberLaws::declared_nameless, crate::proofs::MemberLaws::declared_open, crate::proofs::MemberLaws::declared_fails))]
 fn declared<'a>(r: &mut Reader, left: u32, words: &[Word<'a>]) -> Result<(&'a [u8], TypeId), Stop>
     ensures gives { Gives (λ x. member_with x.0.now (shape r.new.graph.nodes x.1.0)) result (read_member (bases (env_in r.old)) left (all_said words.now)) }
     ensures there { IfOk result (λ x. x.1.0 < length r.new.graph.nodes) }
@@ -331,7 +325,7 @@ fn declared<'a>(r: &mut Reader, left: u32, words: &[Word<'a>]) -> Result<(&'a [u
 }
 
 /// These members and one more.
-#[tactic(auto, using(crate::proofs::MemberLaws::other_gives, crate::proofs::MemberLaws::other_refused, crate::proofs::MemberLaws::fields_more, crate::proofs::PoolLaws::pool_same, crate::proofs::PoolLaws::pool_twice))]
+#[tactic(auto, using(crate::proofs::MemberLaws::other_gives, crate::proofs::MemberLaws::other_refused, crate::proofs::PoolLaws::pool_same, crate::proofs::PoolLaws::pool_twice))]
 fn with_member(
     r: &Reader,
     pool: &mut NamePool,
@@ -358,7 +352,7 @@ fn with_member(
 }
 
 /// One member more, by its line (C11 6.7.2.1).
-#[tactic(auto, using(crate::proofs::MemberLaws::fields_later, crate::proofs::MemberLaws::more_gives, crate::proofs::MemberLaws::more_refused, crate::proofs::MemberLaws::more_fails, crate::proofs::PoolLaws::pool_same, crate::proofs::AddedMembers::field_added, crate::proofs::OnwardLaws::onward_twice, crate::proofs::OnwardLaws::onward_env, crate::proofs::OnwardLaws::onward_grows, crate::proofs::OnwardLaws::onward_none))]
+#[tactic(auto, using(crate::proofs::MemberLaws::more_gives, crate::proofs::MemberLaws::more_refused, crate::proofs::MemberLaws::more_fails, crate::proofs::PoolLaws::pool_same, crate::proofs::AddedMembers::field_added, crate::proofs::OnwardLaws::onward_grows))]
 fn one_member(
     r: &mut Reader,
     pool: &mut NamePool,
@@ -379,7 +373,7 @@ fn one_member(
 }
 
 /// Whether a line has one member more, which is then read, and the lines behind it.
-#[tactic(auto, using(crate::proofs::MemberLaws::line_closed, crate::proofs::MemberLaws::line_read, crate::proofs::MemberLaws::line_fails, crate::proofs::PoolLaws::pool_same, crate::proofs::AddedMembers::fields_same, crate::proofs::OnwardLaws::onward_twice, crate::proofs::OnwardLaws::onward_env, crate::proofs::OnwardLaws::onward_grows, crate::proofs::OnwardLaws::onward_none))]
+#[tactic(auto, using(crate::proofs::MemberLaws::line_closed, crate::proofs::MemberLaws::line_read, crate::proofs::MemberLaws::line_fails, crate::proofs::PoolLaws::pool_same, crate::proofs::AddedMembers::fields_same, crate::proofs::OnwardLaws::onward_none))]
 fn next_member<'w, 'a>(
     r: &mut Reader,
     pool: &mut NamePool,
@@ -408,7 +402,7 @@ fn next_member<'w, 'a>(
 }
 
 /// Members up to the line that closes their struct or union, and the lines behind it.
-#[tactic(auto, using(crate::proofs::MemberLaws::no_fields, crate::proofs::MemberLaws::members_begin, crate::proofs::MemberLaws::members_none, crate::proofs::MemberLaws::members_next, crate::proofs::MemberLaws::members_end, crate::proofs::MemberLaws::members_fail, crate::proofs::PoolLaws::pool_same, crate::proofs::PoolLaws::pool_twice, type_graph::proofs::GrowthLaws::grows_none, crate::proofs::AddedMembers::fields_begin, crate::proofs::AddedMembers::fields_on, crate::proofs::OnwardLaws::onward_twice, crate::proofs::OnwardLaws::onward_env, crate::proofs::OnwardLaws::onward_grows, crate::proofs::OnwardLaws::onward_none))]
+#[tactic(auto, using(crate::proofs::MemberLaws::members_begin, crate::proofs::MemberLaws::members_none, crate::proofs::MemberLaws::members_end, crate::proofs::PoolLaws::pool_twice, crate::proofs::AddedMembers::fields_begin, crate::proofs::OnwardLaws::onward_twice, crate::proofs::OnwardLaws::onward_env))]
 fn read_members<'w, 'a>(
     r: &mut Reader,
     pool: &mut NamePool,
@@ -436,7 +430,7 @@ fn read_members<'w, 'a>(
 }
 
 /// Behind the line that opens a struct or union: its members.
-#[tactic(auto, using(crate::proofs::AggregateLaws::complete_gives, crate::proofs::AggregateLaws::complete_refused, crate::proofs::AggregateLaws::complete_fails, crate::proofs::AggregateLaws::complete_holds, crate::proofs::AggregateLaws::complete_rest, crate::proofs::AggregateLaws::complete_count, crate::proofs::AggregateLaws::complete_tags, crate::proofs::AggregateLaws::fields_types, crate::proofs::AggregateLaws::fields_there, crate::proofs::AddedMembers::complete_added, crate::proofs::OnwardLaws::onward_grows, crate::proofs::OnwardParts::onward_keeps, crate::proofs::OnwardLaws::onward_env))]
+#[tactic(auto, using(crate::proofs::AggregateLaws::fields_types, crate::proofs::AggregateLaws::fields_there))]
 fn read_complete<'w, 'a>(
     r: &mut Reader,
     pool: &mut NamePool,
@@ -449,11 +443,8 @@ fn read_complete<'w, 'a>(
     requires bare { AreOpen (drop a.0 (aggregates_in r.old.graph pool.old)) }
     requires plain { ArePlain (drop a.0 (aggregates_in r.old.graph pool.old)) }
     ensures gives { Gives (λ rest. (take (a.0 + 1) (aggregates_in r.new.graph pool.new), all_lines rest.now)) result (one_complete (read_member (bases (env_in r.old)) left) (take a.0 (aggregates_in r.old.graph pool.old)) (tag_at a.0 (aggregates_in r.old.graph pool.old)) (all_lines lines.now)) }
-    ensures holds { OnOk result (Holds r.new pool.new (a.0 + 1)) }
-    ensures adds { OnOk result (AggregatesAdded r.old.graph r.new.graph pool.old pool.new) }
-    ensures rest { OnOk result (drop (a.0 + 1) (aggregates_in r.new.graph pool.new) ≡ drop (a.0 + 1) (aggregates_in r.old.graph pool.old)) }
-    ensures tags { OnOk result ((env_in r.new).tags ≡ (env_in r.old).tags) }
-    ensures count { OnOk result (length r.new.graph.aggs ≡ length r.old.graph.aggs) }
+    ensures read { OnOk result (AggregatesRead r.old r.new pool.old pool.new (a.0 + 1)) }
+    ensures others { OnOk result (OthersStay r.old r.new pool.old pool.new a.0) }
     ensures pool { KeepsNames pool.old pool.new }
 {
     let (fields, rest) = read_members(r, pool, left, lines)?;
@@ -462,14 +453,13 @@ fn read_complete<'w, 'a>(
 }
 
 /// Leaves a struct or union without members.
-#[tactic(auto, using(crate::proofs::AggregateLaws::never, crate::proofs::AggregateLaws::left_gives, crate::proofs::AggregateLaws::left_holds, crate::proofs::AggregateLaws::left_tags, crate::proofs::AddedMembers::left_added))]
+#[tactic(auto, using(crate::proofs::AggregateLaws::never, crate::proofs::AggregateLaws::left_gives, crate::proofs::AggregateLaws::left_tags, crate::proofs::ReadLaws::left_read))]
 fn leave(r: &mut Reader, pool: &NamePool, a: AggId) -> Result<(), Stop>
     requires holds { Holds r.old pool.now a.0 }
     requires there { a.0 < length r.old.graph.aggs }
     requires bare { AreOpen (drop a.0 (aggregates_in r.old.graph pool.now)) }
     ensures gives { Gives (λ u. take (a.0 + 1) (aggregates_in r.new.graph pool.now)) result (Some (take a.0 (aggregates_in r.old.graph pool.now) ++ incomplete (tag_at a.0 (aggregates_in r.old.graph pool.now)) ∷ [])) }
-    ensures holds { OnOk result (Holds r.new pool.now (a.0 + 1)) }
-    ensures adds { OnOk result (AggregatesAdded r.old.graph r.new.graph pool.now pool.now) }
+    ensures read { OnOk result (AggregatesRead r.old r.new pool.now pool.now (a.0 + 1)) }
     ensures tags { OnOk result ((env_in r.new).tags ≡ (env_in r.old).tags) }
     ensures graph { r.new.graph ≡ r.old.graph }
 {
@@ -495,7 +485,7 @@ fn own_members<'w, 'a>(
 }
 
 /// A struct or union: its members, if they stand next, and the lines behind them.
-#[tactic(auto, using(crate::proofs::AggregateLaws::struct_complete, crate::proofs::AggregateLaws::struct_bad, crate::proofs::AggregateLaws::struct_left, crate::proofs::AggregateLaws::left_rest, crate::proofs::PoolLaws::pool_same))]
+#[tactic(auto, using(crate::proofs::AggregateLaws::struct_complete, crate::proofs::AggregateLaws::struct_bad, crate::proofs::PoolLaws::pool_same))]
 fn read_struct<'w, 'a>(
     r: &mut Reader,
     pool: &mut NamePool,
@@ -508,11 +498,8 @@ fn read_struct<'w, 'a>(
     requires bare { AreOpen (drop a.0 (aggregates_in r.old.graph pool.old)) }
     requires plain { ArePlain (drop a.0 (aggregates_in r.old.graph pool.old)) }
     ensures gives { Gives (λ rest. (take (a.0 + 1) (aggregates_in r.new.graph pool.new), all_lines rest.now)) result (one_struct (read_member (bases (env_in r.old)) left) (take a.0 (aggregates_in r.old.graph pool.old)) (tag_at a.0 (aggregates_in r.old.graph pool.old)) (all_lines lines.now)) }
-    ensures holds { OnOk result (Holds r.new pool.new (a.0 + 1)) }
-    ensures adds { OnOk result (AggregatesAdded r.old.graph r.new.graph pool.old pool.new) }
-    ensures rest { OnOk result (drop (a.0 + 1) (aggregates_in r.new.graph pool.new) ≡ drop (a.0 + 1) (aggregates_in r.old.graph pool.old)) }
-    ensures tags { OnOk result ((env_in r.new).tags ≡ (env_in r.old).tags) }
-    ensures count { OnOk result (length r.new.graph.aggs ≡ length r.old.graph.aggs) }
+    ensures read { OnOk result (AggregatesRead r.old r.new pool.old pool.new (a.0 + 1)) }
+    ensures others { OnOk result (OthersStay r.old r.new pool.old pool.new a.0) }
     ensures pool { KeepsNames pool.old pool.new }
 {
     match own_members(r, a, lines) {
@@ -529,7 +516,7 @@ fn read_struct<'w, 'a>(
 
 /// Structs and unions, of which the first has this number: their tags, the members that stand next, and the lines
 /// behind them.
-#[tactic(auto, using(crate::proofs::AggregateLaws::whole_open, crate::proofs::AggregateLaws::whole_plain, crate::proofs::AggregateLaws::structs_begin, crate::proofs::AggregateLaws::structs_none, crate::proofs::AggregateLaws::structs_next, crate::proofs::AggregateLaws::structs_fail, crate::proofs::AggregateLaws::structs_end, crate::proofs::AggregateLaws::structs_open, crate::proofs::AggregateLaws::structs_plain, crate::proofs::AggregateLaws::holds_all, crate::proofs::AddedMembers::added_twice, crate::proofs::PoolLaws::pool_twice))]
+#[tactic(auto, using(crate::proofs::AggregateLaws::whole_open, crate::proofs::AggregateLaws::whole_plain, crate::proofs::AggregateLaws::structs_begin, crate::proofs::AggregateLaws::structs_none, crate::proofs::ReadLaws::read_holds, crate::proofs::ReadLaws::read_adds, crate::proofs::PoolLaws::pool_twice))]
 fn read_structs<'w, 'a>(
     r: &mut Reader,
     pool: &mut NamePool,
@@ -540,8 +527,7 @@ fn read_structs<'w, 'a>(
     requires holds { Holds r.old pool.old first }
     requires first { first ≡ length r.old.graph.aggs }
     ensures gives { Gives (λ rest. (aggregates_in r.new.graph pool.new, all_lines rest.now)) result (tagged_structs r.old.graph.abi left first (aggregates_in r.old.graph pool.old) (all_lines lines.now)) }
-    ensures holds { OnOk result (Holds r.new pool.new (length r.new.graph.aggs)) }
-    ensures adds { OnOk result (AggregatesAdded r.old.graph r.new.graph pool.old pool.new) }
+    ensures read { OnOk result (AggregatesRead r.old r.new pool.old pool.new (length r.new.graph.aggs)) }
     ensures pool { KeepsNames pool.old pool.new }
 {
     let mut rest = read_tags(r, pool, first, lines)?;
@@ -553,7 +539,7 @@ fn read_structs<'w, 'a>(
 }
 
 /// Aggregates, of which the first structs and unions may have members behind all tags, and the lines behind them.
-#[tactic(auto, using(crate::proofs::AggregateLaws::blank_holds, crate::proofs::AggregateLaws::whole_gives, crate::proofs::AggregateLaws::whole_refused, crate::proofs::AggregateLaws::whole_fails, crate::proofs::AggregateLaws::holds_seen, crate::proofs::AggregateLaws::holds_fields, crate::proofs::AggregateLaws::holds_tags, crate::proofs::AddedMembers::added_twice, crate::proofs::AggregateLaws::holds_plain, crate::proofs::PoolLaws::pool_twice))]
+#[tactic(auto, using(crate::proofs::AggregateLaws::whole_refused, crate::proofs::AggregateLaws::whole_fails, crate::proofs::ReadLaws::read_holds, crate::proofs::ReadLaws::read_adds, crate::proofs::PoolLaws::pool_twice))]
 fn read_placed<'w, 'a>(
     r: &mut Reader,
     pool: &mut NamePool,

@@ -47,7 +47,7 @@ fn one_argument<'w, 'a>(
 }
 
 /// Arguments, at least one, up to `)`. Their number is bounded.
-#[tactic(auto, using(crate::proofs::InstructionLaws::list_start, crate::proofs::InstructionLaws::list_closed, crate::proofs::InstructionLaws::list_over, crate::proofs::InstructionLaws::list_stop, crate::proofs::InstructionLaws::no_args, crate::proofs::OnwardLaws::onward_none, crate::proofs::OnwardLaws::onward_twice, cil_text::proofs::PartsAdded::adds_none))]
+#[tactic(auto, using(crate::proofs::InstructionLaws::list_start, crate::proofs::InstructionLaws::list_closed, crate::proofs::InstructionLaws::list_over, crate::proofs::InstructionLaws::no_args, crate::proofs::OnwardLaws::onward_none, crate::proofs::OnwardLaws::onward_twice, cil_text::proofs::PartsAdded::adds_none))]
 fn read_list<'w, 'a>(
     r: &mut Reader,
     left: u32,

@@ -1,7 +1,6 @@
 ghost use Rattle.std.specs.Prelude.{◌≡◌, ◌<◌, ◌≤◌, ◌+◌, ◌^◌, ◌++◌, true, Some, IfOk, IfSome, length, map, take, drop};
 ghost use Rattle.std.specs.Option.{option_map, option_and_then};
 ghost use Rattle.type_graph.specs.Shapes.{shape};
-ghost use Rattle.type_graph.specs.Growth.{Grows, KeepsAggregates};
 ghost use Rattle.cil_tree.specs.Names.{are_different};
 ghost use Rattle.cil_tree.specs.View.{text_at, stmts_of, body_of};
 ghost use Rattle.cil_text.specs.ReadExps.{bases};
@@ -12,7 +11,7 @@ ghost use Rattle.cil_text.specs.TypesOf.{AddsParts, types_in_locals, types_in_st
 ghost use Rattle.cil_text.specs.ReadGlobals.{plain_names, begins_with, behind_first, moved, split_block, local_of, param_locals, params_of, read_locals, labels_in, read_body, read_bodies};
 ghost use Rattle.cil_scan.specs.Said.{said, all_said, all_lines};
 ghost use Rattle.cil_declarators.specs.Gives.{Gives};
-ghost use Rattle.cil_reader.specs.Settings.{Onward, env_in, locals_of, outside};
+ghost use Rattle.cil_reader.specs.Settings.{Onward, OnwardOutside, env_in, locals_of, outside};
 ghost use Rattle.cil_declarators.specs.Fresh.{with_new};
 ghost use Rattle.cil_reader.specs.Nesting.{StmtsKnown};
 ghost use Rattle.cil_reader.specs.Pools.{KeepsNames};
@@ -95,7 +94,7 @@ fn with_name<'a>(names: Vec<&'a [u8]>, tagged: bool, word: &Word<'a>) -> Result<
 }
 
 /// The names in a line that stand behind no `struct`, `union` or `enum`.
-#[tactic(auto, using(crate::proofs::BodyLaws::names_next, crate::proofs::BodyLaws::names_end))]
+#[tactic(auto, using(crate::proofs::BodyLaws::names_end))]
 fn plain_names<'a>(alloc: Global, words: &[Word<'a>]) -> Result<Vec<&'a [u8]>, Stop>
     ensures { Gives (λ x. texts_of x.items) result (Some (plain_names (all_said words.now))) }
 {
@@ -177,7 +176,7 @@ fn block_length(lines: &[Vec<Word>]) -> usize
 }
 
 /// One local more.
-#[tactic(auto, using(crate::proofs::BodyLaws::local_gives, crate::proofs::BodyLaws::local_fails, crate::proofs::BodyLaws::local_known, crate::proofs::PoolLaws::pool_asked, crate::proofs::PoolLaws::pool_by, crate::proofs::PoolLaws::pool_same))]
+#[tactic(auto, using(crate::proofs::BodyLaws::local_gives, crate::proofs::BodyLaws::local_fails, crate::proofs::PoolLaws::pool_asked, crate::proofs::PoolLaws::pool_by, crate::proofs::PoolLaws::pool_same))]
 fn with_local(
     r: &Reader,
     pool: &mut NamePool,
@@ -199,7 +198,7 @@ fn with_local(
 }
 
 /// A function's parameters as its first locals.
-#[tactic(auto, using(crate::proofs::MemberLaws::type_there, crate::proofs::BodyLaws::no_locals, crate::proofs::PoolLaws::pool_same, crate::proofs::PoolLaws::pool_twice, crate::proofs::BodyLaws::params_next, crate::proofs::BodyLaws::params_fail, crate::proofs::BodyLaws::params_end, crate::proofs::BodyLaws::apart_more))]
+#[tactic(auto, using(crate::proofs::MemberLaws::type_there, crate::proofs::BodyLaws::no_locals, crate::proofs::PoolLaws::pool_same, crate::proofs::PoolLaws::pool_twice, crate::proofs::BodyLaws::params_fail, crate::proofs::BodyLaws::params_end))]
 fn param_locals(
     r: &Reader,
     pool: &mut NamePool,
@@ -223,7 +222,7 @@ fn param_locals(
 }
 
 /// A local that is no parameter, by its line.
-#[tactic(auto, using(crate::proofs::BodyLaws::locals_later, crate::proofs::BodyLaws::locals_same, crate::proofs::FunctionLaws::one_open, crate::proofs::FunctionLaws::one_nameless, crate::proofs::FunctionLaws::one_fails, crate::proofs::FunctionLaws::one_taken, crate::proofs::PoolLaws::pool_same, crate::proofs::OnwardLaws::onward_twice, crate::proofs::OnwardLaws::onward_env, crate::proofs::OnwardLaws::onward_grows, crate::proofs::OnwardLaws::onward_none))]
+#[tactic(auto, using(crate::proofs::FunctionLaws::one_open, crate::proofs::FunctionLaws::one_nameless, crate::proofs::FunctionLaws::one_fails, crate::proofs::PoolLaws::pool_same))]
 fn one_local(
     r: &mut Reader,
     pool: &mut NamePool,
@@ -249,7 +248,7 @@ fn one_local(
 }
 
 /// Locals that are no parameters, behind those, and the lines behind them.
-#[tactic(auto, using(crate::proofs::PoolLaws::pool_same, crate::proofs::PoolLaws::pool_twice, crate::proofs::FunctionLaws::locals_refused, crate::proofs::FunctionLaws::locals_stop, crate::proofs::FunctionLaws::locals_over, cil_text::proofs::PartsAdded::adds_none, crate::proofs::OnwardLaws::onward_twice, crate::proofs::OnwardLaws::onward_env, crate::proofs::OnwardLaws::onward_grows, crate::proofs::OnwardLaws::onward_none))]
+#[tactic(auto, using(crate::proofs::PoolLaws::pool_same, crate::proofs::PoolLaws::pool_twice, crate::proofs::FunctionLaws::locals_refused, crate::proofs::FunctionLaws::locals_stop, crate::proofs::FunctionLaws::locals_over, cil_text::proofs::PartsAdded::adds_none, crate::proofs::OnwardLaws::onward_twice, crate::proofs::OnwardLaws::onward_env, crate::proofs::OnwardLaws::onward_none))]
 fn read_locals<'w, 'a>(
     r: &mut Reader,
     pool: &mut NamePool,
@@ -277,7 +276,7 @@ fn read_locals<'w, 'a>(
 }
 
 /// One label more.
-#[tactic(auto, using(crate::proofs::FunctionLaws::texts_added, crate::proofs::PoolLaws::pool_asked, crate::proofs::PoolLaws::pool_by, crate::proofs::PoolLaws::pool_same))]
+#[tactic(auto, using(crate::proofs::PoolLaws::pool_asked, crate::proofs::PoolLaws::pool_by, crate::proofs::PoolLaws::pool_same))]
 fn with_label(pool: &mut NamePool, labels: Labels, text: &[u8]) -> Result<Labels, Stop>
     requires { TextsKnown pool.old labels.names.items labels.texts }
     ensures gives { Gives (λ x. x.texts) result (with_new labels.texts text.now) }
@@ -340,7 +339,7 @@ fn numbers_of(alloc: Global, pool: &mut NamePool, texts: &[&[u8]]) -> Result<Vec
 }
 
 /// The statements of a function whose labels have these names.
-#[tactic(auto, using(crate::proofs::CarryLaws::turned_known, crate::proofs::FunctionLaws::stmts_known, crate::proofs::FunctionLaws::stmts_give, crate::proofs::FunctionLaws::stmts_open, crate::proofs::FunctionLaws::stmts_fail, crate::proofs::FunctionLaws::heads_fail, crate::proofs::OnwardLaws::onward_twice, crate::proofs::OnwardLaws::onward_env, crate::proofs::OnwardLaws::onward_grows, crate::proofs::OnwardLaws::onward_none))]
+#[tactic(auto, using(crate::proofs::FunctionLaws::stmts_give, crate::proofs::FunctionLaws::stmts_open, crate::proofs::FunctionLaws::stmts_fail, crate::proofs::FunctionLaws::heads_fail))]
 fn read_stmts(
     r: &mut Reader,
     left: u32,
@@ -363,7 +362,7 @@ fn read_stmts(
 
 /// The lines between those that open and close a function's body, where the function has this type and its parameters
 /// these names.
-#[tactic(auto, using(type_graph::proofs::GrowthLaws::grows_twice, crate::proofs::PoolLaws::pool_twice, crate::proofs::FunctionLaws::body_known, crate::proofs::FunctionLaws::body_gives, crate::proofs::FunctionLaws::body_stmts_fail, crate::proofs::FunctionLaws::body_labels_fail, crate::proofs::FunctionLaws::body_locals_fail, crate::proofs::FunctionLaws::body_params_fail, crate::proofs::OnwardLaws::onward_grows, crate::proofs::OnwardParts::onward_aggs, crate::proofs::OnwardParts::onward_completed))]
+#[tactic(auto, using(crate::proofs::FunctionLaws::body_stmts_fail, crate::proofs::FunctionLaws::body_locals_fail, crate::proofs::FunctionLaws::body_params_fail))]
 fn read_body(
     r: &mut Reader,
     pool: &mut NamePool,
@@ -376,10 +375,7 @@ fn read_body(
     ensures gives { Gives (λ b. body_of r.new.graph.nodes pool.new b) result (read_body (outside (env_in r.old)) left (shape r.old.graph.nodes ty.0) (texts_of params.now) (all_lines lines.now)) }
     ensures known { IfOk result (λ b. BodyKnown r.new.graph pool.new b) }
     ensures adds { IfOk result (λ b. AddsParts r.old.graph r.new.graph (types_in_body (body_of r.new.graph.nodes pool.new b))) }
-    ensures grows { Grows r.old.graph r.new.graph }
-    ensures keeps { KeepsAggregates r.old.graph r.new.graph }
-    ensures env { outside (env_in r.new) ≡ outside (env_in r.old) }
-    ensures pool { KeepsNames pool.old pool.new }
+    ensures on { OnwardOutside r.old r.new pool.old pool.new }
 {
     let first = param_locals(r, pool, ty, params)?;
     let (locals, rest) = read_locals(r, pool, left, first, lines)?;
@@ -433,7 +429,7 @@ fn behind_first<'w, 'a>(names: &'w [&'a [u8]]) -> &'w [&'a [u8]]
 }
 
 /// The body of a function that is declared so, if it stands next; and how many lines it has within.
-#[tactic(auto, using(crate::proofs::FunctionLaws::own_step, crate::proofs::FunctionLaws::own_refused, crate::proofs::FunctionLaws::not_own, type_graph::proofs::GrowthLaws::grows_none, crate::proofs::PoolLaws::pool_same, cil_text::proofs::PartsAdded::adds_none))]
+#[tactic(auto, using(crate::proofs::FunctionLaws::own_refused, crate::proofs::FunctionLaws::not_own, crate::proofs::OutsideLaws::outside_same, cil_text::proofs::PartsAdded::adds_none))]
 fn own_body(
     r: &mut Reader,
     pool: &mut NamePool,
@@ -446,10 +442,7 @@ fn own_body(
     ensures gives { Gives (λ o. option_map (λ x. (body_of r.new.graph.nodes pool.new x.0, behind_line (all_lines (drop x.1 (drop 1 lines.now))))) o) result (own_body (outside (env_in r.old)) left (declaration_of r.old.graph.nodes declaration.now) (texts_of header.now) (all_lines lines.now)) }
     ensures known { IfOk result (λ o. IfSome o (λ x. BodyKnown r.new.graph pool.new x.0)) }
     ensures adds { IfOk result (λ o. AddsParts r.old.graph r.new.graph (own_types r.new.graph.nodes pool.new o)) }
-    ensures grows { Grows r.old.graph r.new.graph }
-    ensures keeps { KeepsAggregates r.old.graph r.new.graph }
-    ensures env { outside (env_in r.new) ≡ outside (env_in r.old) }
-    ensures pool { KeepsNames pool.old pool.new }
+    ensures on { OnwardOutside r.old r.new pool.old pool.new }
 {
     if !begins_with(header, declaration.name) {
         return Ok(None);
@@ -462,7 +455,7 @@ fn own_body(
 }
 
 /// Gives declared globals the bodies that stand next; the lines behind those.
-#[tactic(auto, using(crate::proofs::GlobalLaws::declared_there, crate::proofs::GlobalLaws::declared_later, type_graph::proofs::GrowthLaws::grows_twice, crate::proofs::PoolLaws::pool_same, crate::proofs::PoolLaws::pool_twice, crate::proofs::FunctionLaws::bodies_none, crate::proofs::FunctionLaws::bodies_some, crate::proofs::FunctionLaws::bodies_fail, crate::proofs::FunctionLaws::bodies_end, crate::proofs::FunctionLaws::globals_later, crate::proofs::FunctionLaws::globals_set, cil_text::proofs::PartsAdded::adds_none, crate::proofs::AddedBodies::all_add))]
+#[tactic(auto, using(crate::proofs::GlobalLaws::declared_there, crate::proofs::GlobalLaws::declared_later, crate::proofs::OutsideLaws::outside_same, crate::proofs::OutsideLaws::outside_twice, crate::proofs::OutsideLaws::outside_grows, cil_text::proofs::PartsAdded::adds_none, crate::proofs::AddedBodies::all_add))]
 pub(crate) fn read_bodies<'w, 'a>(
     r: &mut Reader,
     pool: &mut NamePool,
@@ -476,9 +469,7 @@ pub(crate) fn read_bodies<'w, 'a>(
     requires known { GlobalsKnown r.old.graph pool.old globals.old }
     ensures gives { Gives (λ rest. (globals_of r.new.graph.nodes pool.new globals.new, all_lines rest.now)) result (option_map (bodied 0 (globals_of r.old.graph.nodes pool.old globals.old)) (read_bodies (outside (env_in r.old)) left (declarations_of r.old.graph.nodes declarations.now) (all_lines lines.now))) }
     ensures adds { IfOk result (λ rest. AddsParts r.old.graph r.new.graph (defined_types (globals_of r.new.graph.nodes pool.new globals.new))) }
-    ensures grows { Grows r.old.graph r.new.graph }
-    ensures keeps { KeepsAggregates r.old.graph r.new.graph }
-    ensures pool { KeepsNames pool.old pool.new }
+    ensures on { OnwardOutside r.old r.new pool.old pool.new }
 {
     let mut rest = lines;
     let mut header = next_header(r.alloc(), rest)?;

@@ -40,7 +40,7 @@ struct Waiting<'w, 'a> {
 }
 
 /// A declaration without its storage class (C11 6.7.1), up to the end of its line.
-#[tactic(auto, using(crate::proofs::GlobalLaws::declared_gives, crate::proofs::GlobalLaws::declared_open, crate::proofs::GlobalLaws::declared_nameless, crate::proofs::GlobalLaws::declared_fails, crate::proofs::OnwardLaws::onward_twice, crate::proofs::OnwardLaws::onward_env, crate::proofs::OnwardLaws::onward_grows, crate::proofs::OnwardLaws::onward_none))]
+#[tactic(auto, using(crate::proofs::GlobalLaws::declared_gives, crate::proofs::GlobalLaws::declared_open, crate::proofs::GlobalLaws::declared_nameless, crate::proofs::GlobalLaws::declared_fails))]
 fn declared_with<'a>(
     r: &mut Reader,
     left: u32,
@@ -64,7 +64,7 @@ fn declared_with<'a>(
 }
 
 /// A declaration without storage class: only a function has one.
-#[tactic(auto, using(crate::proofs::GlobalLaws::function_gives, crate::proofs::GlobalLaws::function_not, crate::proofs::GlobalLaws::function_fails, crate::proofs::OnwardLaws::onward_twice, crate::proofs::OnwardLaws::onward_env, crate::proofs::OnwardLaws::onward_grows, crate::proofs::OnwardLaws::onward_none))]
+#[tactic(auto, using(crate::proofs::GlobalLaws::function_gives, crate::proofs::GlobalLaws::function_not, crate::proofs::GlobalLaws::function_fails))]
 fn function_alone<'a>(
     r: &mut Reader,
     left: u32,
@@ -83,7 +83,7 @@ fn function_alone<'a>(
 }
 
 /// What declares a global, by its storage class.
-#[tactic(auto, using(crate::proofs::GlobalLaws::stored_next, crate::proofs::GlobalLaws::alone_next, crate::proofs::OnwardLaws::onward_twice, crate::proofs::OnwardLaws::onward_env, crate::proofs::OnwardLaws::onward_grows, crate::proofs::OnwardLaws::onward_none))]
+#[tactic(auto, using(crate::proofs::GlobalLaws::stored_next, crate::proofs::GlobalLaws::alone_next))]
 fn declaration_from<'a>(
     r: &mut Reader,
     left: u32,
@@ -101,7 +101,7 @@ fn declaration_from<'a>(
 }
 
 /// One declaration more.
-#[tactic(auto, using(crate::proofs::GlobalLaws::with_gives, crate::proofs::GlobalLaws::with_fails, crate::proofs::GlobalLaws::declared_more, crate::proofs::GlobalLaws::declared_added, crate::proofs::OnwardLaws::onward_twice, crate::proofs::OnwardLaws::onward_env, crate::proofs::OnwardLaws::onward_grows, crate::proofs::OnwardLaws::onward_none))]
+#[tactic(auto, using(crate::proofs::GlobalLaws::with_gives, crate::proofs::GlobalLaws::with_fails, crate::proofs::GlobalLaws::declared_more, crate::proofs::GlobalLaws::declared_added, crate::proofs::OnwardLaws::onward_grows))]
 fn with_declaration<'a>(
     r: &mut Reader,
     left: u32,
@@ -121,7 +121,7 @@ fn with_declaration<'a>(
 }
 
 /// Declarations, and the lines behind them.
-#[tactic(auto, using(crate::proofs::GlobalLaws::no_declared, crate::proofs::GlobalLaws::no_added, crate::proofs::GlobalLaws::declarations_start, crate::proofs::GlobalLaws::declarations_end, crate::proofs::GlobalLaws::declarations_stop, crate::proofs::GlobalLaws::declarations_fail, crate::proofs::GlobalLaws::declarations_next, crate::proofs::OnwardLaws::onward_twice, crate::proofs::OnwardLaws::onward_env, crate::proofs::OnwardLaws::onward_grows, crate::proofs::OnwardLaws::onward_none))]
+#[tactic(auto, using(crate::proofs::GlobalLaws::no_declared, crate::proofs::GlobalLaws::no_added, crate::proofs::GlobalLaws::declarations_start, crate::proofs::GlobalLaws::declarations_fail, crate::proofs::OnwardLaws::onward_twice, crate::proofs::OnwardLaws::onward_env, crate::proofs::OnwardLaws::onward_none))]
 pub(crate) fn read_declarations<'w, 'a>(
     r: &mut Reader,
     left: u32,
@@ -158,7 +158,7 @@ pub(crate) fn names_of(r: &Reader, declarations: &[Declaration]) -> Result<Names
 }
 
 /// Behind `=`: an object's scalars, up to the end of its line.
-#[tactic(auto, using(crate::proofs::GlobalLaws::image_gives, crate::proofs::GlobalLaws::image_open, crate::proofs::GlobalLaws::image_fails, crate::proofs::GlobalLaws::flat_image, crate::proofs::OnwardLaws::onward_twice, crate::proofs::OnwardLaws::onward_env, crate::proofs::OnwardLaws::onward_grows, crate::proofs::OnwardLaws::onward_none))]
+#[tactic(auto, using(crate::proofs::GlobalLaws::image_gives, crate::proofs::GlobalLaws::image_open, crate::proofs::GlobalLaws::image_fails, crate::proofs::GlobalLaws::flat_image))]
 fn image_of(r: &mut Reader, left: u32, ty: TypeId, words: &[Word]) -> Result<GlobalDef, Stop>
     requires { ty.0 < length r.old.graph.nodes }
     ensures gives { Gives (λ x. definition_of [] [] x) result (option_and_then image_end (read_image (env_in r.old) left (Some (shape r.old.graph.nodes ty.0)) (all_said words.now))) }
@@ -174,7 +174,7 @@ fn image_of(r: &mut Reader, left: u32, ty: TypeId, words: &[Word]) -> Result<Glo
 }
 
 /// What defines an object, behind its declarator.
-#[tactic(auto, using(crate::proofs::GlobalLaws::flat_zero, crate::proofs::OnwardLaws::onward_twice, crate::proofs::OnwardLaws::onward_env, crate::proofs::OnwardLaws::onward_grows, crate::proofs::OnwardLaws::onward_none))]
+#[tactic(auto, using(crate::proofs::GlobalLaws::flat_zero, crate::proofs::OnwardLaws::onward_none))]
 fn defined_by(r: &mut Reader, left: u32, ty: TypeId, words: &[Word]) -> Result<GlobalDef, Stop>
     requires { ty.0 < length r.old.graph.nodes }
     ensures gives { Gives (λ x. definition_of [] [] x) result (defined_by (env_in r.old) left (shape r.old.graph.nodes ty.0) (all_said words.now)) }
@@ -190,7 +190,7 @@ fn defined_by(r: &mut Reader, left: u32, ty: TypeId, words: &[Word]) -> Result<G
 }
 
 /// An object by its own line, whose declarator gives the type that is declared (C11 6.7p4).
-#[tactic(auto, using(crate::proofs::GlobalLaws::own_gives, crate::proofs::GlobalLaws::own_fails, crate::proofs::OnwardLaws::onward_twice, crate::proofs::OnwardLaws::onward_env, crate::proofs::OnwardLaws::onward_grows, crate::proofs::OnwardLaws::onward_none))]
+#[tactic(auto, using(crate::proofs::GlobalLaws::own_gives, crate::proofs::GlobalLaws::own_fails, crate::proofs::OnwardLaws::onward_twice, crate::proofs::OnwardLaws::onward_env, crate::proofs::OnwardLaws::onward_grows))]
 fn own_definition(
     r: &mut Reader,
     left: u32,
@@ -280,7 +280,7 @@ fn plain_global(r: &Reader, pool: &mut NamePool, x: &Declaration) -> Result<Glob
 }
 
 /// A global that the next line defines.
-#[tactic(auto, using(crate::proofs::GlobalLaws::defined_seen, crate::proofs::GlobalLaws::defined_known, crate::proofs::GlobalLaws::defined_fails, crate::proofs::PoolLaws::pool_same, crate::proofs::OnwardLaws::onward_twice, crate::proofs::OnwardLaws::onward_env, crate::proofs::OnwardLaws::onward_grows, crate::proofs::OnwardLaws::onward_none))]
+#[tactic(auto, using(crate::proofs::GlobalLaws::defined_fails, crate::proofs::PoolLaws::pool_same))]
 fn defined_global(
     r: &mut Reader,
     pool: &mut NamePool,
@@ -310,7 +310,7 @@ fn waiting_at<'w, 'a>(lines: &'w [Vec<Word<'a>>]) -> Waiting<'w, 'a>
 }
 
 /// A global whose own line stands next.
-#[tactic(auto, using(crate::proofs::GlobalLaws::own_seen, crate::proofs::GlobalLaws::line_fails, crate::proofs::OnwardLaws::onward_twice, crate::proofs::OnwardLaws::onward_env, crate::proofs::OnwardLaws::onward_grows, crate::proofs::OnwardLaws::onward_none))]
+#[tactic(auto, using(crate::proofs::GlobalLaws::own_seen, crate::proofs::GlobalLaws::line_fails))]
 fn own_global<'w, 'a>(
     r: &mut Reader,
     pool: &mut NamePool,
@@ -332,7 +332,7 @@ fn own_global<'w, 'a>(
 }
 
 /// A declared global with the line that stands next, if it is its own.
-#[tactic(auto, using(crate::proofs::GlobalLaws::plain_line, crate::proofs::GlobalLaws::own_line_next, crate::proofs::OnwardLaws::onward_twice, crate::proofs::OnwardLaws::onward_env, crate::proofs::OnwardLaws::onward_grows, crate::proofs::OnwardLaws::onward_none))]
+#[tactic(auto, using(crate::proofs::GlobalLaws::plain_line, crate::proofs::GlobalLaws::own_line_next, crate::proofs::OnwardLaws::onward_none))]
 fn next_global<'w, 'a>(
     r: &mut Reader,
     pool: &mut NamePool,
@@ -356,7 +356,7 @@ fn next_global<'w, 'a>(
 }
 
 /// The declared globals, each with the line that stands next, if it is its own; and the lines behind those.
-#[tactic(auto, using(crate::proofs::GlobalLaws::declared_there, crate::proofs::GlobalLaws::declared_later, crate::proofs::GlobalLaws::no_globals, crate::proofs::GlobalLaws::globals_pushed, crate::proofs::GlobalLaws::objects_start, crate::proofs::GlobalLaws::objects_next, crate::proofs::GlobalLaws::objects_fail, crate::proofs::GlobalLaws::objects_end, crate::proofs::PoolLaws::pool_same, crate::proofs::PoolLaws::pool_twice, crate::proofs::OnwardLaws::onward_twice, crate::proofs::OnwardLaws::onward_env, crate::proofs::OnwardLaws::onward_grows, crate::proofs::OnwardLaws::onward_none))]
+#[tactic(auto, using(crate::proofs::GlobalLaws::declared_there, crate::proofs::GlobalLaws::declared_later, crate::proofs::GlobalLaws::no_globals, crate::proofs::GlobalLaws::objects_start, crate::proofs::PoolLaws::pool_same, crate::proofs::PoolLaws::pool_twice, crate::proofs::OnwardLaws::onward_twice, crate::proofs::OnwardLaws::onward_grows, crate::proofs::OnwardLaws::onward_none))]
 pub(crate) fn read_objects<'w, 'a>(
     r: &mut Reader,
     pool: &mut NamePool,

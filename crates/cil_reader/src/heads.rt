@@ -276,7 +276,7 @@ pub(crate) fn read_head(
 }
 
 /// The lines of a function's body whose labels have these names.
-#[tactic(auto, using(crate::proofs::HeadsLaws::heads_fail, crate::proofs::HeadsLaws::heads_end, crate::proofs::HeadsLaws::no_heads, crate::proofs::OnwardLaws::onward_twice, crate::proofs::OnwardLaws::onward_none, cil_text::proofs::PartsAdded::adds_none))]
+#[tactic(auto, using(crate::proofs::HeadsLaws::heads_fail, crate::proofs::HeadsLaws::no_heads, crate::proofs::OnwardLaws::onward_twice, crate::proofs::OnwardLaws::onward_none, cil_text::proofs::PartsAdded::adds_none))]
 pub(crate) fn read_heads(
     r: &mut Reader,
     labels: &Numbering,

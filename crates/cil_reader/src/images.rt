@@ -106,7 +106,7 @@ fn step_on<'w, 'a>(r: &Reader, path: Path<'w, 'a>) -> Result<Path<'w, 'a>, Stop>
 }
 
 /// The steps up to `=` from a place of a type. Their number is bounded.
-#[tactic(auto, using(crate::proofs::ImageLaws::path_start, crate::proofs::ImageLaws::path_over, crate::proofs::ImageLaws::path_closed, crate::proofs::ImageLaws::path_stop))]
+#[tactic(auto, using(crate::proofs::ImageLaws::path_start, crate::proofs::ImageLaws::path_over, crate::proofs::ImageLaws::path_closed))]
 fn read_path<'w, 'a>(
     r: &Reader,
     left: u32,
@@ -190,7 +190,7 @@ fn offset_of(r: &Reader, value: i128) -> Option<i64>
 }
 
 /// Behind `+`: an address's offset from the beginning of an object, and `)`.
-#[tactic(auto, using(crate::proofs::ImageLaws::address_gives, crate::proofs::ImageLaws::address_far, crate::proofs::ImageLaws::address_open, crate::proofs::ImageLaws::address_fails))]
+#[tactic(auto, using(crate::proofs::ImageLaws::address_gives, crate::proofs::ImageLaws::address_far, crate::proofs::ImageLaws::address_fails))]
 fn address_in<'w, 'a>(
     r: &Reader,
     object: EntityId,
@@ -247,7 +247,7 @@ fn there<'w, 'a>(
 }
 
 /// Behind the `(` of a conversion: the type of the place, which is a pointer's, `)` and the pointer's value.
-#[tactic(auto, using(crate::proofs::ImageLaws::converted_next, crate::proofs::ImageLaws::converted_open, crate::proofs::ImageLaws::converted_fails, crate::proofs::OnwardLaws::onward_twice, crate::proofs::OnwardLaws::onward_env, crate::proofs::OnwardLaws::onward_grows, crate::proofs::OnwardLaws::onward_none))]
+#[tactic(auto, using(crate::proofs::ImageLaws::converted_next, crate::proofs::ImageLaws::converted_open, crate::proofs::ImageLaws::converted_fails))]
 fn read_converted<'w, 'a>(
     r: &mut Reader,
     left: u32,
@@ -286,7 +286,7 @@ fn pointer_value<'w, 'a>(
 }
 
 /// The value of a scalar of a type.
-#[tactic(auto, using(crate::proofs::ImageLaws::scalar_int, crate::proofs::ImageLaws::scalar_pointer, crate::proofs::ImageLaws::scalar_other, crate::proofs::OnwardLaws::onward_twice, crate::proofs::OnwardLaws::onward_env, crate::proofs::OnwardLaws::onward_grows, crate::proofs::OnwardLaws::onward_none))]
+#[tactic(auto, using(crate::proofs::ImageLaws::scalar_int, crate::proofs::ImageLaws::scalar_pointer, crate::proofs::ImageLaws::scalar_other, crate::proofs::OnwardLaws::onward_none))]
 fn read_constant<'w, 'a>(
     r: &mut Reader,
     left: u32,
@@ -306,7 +306,7 @@ fn read_constant<'w, 'a>(
 }
 
 /// A path and its value.
-#[tactic(auto, using(crate::proofs::ImageLaws::item_gives, crate::proofs::ImageLaws::item_typeless, crate::proofs::ImageLaws::item_valueless, crate::proofs::ImageLaws::item_fails, crate::proofs::OnwardLaws::onward_twice, crate::proofs::OnwardLaws::onward_env, crate::proofs::OnwardLaws::onward_grows, crate::proofs::OnwardLaws::onward_none))]
+#[tactic(auto, using(crate::proofs::ImageLaws::item_gives, crate::proofs::ImageLaws::item_typeless, crate::proofs::ImageLaws::item_valueless, crate::proofs::ImageLaws::item_fails, crate::proofs::OnwardLaws::onward_none))]
 fn read_item<'w, 'a>(
     r: &mut Reader,
     left: u32,
@@ -328,7 +328,7 @@ fn read_item<'w, 'a>(
 }
 
 /// One item more.
-#[tactic(auto, using(crate::proofs::ImageLaws::item_end, crate::proofs::ImageLaws::item_open, crate::proofs::ImageLaws::item_none, crate::proofs::OnwardLaws::onward_twice, crate::proofs::OnwardLaws::onward_env, crate::proofs::OnwardLaws::onward_grows, crate::proofs::OnwardLaws::onward_none))]
+#[tactic(auto, using(crate::proofs::ImageLaws::item_end, crate::proofs::ImageLaws::item_open, crate::proofs::ImageLaws::item_none))]
 fn one_item<'w, 'a>(
     r: &mut Reader,
     left: u32,
@@ -350,7 +350,7 @@ fn one_item<'w, 'a>(
 }
 
 /// Behind `{`: items up to `}`.
-#[tactic(auto, using(crate::proofs::ImageLaws::items_start, crate::proofs::ImageLaws::items_stop, crate::proofs::ImageLaws::items_over, crate::proofs::PartsLaws::there_later, crate::proofs::OnwardLaws::onward_twice, crate::proofs::OnwardLaws::onward_env, crate::proofs::OnwardLaws::onward_grows, crate::proofs::OnwardLaws::onward_none))]
+#[tactic(auto, using(crate::proofs::ImageLaws::items_start, crate::proofs::ImageLaws::items_over, crate::proofs::PartsLaws::there_later, crate::proofs::OnwardLaws::onward_twice, crate::proofs::OnwardLaws::onward_grows, crate::proofs::OnwardLaws::onward_none))]
 fn read_items<'w, 'a>(
     r: &mut Reader,
     left: u32,
@@ -377,7 +377,7 @@ fn read_items<'w, 'a>(
 }
 
 /// The one value of a scalar.
-#[tactic(auto, using(crate::proofs::ImageLaws::only_gives, crate::proofs::ImageLaws::only_fails, crate::proofs::OnwardLaws::onward_twice, crate::proofs::OnwardLaws::onward_env, crate::proofs::OnwardLaws::onward_grows, crate::proofs::OnwardLaws::onward_none))]
+#[tactic(auto, using(crate::proofs::ImageLaws::only_gives, crate::proofs::ImageLaws::only_fails))]
 fn only_value<'w, 'a>(
     r: &mut Reader,
     left: u32,
@@ -397,7 +397,7 @@ fn only_value<'w, 'a>(
 }
 
 /// Behind `=`: an object's scalars in braces, or the one value of a scalar (C11 6.7.9).
-#[tactic(auto, using(crate::proofs::ImageLaws::image_braced, crate::proofs::ImageLaws::image_single, crate::proofs::OnwardLaws::onward_twice, crate::proofs::OnwardLaws::onward_env, crate::proofs::OnwardLaws::onward_grows, crate::proofs::OnwardLaws::onward_none))]
+#[tactic(auto, using(crate::proofs::ImageLaws::image_braced, crate::proofs::ImageLaws::image_single))]
 pub(crate) fn read_image<'w, 'a>(
     r: &mut Reader,
     left: u32,

@@ -76,7 +76,7 @@ fn call(to: Option<Lval>, called: Called, args: Vec<Exp>) -> Instr
 }
 
 /// Behind the `(` of a call: its arguments, `)` and the end of the line.
-#[tactic(auto, using(crate::proofs::InstructionLaws::call_gives, crate::proofs::InstructionLaws::call_open, crate::proofs::InstructionLaws::call_fails, crate::proofs::InstructionLaws::call_known, crate::proofs::AddedTrees::call_adds, crate::proofs::OnwardLaws::onward_grows))]
+#[tactic(auto, using(crate::proofs::InstructionLaws::call_gives, crate::proofs::InstructionLaws::call_open, crate::proofs::InstructionLaws::call_fails, crate::proofs::OnwardLaws::onward_grows))]
 fn read_call(
     r: &mut Reader,
     left: u32,
@@ -139,7 +139,7 @@ fn stored(r: &Reader, x: Located, value: Operand, words: &[Word]) -> Result<Inst
 }
 
 /// Behind `=`: an expression, or a call.
-#[tactic(auto, using(crate::proofs::InstructionLaws::assigned_next, crate::proofs::InstructionLaws::assigned_fails, crate::proofs::PartsLaws::place_later, crate::proofs::OnwardLaws::onward_twice, crate::proofs::AddedTrees::assigned_adds, crate::proofs::OnwardLaws::onward_grows))]
+#[tactic(auto, using(crate::proofs::InstructionLaws::assigned_fails))]
 fn read_assignment(r: &mut Reader, left: u32, x: Located, words: &[Word]) -> Result<Instr, Stop>
     requires { PlaceKnown r.old.graph (env_in r.old) x.place x.ty }
     ensures gives { Gives (λ i. instr_of r.new.graph.nodes i) result (option_and_then (λ y. read_assigned (read_exp (env_in r.old) left) left (lval_of r.old.graph.nodes x.place) y.0 y.1) (read_exp (env_in r.old) left (all_said words.now))) }
@@ -183,7 +183,7 @@ fn read_zero(r: &mut Reader, left: u32, words: &[Word]) -> Result<Instr, Stop>
 }
 
 /// A line that is an instruction.
-#[tactic(auto, using(crate::proofs::InstructionLaws::instr_zero, crate::proofs::InstructionLaws::instr_next, crate::proofs::InstructionLaws::instr_fails, crate::proofs::OnwardLaws::onward_twice))]
+#[tactic(auto, using(crate::proofs::InstructionLaws::instr_zero, crate::proofs::InstructionLaws::instr_fails))]
 pub(crate) fn read_instr(r: &mut Reader, left: u32, words: &[Word]) -> Result<Instr, Stop>
     ensures gives { Gives (λ i. instr_of r.new.graph.nodes i) result (read_instr (env_in r.old) left (all_said words.now)) }
     ensures known { IfOk result (InstrKnown r.new.graph) }

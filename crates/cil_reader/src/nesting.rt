@@ -89,7 +89,7 @@ fn first_part(r: &Reader, lines: &mut Vec<Head>, left: u32) -> Result<Vec<Stmt>,
 
 /// Both parts of an `if` (C11 6.8.4.1).
 #[cycle(nesting)]
-#[tactic(auto, using(crate::proofs::NestingLaws::parts_give, crate::proofs::NestingLaws::parts_open, crate::proofs::NestingLaws::parts_fail, crate::proofs::CarryLaws::carries_first, crate::proofs::CarryLaws::carries_second))]
+#[tactic(auto, using(crate::proofs::NestingLaws::parts_open, crate::proofs::NestingLaws::parts_fail))]
 fn both_parts(r: &Reader, lines: &mut Vec<Head>, left: u32) -> Result<(Vec<Stmt>, Vec<Stmt>), Stop>
     ensures gives { Gives (λ x. ((stmts_of r.now.graph.nodes x.0.items, stmts_of r.now.graph.nodes x.1.items), waiting r.now.graph.nodes lines.new.items)) result (two_parts (read_nested left) (waiting r.now.graph.nodes lines.old.items)) }
     ensures first { IfOk result (λ x. Carries r.now.graph lines.old.items lines.new.items x.0.items) }
@@ -102,7 +102,7 @@ fn both_parts(r: &Reader, lines: &mut Vec<Head>, left: u32) -> Result<(Vec<Stmt>
 
 /// An `if` with this test: its parts (C11 6.8.4.1).
 #[cycle(nesting)]
-#[tactic(auto, using(crate::proofs::NestingLaws::made_if, crate::proofs::NestingLaws::if_fails, crate::proofs::CarryLaws::carries_if))]
+#[tactic(auto, using(crate::proofs::NestingLaws::if_fails))]
 fn read_if(
     r: &Reader,
     lines: &mut Vec<Head>,
@@ -119,7 +119,7 @@ fn read_if(
 
 /// A `switch` on this value: its block (C11 6.8.4.2).
 #[cycle(nesting)]
-#[tactic(auto, using(crate::proofs::NestingLaws::made_switch, crate::proofs::NestingLaws::block_fails, crate::proofs::CarryLaws::carries_switch))]
+#[tactic(auto, using(crate::proofs::NestingLaws::block_fails))]
 fn read_switch(
     r: &Reader,
     lines: &mut Vec<Head>,
@@ -136,7 +136,7 @@ fn read_switch(
 
 /// A `while`: its block (C11 6.8.5).
 #[cycle(nesting)]
-#[tactic(auto, using(crate::proofs::NestingLaws::made_loop, crate::proofs::NestingLaws::block_fails, crate::proofs::CarryLaws::carries_loop))]
+#[tactic(auto, using(crate::proofs::NestingLaws::block_fails))]
 fn read_loop(r: &Reader, lines: &mut Vec<Head>, left: u32) -> Result<Option<Box<Stmt>>, Stop>
     ensures gives { Gives (λ o. (maybe_seen r.now.graph.nodes o, waiting r.now.graph.nodes lines.new.items)) result (one_block (read_nested left) Loop (waiting r.now.graph.nodes lines.old.items)) }
     ensures known { IfOk result (λ o. CarriesOne r.now.graph (lines.old.items ++ seen.Looped ∷ []) lines.new.items o) }

@@ -115,7 +115,7 @@ fn read_formed<'w, 'a>(
 
 /// Behind a unary operator: its operand and `)` (C11 6.5.3.3).
 #[cycle(expression)]
-#[tactic(auto, using(crate::proofs::OperandLaws::enclosed_gives, crate::proofs::OperandLaws::enclosed_open, crate::proofs::OperandLaws::enclosed_fails, crate::proofs::AddedTrees::un_adds))]
+#[tactic(auto, using(crate::proofs::OperandLaws::enclosed_gives, crate::proofs::OperandLaws::enclosed_open, crate::proofs::OperandLaws::enclosed_fails))]
 fn one_operand<'w, 'a>(
     r: &mut Reader,
     left: u32,
@@ -136,7 +136,7 @@ fn one_operand<'w, 'a>(
 
 /// Behind `&`: a place and `)` (C11 6.5.3.2).
 #[cycle(expression)]
-#[tactic(auto, using(crate::proofs::OperandLaws::enclosed_gives, crate::proofs::OperandLaws::enclosed_open, crate::proofs::OperandLaws::enclosed_fails, crate::proofs::AddedTrees::address_adds))]
+#[tactic(auto, using(crate::proofs::OperandLaws::enclosed_gives, crate::proofs::OperandLaws::enclosed_open, crate::proofs::OperandLaws::enclosed_fails))]
 fn read_address<'w, 'a>(
     r: &mut Reader,
     left: u32,
@@ -156,7 +156,7 @@ fn read_address<'w, 'a>(
 
 /// A place in an expression.
 #[cycle(expression)]
-#[tactic(auto, using(crate::proofs::OperandLaws::chosen_gives, crate::proofs::OperandLaws::chosen_fails, crate::proofs::AddedTrees::chosen_adds))]
+#[tactic(auto, using(crate::proofs::OperandLaws::chosen_fails))]
 fn read_chosen<'w, 'a>(
     r: &mut Reader,
     left: u32,
@@ -173,7 +173,7 @@ fn read_chosen<'w, 'a>(
 
 /// Behind the `(` of a type's name: the rest of a conversion (C11 6.5.4).
 #[cycle(expression)]
-#[tactic(auto, using(crate::proofs::OperandLaws::cast_next, crate::proofs::OperandLaws::cast_open, crate::proofs::OperandLaws::cast_fails, crate::proofs::OnwardLaws::onward_twice, crate::proofs::OnwardLaws::onward_env))]
+#[tactic(auto, using(crate::proofs::OperandLaws::cast_next, crate::proofs::OperandLaws::cast_open, crate::proofs::OperandLaws::cast_fails, crate::proofs::OnwardLaws::onward_env))]
 fn read_cast<'w, 'a>(
     r: &mut Reader,
     left: u32,
@@ -193,7 +193,7 @@ fn read_cast<'w, 'a>(
 
 /// What is converted to a type, and `)`.
 #[cycle(expression)]
-#[tactic(auto, using(crate::proofs::OperandLaws::enclosed_gives, crate::proofs::OperandLaws::enclosed_open, crate::proofs::OperandLaws::enclosed_fails, crate::proofs::OnwardLaws::onward_grows, crate::proofs::PartsLaws::there_later, type_graph::proofs::ShapeLaws::kept, crate::proofs::AddedTrees::cast_adds))]
+#[tactic(auto, using(crate::proofs::OperandLaws::enclosed_gives, crate::proofs::OperandLaws::enclosed_open, crate::proofs::OperandLaws::enclosed_fails, crate::proofs::OnwardLaws::onward_grows, type_graph::proofs::ShapeLaws::kept))]
 fn cast_operand<'w, 'a>(
     r: &mut Reader,
     left: u32,
@@ -215,7 +215,7 @@ fn cast_operand<'w, 'a>(
 
 /// An expression, an operator, another one and `)` (C11 6.5.5 to 6.5.12).
 #[cycle(expression)]
-#[tactic(auto, using(crate::proofs::OperandLaws::binary_next, crate::proofs::OperandLaws::binary_fails, crate::proofs::OnwardLaws::onward_twice, crate::proofs::OnwardLaws::onward_env))]
+#[tactic(auto, using(crate::proofs::OperandLaws::binary_fails))]
 fn read_binary<'w, 'a>(
     r: &mut Reader,
     left: u32,
@@ -253,7 +253,7 @@ fn read_right<'w, 'a>(
 
 /// The right operand and `)`.
 #[cycle(expression)]
-#[tactic(auto, using(crate::proofs::OperandLaws::enclosed_gives, crate::proofs::OperandLaws::enclosed_open, crate::proofs::OperandLaws::enclosed_fails, crate::proofs::OnwardLaws::onward_grows, crate::proofs::PartsLaws::exp_same))]
+#[tactic(auto, using(crate::proofs::OperandLaws::enclosed_gives, crate::proofs::OperandLaws::enclosed_fails, crate::proofs::OnwardLaws::onward_grows, crate::proofs::PartsLaws::exp_same))]
 fn right_operand<'w, 'a>(
     r: &mut Reader,
     left: u32,
@@ -276,7 +276,7 @@ fn right_operand<'w, 'a>(
 
 /// A place (C11 6.3.2.1p1).
 #[cycle(expression)]
-#[tactic(auto, using(crate::proofs::OperandLaws::place_next, crate::proofs::OperandLaws::place_fails, crate::proofs::OnwardLaws::onward_twice))]
+#[tactic(auto, using(crate::proofs::OperandLaws::place_fails))]
 pub(crate) fn read_place<'w, 'a>(
     r: &mut Reader,
     left: u32,
@@ -293,7 +293,7 @@ pub(crate) fn read_place<'w, 'a>(
 
 /// Behind what a place begins with.
 #[cycle(expression)]
-#[tactic(auto, using(crate::proofs::PartsLaws::host_typed, crate::proofs::AddedTrees::base_adds))]
+#[tactic(auto, using(crate::proofs::PartsLaws::host_typed))]
 fn behind_host<'w, 'a>(
     r: &mut Reader,
     left: u32,
@@ -351,7 +351,7 @@ fn read_host<'w, 'a>(
 
 /// Behind `( *`: a pointer and `)` (C11 6.5.3.2p4).
 #[cycle(expression)]
-#[tactic(auto, using(crate::proofs::OperandLaws::enclosed_gives, crate::proofs::OperandLaws::enclosed_open, crate::proofs::OperandLaws::enclosed_fails, crate::proofs::AddedTrees::at_adds))]
+#[tactic(auto, using(crate::proofs::OperandLaws::enclosed_gives, crate::proofs::OperandLaws::enclosed_open, crate::proofs::OperandLaws::enclosed_fails))]
 fn pointed_host<'w, 'a>(
     r: &mut Reader,
     left: u32,
@@ -371,7 +371,7 @@ fn pointed_host<'w, 'a>(
 
 /// Steps into a part of a place. Their number is bounded.
 #[cycle(expression)]
-#[tactic(auto, using(crate::proofs::OperandLaws::offsets_end, crate::proofs::OperandLaws::offsets_over, crate::proofs::OperandLaws::offsets_stop, crate::proofs::OnwardLaws::onward_none, crate::proofs::OnwardLaws::onward_twice))]
+#[tactic(auto, using(crate::proofs::OperandLaws::offsets_end, crate::proofs::OperandLaws::offsets_over, crate::proofs::OnwardLaws::onward_none, crate::proofs::OnwardLaws::onward_twice))]
 fn read_offsets<'w, 'a>(r: &mut Reader, left: u32, walk: Walk<'w, 'a>) -> Result<Walk<'w, 'a>, Stop>
     requires { PlaceKnown r.old.graph (env_in r.old) walk.located.place walk.located.ty }
     ensures gives { Gives (λ x. (lval_of r.new.graph.nodes x.located.place, all_said x.rest.now)) result (option_map (part_behind (lval_of r.old.graph.nodes walk.entry.located.place)) (read_offsets (env_in r.old) (read_exp (env_in r.old) left) left (type_in r.old.graph.nodes walk.entry.located.ty) (all_said walk.entry.rest.now))) }
@@ -431,7 +431,7 @@ fn one_field<'w, 'a>(
 
 /// Behind `[`: an index and `]`.
 #[cycle(expression)]
-#[tactic(auto, using(crate::proofs::OperandLaws::element_gives, crate::proofs::OperandLaws::element_open, crate::proofs::OperandLaws::element_fails, crate::proofs::OnwardLaws::onward_grows, crate::proofs::PartsLaws::place_same, crate::proofs::PartsLaws::type_later, crate::proofs::AddedTrees::element_adds))]
+#[tactic(auto, using(crate::proofs::OperandLaws::element_gives, crate::proofs::OperandLaws::element_open, crate::proofs::OperandLaws::element_fails, crate::proofs::OnwardLaws::onward_grows, crate::proofs::PartsLaws::place_same, crate::proofs::PartsLaws::type_later))]
 fn one_element<'w, 'a>(
     r: &mut Reader,
     left: u32,

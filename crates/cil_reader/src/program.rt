@@ -1,7 +1,6 @@
 ghost use Rattle.std.specs.Prelude.{◌≡◌, ◌++◌, true, false, [], length, IfOk, IfErr};
 ghost use Rattle.std.specs.List.{list_all};
 ghost use Rattle.type_graph.specs.Arena.{IsArena};
-ghost use Rattle.type_graph.specs.Growth.{Grows, KeepsAggregates};
 ghost use Rattle.cil_tree.specs.View.{program_of};
 ghost use Rattle.cil_tree.specs.WellFormedTypes.{members_are_unqualified};
 ghost use Rattle.cil_tree.specs.Programs.{IsTextOf};
@@ -10,7 +9,8 @@ ghost use Rattle.cil_text.specs.TypesOf.{AddsParts, HasNeeded, declared_types, d
 ghost use Rattle.cil_declarators.specs.declared.stop.Stop.TheVariants.{WantOfMemory};
 ghost use Rattle.cil_scan.specs.Said.{all_lines};
 ghost use Rattle.cil_declarators.specs.Gives.{Gives};
-ghost use Rattle.cil_reader.specs.Settings.{env_in};
+ghost use Rattle.cil_declarators.specs.Extends.{Extends};
+ghost use Rattle.cil_reader.specs.Settings.{OnwardOutside, env_in};
 ghost use Rattle.cil_reader.specs.Pools.{KeepsNames};
 ghost use Rattle.cil_reader.specs.Aggregates.{aggregates_in};
 ghost use Rattle.cil_reader.specs.Globals.{EachDeclared, declarations_of, globals_of};
@@ -64,7 +64,7 @@ fn nothing_known(alloc: Global) -> Known
 }
 
 /// The globals that are declared so, with the objects and the bodies that lines define; no other line stands there.
-#[tactic(auto, using(type_graph::proofs::GrowthLaws::grows_twice, crate::proofs::PoolLaws::pool_twice, crate::proofs::GlobalLaws::declared_later, crate::proofs::ProgramLaws::defined_fails, crate::proofs::OnwardLaws::onward_grows, crate::proofs::OnwardParts::onward_aggs, crate::proofs::OnwardParts::onward_completed, crate::proofs::OnwardLaws::onward_env))]
+#[tactic(auto, using(crate::proofs::GlobalLaws::declared_later, crate::proofs::ProgramLaws::defined_fails, crate::proofs::OnwardLaws::onward_grows))]
 fn define_globals(
     r: &mut Reader,
     pool: &mut NamePool,
@@ -74,9 +74,7 @@ fn define_globals(
 ) -> Result<Vec<GlobalDecl>, Stop>
     requires { EachDeclared (length r.old.graph.nodes) declarations.now }
     ensures gives { Gives (λ xs. globals_of r.new.graph.nodes pool.new xs.items) result (defined_read (env_in r.old) left (declarations_of r.old.graph.nodes declarations.now) (all_lines lines.now)) }
-    ensures grows { Grows r.old.graph r.new.graph }
-    ensures keeps { KeepsAggregates r.old.graph r.new.graph }
-    ensures pool { KeepsNames pool.old pool.new }
+    ensures on { OnwardOutside r.old r.new pool.old pool.new }
     ensures adds { IfOk result (λ xs. AddsParts r.old.graph r.new.graph (defined_types (globals_of r.new.graph.nodes pool.new xs.items))) }
 {
     let (mut globals, rest) = read_objects(r, pool, left, declarations, lines)?;
@@ -88,7 +86,7 @@ fn define_globals(
 }
 
 /// The globals of a program, to the end of its text.
-#[tactic(auto, using(type_graph::proofs::GrowthLaws::grows_twice, crate::proofs::GlobalLaws::declared_later, crate::proofs::ProgramLaws::globals_give, crate::proofs::ProgramLaws::globals_alike, crate::proofs::ProgramLaws::globals_fail, crate::proofs::NeededLaws::globals_added, crate::proofs::PoolLaws::pool_same, crate::proofs::OnwardLaws::onward_grows, crate::proofs::OnwardParts::onward_aggs, crate::proofs::OnwardParts::onward_completed, crate::proofs::OnwardLaws::onward_env))]
+#[tactic(auto, using(crate::proofs::GlobalLaws::declared_later, crate::proofs::ProgramLaws::globals_give, crate::proofs::ProgramLaws::globals_fail, crate::proofs::PoolLaws::pool_same, crate::proofs::OnwardLaws::onward_env, crate::proofs::OutsideLaws::extends_by))]
 fn read_globals(
     r: &mut Reader,
     pool: &mut NamePool,
@@ -96,8 +94,7 @@ fn read_globals(
     lines: &[Vec<Word>],
 ) -> Result<Vec<GlobalDecl>, Stop>
     ensures gives { Gives (λ xs. globals_of r.new.graph.nodes pool.new xs.items) result (globals_read (env_in r.old) left (all_lines lines.now)) }
-    ensures grows { Grows r.old.graph r.new.graph }
-    ensures keeps { KeepsAggregates r.old.graph r.new.graph }
+    ensures graph { Extends r.old.graph r.new.graph }
     ensures pool { KeepsNames pool.old pool.new }
     ensures adds { IfOk result (λ xs. AddsParts r.old.graph r.new.graph (declared_types (globals_of r.new.graph.nodes pool.new xs.items) ++ defined_types (globals_of r.new.graph.nodes pool.new xs.items))) }
 {
@@ -108,7 +105,7 @@ fn read_globals(
 }
 
 /// The tree that the lines of a text say, whether or not it is a program's and the text is its own.
-#[tactic(auto, using(crate::proofs::MemberLaws::new_known, crate::proofs::ProgramLaws::blank, crate::proofs::ProgramLaws::aggregates_stay, crate::proofs::NeededLaws::tree_needed, crate::proofs::NeededLaws::members_stay, crate::proofs::PoolLaws::pool_same, crate::proofs::PoolLaws::pool_twice))]
+#[tactic(auto, using(crate::proofs::MemberLaws::new_known, crate::proofs::ProgramLaws::blank, crate::proofs::PoolLaws::pool_same, crate::proofs::PoolLaws::pool_twice))]
 fn read_tree(alloc: Global, bytes: &[u8], pool: &mut NamePool, abi: Abi) -> Result<CilUnit, Stop>
     ensures gives { Gives (λ u. (aggregates_in u.graph pool.new, globals_of u.graph.nodes pool.new u.globals.items)) result (read_text abi 4294967295 bytes.now) }
     ensures model { IfOk result (λ u. u.graph.abi ≡ abi) }

@@ -27,7 +27,7 @@ pub(crate) fn is_same(g: &TypeGraph, a: TypeId, b: TypeId) -> bool
 }
 
 /// What stands behind a declarator, or a type's name, that gives a type which is known: it adds no other.
-#[tactic(auto, using(crate::proofs::SameLaws::typed_gives, crate::proofs::SameLaws::typed_other, crate::proofs::SameLaws::typed_fails, crate::proofs::SameLaws::same_type, crate::proofs::OnwardLaws::onward_twice, crate::proofs::OnwardLaws::onward_grows, crate::proofs::OnwardLaws::onward_none))]
+#[tactic(auto, using(crate::proofs::SameLaws::typed_gives, crate::proofs::SameLaws::typed_fails, crate::proofs::SameLaws::same_type, crate::proofs::OnwardLaws::onward_grows))]
 pub(crate) fn read_typed<'w, 'a>(
     r: &mut Reader,
     left: u32,

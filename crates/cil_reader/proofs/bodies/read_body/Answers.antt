@@ -16,6 +16,7 @@ use Rattle.cil_reader.specs.Bodies.{texts_of, whole_stmts}
 use Rattle.cil_reader.proofs.BodyLaws.{texts_later}
 use Rattle.cil_reader.proofs.FunctionLaws.{body_gives, body_labels_fail, body_seen, body_known, fails_by}
 use Rattle.cil_reader.proofs.AddedBodies.{body_adds}
+use Rattle.cil_reader.proofs.OutsideLaws.{outside_names, outside_from, outside_locals, outside_body}
 use Rattle.cil_reader.proofs.PoolLaws.{pool_twice}
 use Rattle.cil_reader.proofs.bodies.read_body.Goals as goal
 
@@ -37,8 +38,43 @@ returns-clause-known c =
     c.in_ok-locals.ensures.known refl c.in_ok-params.ensures.known (texts_later c.labels_in.new.pool c.numbers_of.new.pool c.in_ok-labels.labels.names.items c.in_ok-labels.labels.texts c.in_ok-labels.ensures.known c.numbers_of.ensures.pool)
     c.in_ok-stmts.ensures.known
 
-pub returns-clause-env : goal.returns-clause-env
-returns-clause-env c = ap outside (c.read_stmts.ensures.on.env ∙ c.set_locals.ensures.env) ∙ ap outside c.read_locals.ensures.on.env
+pub returns-in_err-first-clause-on : goal.returns-in_err-first-clause-on
+returns-in_err-first-clause-on c = outside_names c.args.r.now c.args.pool.now c.param_locals.new.pool c.param_locals.ensures.pool
+
+pub returns-in_err-locals-clause-on : goal.returns-in_err-locals-clause-on
+returns-in_err-locals-clause-on c =
+    let pool = pool_twice c.args.pool.now c.param_locals.new.pool c.read_locals.new.pool c.param_locals.ensures.pool c.read_locals.ensures.pool in
+    outside_from c.args.r.now c.read_locals.new.r c.args.pool.now c.read_locals.new.pool c.read_locals.ensures.on pool
+
+pub returns-in_err-labels-clause-on : goal.returns-in_err-labels-clause-on
+returns-in_err-labels-clause-on c =
+    let p = c.args.pool.now in
+    let q = c.read_locals.new.pool in
+    let pool = pool_twice p q c.labels_in.new.pool (pool_twice p c.param_locals.new.pool q c.param_locals.ensures.pool c.read_locals.ensures.pool) c.labels_in.ensures.pool in
+    outside_locals c.args.r.now c.read_locals.new.r c.set_locals.new.self _ p c.labels_in.new.pool c.read_locals.ensures.on c.set_locals.ensures.graph c.set_locals.ensures.env pool
+
+pub returns-in_err-stmts-clause-on : goal.returns-in_err-stmts-clause-on
+returns-in_err-stmts-clause-on c =
+    let p = c.args.pool.now in
+    let q = c.read_locals.new.pool in
+    let pool = pool_twice p c.param_locals.new.pool q c.param_locals.ensures.pool c.read_locals.ensures.pool in
+    outside_body c.args.r.now c.read_locals.new.r c.set_locals.new.self c.read_stmts.new.r _ p q c.labels_in.new.pool c.read_locals.ensures.on c.set_locals.ensures.graph c.set_locals.ensures.env pool c.read_stmts.ensures.on c.labels_in.ensures.pool
+
+pub returns-in_err-params-clause-on : goal.returns-in_err-params-clause-on
+returns-in_err-params-clause-on c =
+    let p = c.args.pool.now in
+    let q = c.read_locals.new.pool in
+    let first = pool_twice p c.param_locals.new.pool q c.param_locals.ensures.pool c.read_locals.ensures.pool in
+    let behind = pool_twice q c.labels_in.new.pool c.numbers_of.new.pool c.labels_in.ensures.pool c.numbers_of.ensures.pool in
+    outside_body c.args.r.now c.read_locals.new.r c.set_locals.new.self c.read_stmts.new.r _ p q c.numbers_of.new.pool c.read_locals.ensures.on c.set_locals.ensures.graph c.set_locals.ensures.env first c.read_stmts.ensures.on behind
+
+pub returns-clause-on : goal.returns-clause-on
+returns-clause-on c =
+    let p = c.args.pool.now in
+    let q = c.read_locals.new.pool in
+    let first = pool_twice p c.param_locals.new.pool q c.param_locals.ensures.pool c.read_locals.ensures.pool in
+    let behind = pool_twice q c.labels_in.new.pool c.numbers_of.new.pool c.labels_in.ensures.pool c.numbers_of.ensures.pool in
+    outside_body c.args.r.now c.read_locals.new.r c.set_locals.new.self c.read_stmts.new.r _ p q c.numbers_of.new.pool c.read_locals.ensures.on c.set_locals.ensures.graph c.set_locals.ensures.env first c.read_stmts.ensures.on behind
 
 pub returns-in_err-labels-clause-gives : goal.returns-in_err-labels-clause-gives
 returns-in_err-labels-clause-gives c =

@@ -1,14 +1,14 @@
-use Rattle.std.proofs.Common.{◌≡◌, ◌<◌, true, None, Err, sym, rules}
-use Rattle.cil_tree.specs.Tree.{Bin}
+use Rattle.std.proofs.Common.{◌≡◌, ◌<◌, true, Some, None, Err, sym, ap, ◌∙◌, rules}
+use Rattle.cil_tree.specs.Tree.{Bin, Exp}
 use Rattle.cil_tree.specs.View.{exp_of, host_of, lval_of}
-use Rattle.cil_text.specs.ReadExps.{read_exp, is_offset}
+use Rattle.cil_text.specs.ReadExps.{Env, chosen, read_exp, is_offset}
 use Rattle.cil_scan.specs.Said.{all_said}
 use Rattle.cil_forms.specs.Forms.{closing}
 use Rattle.cil_reader.specs.Settings.{env_in, type_in}
 use Rattle.cil_reader.proofs.OnwardLaws.{onward_twice}
-use Rattle.cil_reader.proofs.PartsLaws.{exp_later, place_later}
-use Rattle.cil_reader.proofs.OperandLaws.{enclosed_open, place_next, offsets_next, offsets_stop}
-use Rattle.cil_reader.proofs.AddedTrees.{bin_adds}
+use Rattle.cil_reader.proofs.PartsLaws.{exp_later, place_later, there_later}
+use Rattle.cil_reader.proofs.OperandLaws.{enclosed_open, chosen_gives, binary_next, place_next, offsets_next, offsets_stop}
+use Rattle.cil_reader.proofs.AddedTrees.{un_adds, bin_adds, cast_adds, address_adds, chosen_adds, at_adds, base_adds, element_adds}
 use Rattle.cil_reader.proofs.operands.+expression.Goals as goal
 
 pub one_element-step_to_element-requires-clause-place : goal.one_element-step_to_element-requires-clause-place
@@ -59,3 +59,65 @@ read_offsets-returns-in_err-at-clause-gives t c =
     c.in_err-at.ensures.gives inv.1 in
     let err : c.from_residual.result ≡ Err c.in_err-at.field-0.0 = search rules in
     rw err stops
+
+pub one_operand-returns-clause-adds : goal.one_operand-returns-clause-adds
+one_operand-returns-clause-adds t c =
+    un_adds c.args.r.now.graph c.read_exp.new.r.graph c.args.op c.in_ok-operand.operand.exp.value c.in_ok-with_unary.field-0.exp.value c.in_ok-with_unary.ensures.tree c.in_ok-operand.ensures.adds
+
+pub read_address-returns-clause-adds : goal.read_address-returns-clause-adds
+read_address-returns-clause-adds t c =
+    address_adds c.args.r.now.graph c.read_place.new.r.graph c.in_ok-located.located.place c.in_ok-with_address.field-0.exp.value c.in_ok-with_address.ensures.tree c.in_ok-located.ensures.adds
+
+pub read_chosen-returns-clause-gives : goal.read_chosen-returns-clause-gives
+read_chosen-returns-clause-gives t c =
+    let env = env_in c.args.r.now in
+    let place = lval_of c.read_place.new.r.graph.nodes c.in_ok-located.located.place in
+    let rest = all_said c.in_ok-located.rest.now in
+    chosen_gives env (read_exp env c.args.left) c.args.left (all_said c.args.words.now) rest place c.in_ok-located.ensures.gives
+    ∙ ap (λ (v : Env). Some (chosen v place, rest)) (sym c.read_place.ensures.on.env) ∙ ap (λ (x : Exp). Some (x, rest)) (sym c.in_ok-chosen.ensures.tree)
+
+pub read_chosen-returns-clause-adds : goal.read_chosen-returns-clause-adds
+read_chosen-returns-clause-adds t c =
+    chosen_adds c.args.r.now.graph c.read_place.new.r.graph (env_in c.read_place.new.r) c.in_ok-located.located.place c.in_ok-chosen.field-0.exp.value c.in_ok-chosen.ensures.tree c.in_ok-located.ensures.adds
+
+pub read_cast-returns-clause-on : goal.read_cast-returns-clause-on
+read_cast-returns-clause-on t c = onward_twice c.args.r.now c.read_decl.new.self c.cast_operand.new.r c.read_decl.ensures.on c.cast_operand.ensures.on
+
+pub read_cast-returns-clause-adds : goal.read_cast-returns-clause-adds
+read_cast-returns-clause-adds t c = c.cast_operand.ensures.adds c.args.r.now.graph c.in_ok-named.ensures.adds
+
+pub cast_operand-with_cast-requires-clause-there : goal.cast_operand-with_cast-requires-clause-there
+cast_operand-with_cast-requires-clause-there t c = there_later c.args.r.now.graph c.read_exp.new.r.graph c.args.to c.read_exp.ensures.on.grows c.requires
+
+pub cast_operand-returns-clause-adds : goal.cast_operand-returns-clause-adds
+cast_operand-returns-clause-adds t c = λ f adds.
+    cast_adds f c.args.r.now.graph c.read_exp.new.r.graph c.args.to c.in_ok-operand.operand.exp.value c.in_ok-with_cast.field-0.exp.value c.read_exp.ensures.on.grows c.requires c.in_ok-with_cast.ensures.tree adds c.in_ok-operand.ensures.adds
+
+pub read_binary-returns-clause-gives : goal.read_binary-returns-clause-gives
+read_binary-returns-clause-gives t c =
+    let e = binary_next (read_exp (env_in c.args.r.now) c.args.left) (all_said c.args.words.now) (all_said c.in_ok-operand.rest.now) (exp_of c.read_exp.new.r.graph.nodes c.in_ok-operand.operand.exp.value) c.in_ok-operand.ensures.gives in
+    rw (e, sym c.read_exp.ensures.on.env) c.read_right.ensures.gives
+
+pub read_binary-returns-clause-on : goal.read_binary-returns-clause-on
+read_binary-returns-clause-on t c = onward_twice c.args.r.now c.read_exp.new.r c.read_right.new.r c.read_exp.ensures.on c.read_right.ensures.on
+
+pub read_binary-returns-clause-adds : goal.read_binary-returns-clause-adds
+read_binary-returns-clause-adds t c = c.read_right.ensures.adds c.args.r.now.graph c.in_ok-operand.ensures.adds
+
+pub read_place-returns-clause-on : goal.read_place-returns-clause-on
+read_place-returns-clause-on t c = onward_twice c.args.r.now c.read_host.new.r c.behind_host.new.r c.read_host.ensures.on c.behind_host.ensures.on
+
+pub read_place-returns-clause-adds : goal.read_place-returns-clause-adds
+read_place-returns-clause-adds t c = c.behind_host.ensures.adds c.args.r.now.graph c.in_ok-based.ensures.adds
+
+pub behind_host-returns-clause-adds : goal.behind_host-returns-clause-adds
+behind_host-returns-clause-adds t c = λ f adds. c.in_ok-read.ensures.adds f (base_adds f c.args.r.now.graph c.args.based.host c.with_base-located.result.place c.with_base-located.ensures.tree adds)
+
+pub pointed_host-returns-clause-adds : goal.pointed_host-returns-clause-adds
+pointed_host-returns-clause-adds t c =
+    at_adds c.args.r.now.graph c.read_exp.new.r.graph c.in_ok-operand.operand.exp.value c.with_pointer.result.host c.with_pointer.ensures.tree c.in_ok-operand.ensures.adds
+
+pub one_element-returns-clause-adds : goal.one_element-returns-clause-adds
+one_element-returns-clause-adds t c = λ f adds.
+    element_adds f c.args.r.now.graph c.read_exp.new.r.graph (env_in c.args.r.now) c.args.located.place c.step_to_element.new.x.place c.args.located.ty c.in_ok-index.index.exp.value c.read_exp.ensures.on.grows c.requires c.in_ok-step_to_element.ensures.tree adds
+    c.in_ok-index.ensures.adds

@@ -11,6 +11,7 @@ use Rattle.cil_reader.specs.Defined.{defined_read}
 use Rattle.cil_reader.proofs.FunctionLaws.{declared_all, written_back, fails_by}
 use Rattle.cil_reader.proofs.ProgramLaws.{defined_whole, defined_more, defined_bodies_fail}
 use Rattle.cil_reader.proofs.NeededLaws.{adds_from}
+use Rattle.cil_reader.proofs.OutsideLaws.{outside_from, outside_after}
 use Rattle.cil_reader.proofs.program.define_globals.Goals as goal
 
 pub returns-in_err-rest-clause-gives : goal.returns-in_err-rest-clause-gives
@@ -62,3 +63,15 @@ returns-clause-adds c =
     let len : c.in_ok-globals.globals.len ≡ length c.in_ok-globals.globals.items = search rules in
     subst (λ (xs : List GlobalDecl). AddsParts r.graph h (defined_types (globals_of h.nodes p xs))) (sym (written_back c.in_ok-globals.globals.len c.read_bodies.new.globals c.in_ok-globals.globals.items size len))
     (adds_from r.graph s.graph h (defined_types (globals_of h.nodes p c.read_bodies.new.globals)) c.in_ok-globals.ensures.same c.in_ok-rest.ensures.adds)
+
+pub returns-in_err-globals-clause-on : goal.returns-in_err-globals-clause-on
+returns-in_err-globals-clause-on c = outside_from c.args.r.now c.read_objects.new.r c.args.pool.now c.read_objects.new.pool c.read_objects.ensures.on c.read_objects.ensures.pool
+
+pub returns-in_err-rest-clause-on : goal.returns-in_err-rest-clause-on
+returns-in_err-rest-clause-on c = outside_after c.args.r.now c.read_objects.new.r c.read_bodies.new.r c.args.pool.now c.read_objects.new.pool c.read_bodies.new.pool c.read_objects.ensures.on c.read_objects.ensures.pool c.read_bodies.ensures.on
+
+pub returns-then-not-is_empty-clause-on : goal.returns-then-not-is_empty-clause-on
+returns-then-not-is_empty-clause-on c = outside_after c.args.r.now c.read_objects.new.r c.read_bodies.new.r c.args.pool.now c.read_objects.new.pool c.read_bodies.new.pool c.read_objects.ensures.on c.read_objects.ensures.pool c.read_bodies.ensures.on
+
+pub returns-clause-on : goal.returns-clause-on
+returns-clause-on c = outside_after c.args.r.now c.read_objects.new.r c.read_bodies.new.r c.args.pool.now c.read_objects.new.pool c.read_bodies.new.pool c.read_objects.ensures.on c.read_objects.ensures.pool c.read_bodies.ensures.on
