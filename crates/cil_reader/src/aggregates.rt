@@ -60,7 +60,6 @@ fn valued(words: &[Word]) -> Option<i32>
 }
 
 /// An enumerator and its value (C11 6.7.2.2).
-#[tactic(auto, using(crate::proofs::MemberLaws::enumerator_gives, crate::proofs::MemberLaws::enumerator_fails))]
 fn read_enumerator<'a>(words: &[Word<'a>]) -> Option<(&'a [u8], i32)>
     ensures { option_map (λ r. enumerator_with r.0.now r.1) result ≡ read_enumerator (all_said words.now) }
 {
@@ -373,7 +372,6 @@ fn one_member(
 }
 
 /// Whether a line has one member more, which is then read, and the lines behind it.
-#[tactic(auto, using(crate::proofs::MemberLaws::line_closed, crate::proofs::MemberLaws::line_read, crate::proofs::MemberLaws::line_fails, crate::proofs::PoolLaws::pool_same, crate::proofs::AddedMembers::fields_same, crate::proofs::OnwardLaws::onward_none))]
 fn next_member<'w, 'a>(
     r: &mut Reader,
     pool: &mut NamePool,

@@ -144,7 +144,6 @@ pub(crate) fn read_declarations<'w, 'a>(
 }
 
 /// The names of globals, which differ, with their types.
-#[tactic(auto, using(crate::proofs::GlobalLaws::declared_there, crate::proofs::GlobalLaws::names_start, crate::proofs::GlobalLaws::names_next, crate::proofs::GlobalLaws::names_alike, crate::proofs::GlobalLaws::names_end, crate::proofs::MemberLaws::no_types, crate::proofs::MemberLaws::each_there))]
 pub(crate) fn names_of(r: &Reader, declarations: &[Declaration]) -> Result<Names, Stop>
     requires { EachDeclared (length r.now.graph.nodes) declarations.now }
     ensures gives { Gives (λ x. locals_of r.now.graph.nodes x) result (named_apart (declarations_of r.now.graph.nodes declarations.now)) }
@@ -190,7 +189,6 @@ fn defined_by(r: &mut Reader, left: u32, ty: TypeId, words: &[Word]) -> Result<G
 }
 
 /// An object by its own line, whose declarator gives the type that is declared (C11 6.7p4).
-#[tactic(auto, using(crate::proofs::GlobalLaws::own_gives, crate::proofs::GlobalLaws::own_fails, crate::proofs::OnwardLaws::onward_twice, crate::proofs::OnwardLaws::onward_env, crate::proofs::OnwardLaws::onward_grows))]
 fn own_definition(
     r: &mut Reader,
     left: u32,
@@ -310,7 +308,6 @@ fn waiting_at<'w, 'a>(lines: &'w [Vec<Word<'a>>]) -> Waiting<'w, 'a>
 }
 
 /// A global whose own line stands next.
-#[tactic(auto, using(crate::proofs::GlobalLaws::own_seen, crate::proofs::GlobalLaws::line_fails))]
 fn own_global<'w, 'a>(
     r: &mut Reader,
     pool: &mut NamePool,

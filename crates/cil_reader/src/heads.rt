@@ -219,7 +219,6 @@ fn behind_brace(words: &[Word]) -> Head
 }
 
 /// A line that opens a part of a statement, or closes one.
-#[tactic(auto, using(crate::proofs::HeadsLaws::known_looped, crate::proofs::HeadsLaws::known_opened, cil_text::proofs::PartsAdded::adds_none, crate::proofs::OnwardLaws::onward_none))]
 fn block_line(r: &mut Reader, left: u32, words: &[Word]) -> Result<Head, Stop>
     ensures gives { Gives (λ h. head_of r.new.graph.nodes h) result (block_line (env_in r.old) left (all_said words.now)) }
     ensures known { IfOk result (HeadKnown r.new.graph) }
@@ -237,7 +236,6 @@ fn block_line(r: &mut Reader, left: u32, words: &[Word]) -> Result<Head, Stop>
 }
 
 /// A line with a case label or a jump.
-#[tactic(auto, using(crate::proofs::HeadsLaws::known_default, crate::proofs::HeadsLaws::known_break, cil_text::proofs::PartsAdded::adds_none, crate::proofs::OnwardLaws::onward_none))]
 fn jump_line(r: &mut Reader, labels: &Numbering, left: u32, words: &[Word]) -> Result<Head, Stop>
     ensures gives { Gives (λ h. head_of r.new.graph.nodes h) result (jump_line (env_in r.old) labels.now left (all_said words.now)) }
     ensures known { IfOk result (HeadKnown r.new.graph) }

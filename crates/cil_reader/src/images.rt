@@ -247,7 +247,6 @@ fn there<'w, 'a>(
 }
 
 /// Behind the `(` of a conversion: the type of the place, which is a pointer's, `)` and the pointer's value.
-#[tactic(auto, using(crate::proofs::ImageLaws::converted_next, crate::proofs::ImageLaws::converted_open, crate::proofs::ImageLaws::converted_fails))]
 fn read_converted<'w, 'a>(
     r: &mut Reader,
     left: u32,

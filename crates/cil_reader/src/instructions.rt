@@ -152,7 +152,6 @@ fn read_assignment(r: &mut Reader, left: u32, x: Located, words: &[Word]) -> Res
 }
 
 /// Behind the place in front of an instruction: what is assigned to it, or the arguments of a call.
-#[tactic(auto, using(crate::proofs::InstructionLaws::callee_next, crate::proofs::InstructionLaws::callee_none, crate::proofs::InstructionLaws::callee_known, crate::proofs::InstructionLaws::no_result, crate::proofs::AddedTrees::callee_adds, crate::proofs::OnwardLaws::onward_none))]
 fn read_effect(r: &mut Reader, left: u32, x: Located, words: &[Word]) -> Result<Instr, Stop>
     requires { PlaceKnown r.old.graph (env_in r.old) x.place x.ty }
     ensures gives { Gives (λ i. instr_of r.new.graph.nodes i) result (read_effect (read_exp (env_in r.old) left) left (lval_of r.old.graph.nodes x.place) (all_said words.now)) }

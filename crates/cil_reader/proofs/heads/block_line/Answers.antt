@@ -1,0 +1,34 @@
+use Rattle.cil_text.proofs.PartsAdded.{adds_none}
+use Rattle.cil_reader.proofs.HeadsLaws.{known_looped, known_opened}
+use Rattle.cil_reader.proofs.OnwardLaws.{onward_none}
+use Rattle.cil_reader.proofs.heads.block_line.Goals as goal
+
+pub returns-in-WhileWord-clause-known : goal.returns-in-WhileWord-clause-known
+returns-in-WhileWord-clause-known c = known_looped c.args.r.now.graph
+
+pub returns-in-WhileWord-clause-on : goal.returns-in-WhileWord-clause-on
+returns-in-WhileWord-clause-on c = onward_none c.args.r.now
+
+pub returns-in-WhileWord-clause-adds : goal.returns-in-WhileWord-clause-adds
+returns-in-WhileWord-clause-adds c = adds_none c.args.r.now.graph _
+
+pub returns-in-LeftBrace-clause-known : goal.returns-in-LeftBrace-clause-known
+returns-in-LeftBrace-clause-known c = known_opened c.args.r.now.graph
+
+pub returns-in-LeftBrace-clause-on : goal.returns-in-LeftBrace-clause-on
+returns-in-LeftBrace-clause-on c = onward_none c.args.r.now
+
+pub returns-in-LeftBrace-clause-adds : goal.returns-in-LeftBrace-clause-adds
+returns-in-LeftBrace-clause-adds c = adds_none c.args.r.now.graph _
+
+pub returns-in-RightBrace-clause-known : goal.returns-in-RightBrace-clause-known
+returns-in-RightBrace-clause-known c = c.behind_brace.ensures.known c.args.r.now.graph
+
+pub returns-in-RightBrace-clause-on : goal.returns-in-RightBrace-clause-on
+returns-in-RightBrace-clause-on c = onward_none c.args.r.now
+
+pub returns-in-RightBrace-clause-adds : goal.returns-in-RightBrace-clause-adds
+returns-in-RightBrace-clause-adds c = adds_none c.args.r.now.graph _
+
+pub returns-in_default-clause-on : goal.returns-in_default-clause-on
+returns-in_default-clause-on c = onward_none c.args.r.now
