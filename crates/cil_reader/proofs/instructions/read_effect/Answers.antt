@@ -33,3 +33,9 @@ returns-in-None-clause-on c = onward_none c.args.r.now
 
 pub returns-in_default-clause-on : goal.returns-in_default-clause-on
 returns-in_default-clause-on c = onward_none c.args.r.now
+
+pub returns-in-Assign-clause-gives : goal.returns-in-Assign-clause-gives
+returns-in-Assign-clause-gives c = grind (arith, common_steps)
+
+pub returns-in_default-clause-gives : goal.returns-in_default-clause-gives
+returns-in_default-clause-gives c = grind (arith, common_steps)
