@@ -29,3 +29,21 @@ returns-in-empty-clause-pool c = pool_same c.args.pool.now
 
 pub returns-in_ok-more-in-len1-up-clause-gives : goal.returns-in_ok-more-in-len1-up-clause-gives
 returns-in_ok-more-in-len1-up-clause-gives c = grind (arith, common_steps, line_read)
+
+pub returns-then-is_close-clause-less : goal.returns-then-is_close-clause-less
+returns-then-is_close-clause-less c = grind (arith, common_steps)
+
+pub returns-in_ok-more-in-len1-up-clause-less : goal.returns-in_ok-more-in-len1-up-clause-less
+returns-in_ok-more-in-len1-up-clause-less c = grind (arith, common_steps)
+
+pub one_member-requires : goal.one_member-requires
+one_member-requires c = c.requires
+
+pub returns-in_ok-more-in-len1-up-clause-known : goal.returns-in_ok-more-in-len1-up-clause-known
+returns-in_ok-more-in-len1-up-clause-known c = c.in_ok-more-in-len1-up.ensures.known
+
+pub returns-in_ok-more-in-len1-up-clause-adds : goal.returns-in_ok-more-in-len1-up-clause-adds
+returns-in_ok-more-in-len1-up-clause-adds c = c.in_ok-more-in-len1-up.ensures.adds
+
+pub returns-in-empty-clause-gives : goal.returns-in-empty-clause-gives
+returns-in-empty-clause-gives c = grind (arith, common_steps)
