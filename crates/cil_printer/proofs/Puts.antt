@@ -10,7 +10,7 @@ use Rattle.cil_printer.proofs.Rooms.{taken_twice, taken_blanks}
 capped_twice : (a m n : ℕ) → capped (capped (a + m) + n) ≡ capped (a + (m + n))
 capped_twice a m n = omega arith
 
-kept_twice : (k : ℕ) (text xs ys : List ℕ) → (text ++ take (k - length text) xs) ++ take (k - length (text ++ take (k - length text) xs)) ys ≡ text ++ take (k - length text) (xs ++ ys)
+pub kept_twice : (k : ℕ) (text xs ys : List ℕ) → (text ++ take (k - length text) xs) ++ take (k - length (text ++ take (k - length text) xs)) ys ≡ text ++ take (k - length text) (xs ++ ys)
 kept_twice k text xs ys =
     append_assoc text (take (k - length text) xs) (take (k - length (text ++ take (k - length text) xs)) ys)
     ∙ ap (λ t. text ++ t) (ap (λ n. take (k - length text) xs ++ take n ys) left ∙ taken_twice (k - length text) xs ys)
@@ -29,6 +29,9 @@ pub put_counted : (n : ℕ) (bytes : List ℕ) → n < 2 ^ 64 → put (Counted n
 unfolding put
 put_counted n [] h = ap Counted (omega (arith, h))
 put_counted n (b ∷ bytes) h = refl
+
+pub ended_counted : (n : ℕ) (bytes : List ℕ) (last : ℕ) → n < 2 ^ 64 → put (Counted n) (bytes ++ last ∷ []) ≡ Counted (capped (n + (length bytes + 1)))
+ended_counted n bytes last h = put_counted n (bytes ++ last ∷ []) h ∙ ap (λ k. Counted (capped (n + k))) (length-append bytes (last ∷ []))
 
 pub put_written : (room : ℕ) (text bytes : List ℕ) → room < 2 ^ 64 → put (Written room text) bytes ≡ Written room (text ++ take (room - length text) bytes)
 unfolding put
@@ -55,9 +58,9 @@ pub puts-puts : (o : Output) (xs ys : List Token) → puts (puts o xs) ys ≡ pu
 unfolding puts
 puts-puts o xs ys = put-put o (spaced xs) (spaced ys) ∙ ap (put o) (sym (spaced-append xs ys))
 
-pub token_pushed : (o a b : Output) (token : Token) → a ≡ put o token → b ≡ put a (32 ∷ []) → b ≡ puts o (token ∷ [])
+pub token_pushed : (o a : Output) (token : Token) → a ≡ put o (token ++ 32 ∷ []) → a ≡ puts o (token ∷ [])
 unfolding puts
-token_pushed o a b token ea eb = simp (eb, ea, put-put)
+token_pushed o a token e = e
 
 pub constant_pushed : (o a b c : Output) (xs ys : List ℕ) → a ≡ put o xs → b ≡ put a ys → c ≡ put b (32 ∷ []) → c ≡ puts o ((xs ++ ys) ∷ [])
 unfolding puts
@@ -90,9 +93,6 @@ pub binary : (o a b c d e : Output) (op : Token) (xs ys : List Token) →
     a ≡ puts o (codes "(" ∷ []) → b ≡ puts a xs → c ≡ puts b (op ∷ []) → d ≡ puts c ys → e ≡ puts d (codes ")" ∷ []) →
     e ≡ puts o (in_parentheses (xs ++ op ∷ ys))
 binary o a b c d e op xs ys ea eb ec ed ee = simp (ee, ed, ec, eb, ea, puts-puts, append_assoc)
-
-pub end_pushed : (o a b : Output) (token : Token) → a ≡ put o token → b ≡ put a (10 ∷ []) → b ≡ put o (token ++ 10 ∷ [])
-end_pushed o a b token ea eb = simp (eb, ea, put-put)
 
 pub indented_more : (o a : Output) (depth i j : ℕ) → j ≡ suc i → i < depth → a ≡ put o (32 ∷ 32 ∷ []) → put a (replicate (2 * (depth - j)) 32) ≡ put o (replicate (2 * (depth - i)) 32)
 indented_more o a depth i j e h ea = ap (λ x. put x (replicate (2 * (depth - j)) 32)) ea ∙ put-put o (32 ∷ 32 ∷ []) (replicate (2 * (depth - j)) 32) ∙ ap (λ k. put o (replicate k 32)) same

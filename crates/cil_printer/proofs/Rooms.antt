@@ -1,5 +1,5 @@
 -- Device: the first bytes, as many as there is room for.
-use Rattle.std.proofs.Common.{◌≡◌, ℕ, zero, suc, ◌+◌, ◌-◌, ◌≤◌, List, [], ◌∷◌, ◌++◌, length, take, replicate, refl, sym, ap, ◌∙◌, arith}
+use Rattle.std.proofs.Common.{◌≡◌, ℕ, zero, suc, ◌+◌, ◌-◌, ◌≤◌, ◌<◌, List, [], ◌∷◌, ◌++◌, length, take, replicate, refl, sym, ap, ◌∙◌, append_assoc, length-append, arith}
 use Rattle.std.proofs.lemmas.List.{length-take, take_all}
 
 pub all_of : (bytes : List ℕ) (most : ℕ) → length bytes ≤ most → bytes ≡ take most bytes
@@ -7,6 +7,9 @@ all_of bytes most h = sym (take_all most bytes h)
 
 pub front_fits : (held more : List ℕ) (room : ℕ) → length held ≤ room → length held + length (take (room - length held) more) ≤ room
 front_fits held more room h = omega (arith, h, length-take (room - length held) more)
+
+pub all_fit : (held more : List ℕ) (last room : ℕ) → length more < room - length held → (held ++ more) ++ last ∷ [] ≡ held ++ take (room - length held) (more ++ last ∷ [])
+all_fit held more last room h = append_assoc held more (last ∷ []) ∙ ap (λ t. held ++ t) (sym (take_all (room - length held) (more ++ last ∷ []) (omega (arith, h, length-append more (last ∷ [])))))
 
 -- what is taken of two texts, one after the other
 pub taken_twice : (n : ℕ) (xs ys : List ℕ) → take n xs ++ take (n - length (take n xs)) ys ≡ take n (xs ++ ys)

@@ -1,4 +1,4 @@
-ghost use Rattle.std.specs.Prelude.{◌≡◌, ◌≤◌, ◌-◌, ◌++◌, [], take, length, IfOk};
+ghost use Rattle.std.specs.Prelude.{◌≡◌, ◌≤◌, ◌<◌, ◌-◌, ◌∷◌, ◌++◌, [], take, length, IfOk};
 ghost use Rattle.std.specs.Vec.{vec_capacity};
 
 use std::alloc::{AllocError, Global};
@@ -29,6 +29,37 @@ impl Page {
     {
         let front = front_of(more, self.room - self.bytes.len());
         match self.bytes.extend_from_slice(front) {
+            Ok(()) => {}
+            Err(_) => unreachable!(),
+        }
+    }
+
+    /// Appends bytes and one more, as many of them as there is room for.
+    #[tactic(auto, using(crate::proofs::Puts::kept_twice))]
+    pub(crate) fn append_ended(&mut self, more: &[u8], last: u8)
+        ensures bytes { self.new.bytes.items ≡ self.old.bytes.items ++ take (self.old.room - length self.old.bytes.items) (more.now ++ last ∷ []) }
+        ensures room { self.new.room ≡ self.old.room }
+    {
+        if more.len() < self.room - self.bytes.len() {
+            self.append_all(more, last);
+        } else {
+            self.append(more);
+            self.append(&[last]);
+        }
+    }
+
+    /// Appends bytes and one more, for which there is room.
+    #[tactic(auto, using(crate::proofs::Rooms::all_fit))]
+    fn append_all(&mut self, more: &[u8], last: u8)
+        requires { length more.now < self.old.room - length self.old.bytes.items }
+        ensures bytes { self.new.bytes.items ≡ self.old.bytes.items ++ take (self.old.room - length self.old.bytes.items) (more.now ++ last ∷ []) }
+        ensures room { self.new.room ≡ self.old.room }
+    {
+        match self.bytes.extend_from_slice(more) {
+            Ok(()) => {}
+            Err(_) => unreachable!(),
+        }
+        match self.bytes.push(last) {
             Ok(()) => {}
             Err(_) => unreachable!(),
         }

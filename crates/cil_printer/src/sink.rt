@@ -81,13 +81,23 @@ impl Sink {
         }
     }
 
+    /// Appends bytes and one more.
+    #[tactic(auto, using(crate::proofs::Puts::ended_counted, crate::proofs::Puts::put_written))]
+    fn push_ended(&mut self, bytes: &[u8], last: u8)
+        ensures { self.new ≡ put self.old (bytes.now ++ last ∷ []) }
+    {
+        match &mut self.kept {
+            Kept::Length(length) => *length = length.saturating_add(bytes.len() as u64 + 1),
+            Kept::Text(page) => page.append_ended(bytes, last),
+        }
+    }
+
     /// Appends a token and a blank.
     #[tactic(auto, using(crate::proofs::Puts::token_pushed))]
     pub(crate) fn token(&mut self, token: &[u8])
         ensures { self.new ≡ puts self.old (token.now ∷ []) }
     {
-        self.push(token);
-        self.push(b" ");
+        self.push_ended(token, b' ');
     }
 
     /// Appends the indentation of a line in so many braces: two blanks for each.
@@ -111,12 +121,10 @@ impl Sink {
     }
 
     /// Appends a line's last token and a line feed.
-    #[tactic(auto, using(crate::proofs::Puts::end_pushed))]
     pub(crate) fn end(&mut self, token: &[u8])
         ensures { self.new ≡ put self.old (token.now ++ 10 ∷ []) }
     {
-        self.push(token);
-        self.push(b"\n");
+        self.push_ended(token, b'\n');
     }
 
     /// The number of bytes that were counted, or the greatest number.
