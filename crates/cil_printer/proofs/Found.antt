@@ -1,5 +1,5 @@
 -- Device: what stands at a number of a list of the code.
-use Rattle.std.proofs.Common.{◌≡◌, ℕ, zero, suc, ◌<◌, ◌≤◌, nat_lt, cond, Bool, true, false, is_some, length, arith, IsSome, IfSome, List, [], ◌∷◌, Option, Some, None, slice_get, slice_index_or, map, refl, sym, ap, ◌∙◌, subst, rules}
+use Rattle.std.proofs.Common.{◌≡◌, ℕ, zero, suc, ◌<◌, ◌≤◌, nat_lt, cond, Bool, true, false, length, arith, IfSome, List, [], ◌∷◌, Option, Some, None, slice_get, slice_index_or, map, refl, sym, ap, ◌∙◌, subst, rules}
 use Rattle.std.specs.Option.{option_map, option_and_then}
 use Rattle.std.proofs.lemmas.Option.{slice_get-map}
 use Rattle.cil_base.specs.declared.numbers.AggId.{AggId}
@@ -10,9 +10,8 @@ use Rattle.type_graph.specs.declared.nodes.Node.TheVariants.{Agg}
 use Rattle.type_graph.specs.declared.aggregates.Aggregate.{Aggregate}
 use Rattle.type_graph.specs.declared.aggregates.Member.{Member}
 use Rattle.type_graph.specs.Shapes.{Shape, VoidType, IntType, PtrType, ArrayType, FuncType, AggType, shape, shape_of}
-use Rattle.type_graph.specs.Arena.{Graph, IsArena, EachBelow, members_of, rank, complete}
+use Rattle.type_graph.specs.Arena.{Graph, IsArena, EachBelow, members_of, rank}
 use Rattle.type_graph.specs.Layouts.{layout}
-use Rattle.type_graph.proofs.LayoutLaws.{layout_there}
 use Rattle.layout_lp64.specs.declared.layouts.Layouts.{Layouts}
 use Rattle.layout_lp64.specs.Tables.{found, InStep}
 use Rattle.cil_tree.specs.declared.globals.CilUnit.{CilUnit}
