@@ -110,9 +110,6 @@ parameters_are p is t (u ∷ ts) each =
 pub type_pushed : (o a b : Output) (p : Program) (s : Shape) → a ≡ puts o (before p s) → b ≡ puts a (after p s) → b ≡ puts o (declared p s [])
 type_pushed o a b p s ea eb = simp (eb, ea, puts-puts, declared_is p s [])
 
-pub star_pushed : (o a b : Output) (p : Program) (s t : Shape) (k : Bool) → s ≡ t → a ≡ puts o (before p t) → b ≡ puts a (star t) → b ≡ puts o (before p t ++ star t)
-star_pushed o a b p s t k e ea eb = simp (eb, ea, puts-puts)
-
 -- types behind a comma each
 pub following_from : (o a b : Output) (p : Program) (ts : List TypeId) (i j : ℕ) (d : TypeId) → j ≡ suc i → i < length ts → a ≡ puts o (codes "," ∷ []) → b ≡ puts a (declared p (shape p.graph.nodes (get_or ts i d).0) []) →
     puts b (following (type_parts p (drop j ts))) ≡ puts o (following (type_parts p (drop i ts)))

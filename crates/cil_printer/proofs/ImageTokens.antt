@@ -1,10 +1,10 @@
 -- Device: what is printed of images.
 use Rattle.std.proofs.Common.{◌≡◌, ℕ, zero, suc, ◌<◌, ◌≤◌, true, false, List, [], ◌∷◌, ◌++◌, Option, Some, None, length, get_or, drop, map, codes, decimal, refl, sym, ap, ◌∙◌, append_assoc, append-nil, arith}
 use Rattle.std.specs.Prelude.{ℤ}
-use Rattle.std.specs.Option.{option_map, option_and_then}
+use Rattle.std.specs.Option.{option_and_then}
 use Rattle.cil_base.specs.Integer.{long_of}
 use Rattle.type_graph.specs.declared.aggregates.Member.{Member}
-use Rattle.type_graph.specs.Shapes.{Shape, VoidType, IntType, PtrType, ArrayType, FuncType, AggType, shape}
+use Rattle.type_graph.specs.Shapes.{Shape, VoidType, IntType, PtrType, ArrayType, FuncType, AggType}
 use Rattle.cil_tree.specs.declared.globals.Step.{Step as Move}
 use Rattle.cil_tree.specs.declared.globals.Step.TheVariants as code
 use Rattle.cil_tree.specs.Tree.{ToField, Item, Program}
@@ -46,10 +46,6 @@ member_step o a b p n s m e ea eb = pair_pushed o a b (codes ".") (name_of_membe
     named None = refl
     named (Some t) = refl
 
-pub member_leads : (p : Program) (n : ℕ) (s : Option Shape) (m : Option Member) → m ≡ option_and_then (λ t. member_at p.graph t n) s → option_map (λ (x : Member). shape p.graph.nodes x.ty.of.0) m ≡ path_type p (ToField n ∷ []) s
-member_leads p n None m e = ap (option_map (λ (x : Member). shape p.graph.nodes x.ty.of.0)) e
-member_leads p n (Some s) m e = ap (option_map (λ (x : Member). shape p.graph.nodes x.ty.of.0)) e
-
 -- the steps of a path from one on, as they are printed
 pub record PathFrom (p : Program) (o start : Output) (rest all : List Move) (s of : Option Shape) : Type 0 where
   pub text : puts o (path_tokens p (map step_of rest) s) ≡ puts start (path_tokens p (map step_of all) of)
@@ -88,9 +84,6 @@ past_end (x ∷ xs) (suc i) h = past_end xs i (omega arith)
 
 pub path_text : (p : Program) (o start : Output) (xs : List Move) (i : ℕ) (s of : Option Shape) → length xs ≤ i → PathFrom p o start (drop i xs) xs s of → o ≡ puts start (path_tokens p (map step_of xs) of)
 path_text p o start xs i s of h steps = nothing_pushed o ∙ ap (λ ys. puts o (path_tokens p (map step_of ys) s)) (sym (past_end xs i h)) ∙ steps.text
-
-pub path_leads : (p : Program) (o start : Output) (xs : List Move) (i : ℕ) (s of : Option Shape) → length xs ≤ i → PathFrom p o start (drop i xs) xs s of → s ≡ path_type p (map step_of xs) of
-path_leads p o start xs i s of h steps = ap (λ ys. path_type p (map step_of ys) s) (sym (past_end xs i h)) ∙ steps.leads
 
 pub item_pushed : (o a b c : Output) (p : Program) (s t : Option Shape) (x : Item) → t ≡ path_type p x.path s → a ≡ puts o (path_tokens p x.path s) → b ≡ puts a (codes "=" ∷ []) → c ≡ puts b (constant_tokens p t x.value) → c ≡ puts o (item_tokens p s x)
 item_pushed o a b c p s t x e ea eb ec = simp (ec, eb, ea, puts-puts, append_assoc) (ap (λ u. puts o (path_tokens p x.path s ++ codes "=" ∷ constant_tokens p u x.value)) e)

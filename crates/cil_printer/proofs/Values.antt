@@ -125,9 +125,6 @@ value_points c l h = by (place_type c l) h
     by None h = refl
     by (Some s) h = chosen (is_readable c.program.graph s) s h
 
-pub left_typed : (c : Scope) (op : BinOp) (l r : Exp) → is_some (type_of c (Bin op l r)) ≡ true → is_some (type_of c l) ≡ true
-left_typed c op l r h = some_of (λ s. option_and_then (binary_type c op s) (type_of c r)) (type_of c l) h
-
 pub right_typed : (c : Scope) (op : BinOp) (l r : Exp) → is_some (type_of c (Bin op l r)) ≡ true → is_some (type_of c r) ≡ true
 right_typed c op l r h = by (type_of c l) h
   where
