@@ -37,14 +37,16 @@ enum Word {
     Call,
 }
 
-/// The int of number 3.
+/// The local `x`, an `int`.
 const X: Word = Word::Local(INT, LocalId(3));
 
-/// A struct.
+/// A local of a struct type.
 const RECORD: Word = Word::Local(TypeId(3), LocalId(0));
 
+/// An array.
 const ARRAY: Word = Word::Entity(TypeId(2), EntityId(0));
 
+/// A function.
 const FUNCTION: Word = Word::Entity(TypeId(4), EntityId(1));
 
 const ADD: Word = Word::Bin(BinOp::Add);
@@ -69,7 +71,8 @@ fn on_none(alloc: Global, word: Word) -> Result<TypedExp, Memory> {
     match word {
         Word::Local(of, n) => local(alloc, unqualified(of), n),
         Word::Entity(of, n) => entity(alloc, unqualified(of), n),
-        _ => integer(alloc, INT, 2),
+        Word::Two => integer(alloc, INT, 2),
+        _ => Err(Memory),
     }
 }
 
@@ -80,7 +83,8 @@ fn on_one(alloc: Global, word: Word, stack: &mut Vec<TypedExp>) -> Result<TypedE
         Word::Load => load(alloc, e),
         Word::Decay => decay(alloc, POINTER, e),
         Word::Member => member(alloc, unqualified(INT), e, AggId(0), 1),
-        _ => step(alloc, StepForm::PostIncrement, INT, e),
+        Word::Next => step(alloc, StepForm::PostIncrement, INT, e),
+        _ => Err(Memory),
     }
 }
 
@@ -92,7 +96,8 @@ fn on_two(alloc: Global, word: Word, stack: &mut Vec<TypedExp>) -> Result<TypedE
         Word::Bin(op) => binary(alloc, INT, op, left, right),
         Word::Assign => assign(alloc, left, right),
         Word::Doubled => compute(alloc, BinOp::Mul, INT, left, right),
-        _ => subscript(alloc, unqualified(INT), left, right),
+        Word::Subscript => subscript(alloc, unqualified(INT), left, right),
+        _ => Err(Memory),
     }
 }
 
