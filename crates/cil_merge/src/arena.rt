@@ -12,7 +12,7 @@ use map_graph::map_graph;
 use std::alloc::Global;
 use type_graph::{Aggregate, Member, Members, QualType, TypeGraph};
 use type_iso::{ClassNo, Classes};
-use type_things::impossible;
+use type_things::{impossible, narrow};
 use unit_types::can_complete;
 
 /// The types of a program, and for each unit the numbers that its types have there.
@@ -22,16 +22,6 @@ pub(crate) struct Arena {
     pub(crate) types: Vec<Vec<TypeId>>,
 }
 
-/// The number of a class.
-fn class_number(k: usize) -> Result<u32, Memory>
-    ensures { IfOk result (λ n. n ≡ k) }
-{
-    if k > 4294967295 {
-        return Err(impossible());
-    }
-    Ok(k as u32)
-}
-
 /// The structs, unions and enums that stand for the classes, in their order: each by its unit and its number there.
 #[tactic(auto, using(crate::proofs::ClassLaws::none_stand, crate::proofs::ClassLaws::stand_next))]
 fn representatives(alloc: Global, classes: &Classes) -> Result<Vec<(UnitNo, AggId)>, Memory>
@@ -39,7 +29,7 @@ fn representatives(alloc: Global, classes: &Classes) -> Result<Vec<(UnitNo, AggI
 {
     let mut all = Vec::new(alloc);
     for k in 0..classes.count() {
-        let Some(found) = classes.representative(ClassNo(class_number(k)?)) else {
+        let Some(found) = classes.representative(ClassNo(narrow(k)?)) else {
             return Err(impossible());
         };
         all.push(found)?;
@@ -181,7 +171,7 @@ fn complete_class(
         return Ok(());
     };
     let mapped = mapped_members(alloc, table_of(types, stands.0)?, members.as_slice())?;
-    complete(graph, AggId(class_number(k)?), mapped)?;
+    complete(graph, AggId(narrow(k)?), mapped)?;
     Ok(())
 }
 

@@ -8,7 +8,7 @@ use link_names::{Fronted, unit_at, unit_number};
 use std::alloc::Global;
 use type_graph::{Aggregate, TypeGraph};
 use type_iso::{ClassNo, Classes};
-use type_things::impossible;
+use type_things::{impossible, narrow};
 
 /// An aggregate of a graph.
 fn aggregate_in(g: &TypeGraph, a: AggId) -> Result<&Aggregate, Memory>
@@ -31,10 +31,8 @@ pub(crate) fn aggregate_at(units: &[Fronted], at: (UnitNo, AggId)) -> Result<&Ag
 fn class_number(k: usize) -> Result<ClassNo, Memory>
     ensures { IfOk result (λ n. n.0 ≡ k) }
 {
-    if k > 4294967295 {
-        return Err(impossible());
-    }
-    Ok(ClassNo(k as u32))
+    let number = narrow(k)?;
+    Ok(ClassNo(number))
 }
 
 /// The aggregate that stands for a class.

@@ -58,7 +58,8 @@ pub fn sum(a: u32, b: u32) -> Result<u32, Memory>
 
 /// A place in a list as a number of this size; Memory where it is none.
 pub fn narrow(i: usize) -> Result<u32, Memory>
-    ensures { IfOk result (λ n. n ≡ i) }
+    ensures is { IfOk result (λ n. n ≡ i) }
+    ensures great { OnErr result (4294967295 < i) }
 {
     if i > 4294967295 {
         return Err(impossible());
