@@ -3,7 +3,7 @@ use cil_base::{Constant, NameId, TypeId};
 use type_graph::TypeGraph;
 
 /// A step of a path from an object to a scalar within it.
-#[derive(Clone, Copy, Debug)]
+#[derive(Clone, Copy)]
 pub enum Step {
     /// A member, by its place in its struct or union.
     Field(u32),
