@@ -1,5 +1,5 @@
 -- Device: steps of the loops over locals and parameters.
-use Rattle.std.proofs.Common.{◌≡◌, ℕ, zero, suc, ◌<◌, ◌≤◌, Bool, true, false, ◌&&◌, nat_eq, List, [], ◌∷◌, length, drop, map, get_or, refl, sym, ap, ◌∙◌, arith}
+use Rattle.std.proofs.Common.{◌≡◌, ℕ, zero, suc, ◌+◌, ◌<◌, ◌≤◌, Bool, true, false, ◌&&◌, nat_eq, List, [], ◌∷◌, length, drop, map, get_or, refl, sym, ap, ◌∙◌, subst, arith}
 use Rattle.std.specs.List.{list_all}
 use Rattle.std.specs.Str.{bytes_eq}
 use Rattle.cil_base.specs.declared.numbers.NameId.{NameId}
@@ -79,3 +79,12 @@ failed w a p r h e f = sym (sym h ∙ e ∙ ap (λ b. b && r) f)
 
 pub passed : (w a p r : Bool) → a ≡ w → a ≡ p && r → p ≡ true → r ≡ w
 passed w a p r h e f = sym (e ∙ ap (λ b. b && r) f) ∙ h
+
+-- the same for a test of the element that was read
+pub failed_at : {A : Type 0} (from : ℕ → Bool) (of : A → Bool) (x y : A) (i : ℕ) (r : Bool) → from i ≡ from 0 → x ≡ y → from i ≡ of y && from (suc i) → r ≡ of x → r ≡ false → false ≡ from 0
+failed_at from of x y i r h same e is fails = failed (from 0) (from i) (of y) (from (suc i)) h e (sym (is ∙ ap of same) ∙ fails)
+
+pub passed_at : {A : Type 0} (from : ℕ → Bool) (of : A → Bool) (x y : A) (i : ℕ) (r : Bool) → from i ≡ from 0 → x ≡ y → from i ≡ of y && from (suc i) → r ≡ of x → r ≡ true → from (i + 1) ≡ from 0
+passed_at from of x y i r h same e is holds =
+    let next : suc i ≡ i + 1 = omega arith in
+    subst (λ (k : ℕ). from k ≡ from 0) next (passed (from 0) (from i) (of y) (from (suc i)) h e (sym (is ∙ ap of same) ∙ holds))

@@ -32,6 +32,13 @@ part_next c nodes (x ∷ os) zero o s h e = by x o (sym e)
         at (Index' p index) = then_then (element_type s) (part_type c (offsets_of nodes os)) (type_of c (exp_of nodes index))
 part_next c nodes (x ∷ os) (suc i) o s h e = part_next c nodes os i o s (omega arith) e
 
+-- a type that is found by way of another, and that is missing with it
+pub then_some : (f : Shape → Option Shape) (p q : Option Shape) (s : Shape) (r : Option Shape) → q ≡ option_and_then f p → Some s ≡ p → r ≡ f s → r ≡ q
+then_some f p q s r is there found = found ∙ ap (option_and_then f) there ∙ sym is
+
+pub then_none : (f : Shape → Option Shape) (p q : Option Shape) → q ≡ option_and_then f p → None ≡ p → None ≡ q
+then_none f p q is missing = ap (option_and_then f) missing ∙ sym is
+
 -- a member that was found is there
 pub member_at : (n : ℕ) (ms : List Member) (i : ℕ) (m : Member) → AreThere n ms → i < length ms → m ≡ get_or ms i m → m.ty.of.0 < n
 member_at n ms i m e h is = let there : (get_or ms i m).ty.of.0 < n = member_there n ms i m e h in let same : m.ty.of.0 ≡ (get_or ms i m).ty.of.0 = ap (λ (y : Member). y.ty.of.0) is in omega (arith, there, same)

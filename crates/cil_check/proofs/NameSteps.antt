@@ -69,6 +69,11 @@ void_is (AggType a) = refl
 grown : {A : Type 0} (new ids own rest whole all : List A) → new ≡ ids ++ own → whole ≡ own ++ rest → ids ++ whole ≡ all → new ++ rest ≡ all
 grown new ids own rest whole all e w h = ap (λ z. z ++ rest) e ∙ append_assoc ids own rest ∙ ap (λ z. ids ++ z) (sym w) ∙ h
 
+pub ids_grow : {A B : Type 0} (see : A → B) (xs : List A) (i : ℕ) (d : A) (new ids all : List B) → i < length xs → new ≡ ids ++ see (get_or xs i d) ∷ [] → ids ++ map see (drop i xs) ≡ all → new ++ map see (drop (i + 1) xs) ≡ all
+ids_grow see xs i d new ids all here e h =
+    let next : suc i ≡ i + 1 = omega arith in
+    subst (λ k. new ++ map see (drop k xs) ≡ all) next (grown new ids (see (get_or xs i d) ∷ []) (map see (drop (suc i) xs)) (map see (drop i xs)) all e (ids_from see xs i d here) h)
+
 pub enumerators_grow : (xs : List Aggregate) (i : ℕ) (x : Aggregate) (new ids all : List NameId) → slice_get xs i ≡ Some x → new ≡ ids ++ enumerator_ids_of x → ids ++ enumerator_ids (drop i xs) ≡ all → new ++ enumerator_ids (drop (i + 1) xs) ≡ all
 enumerators_grow xs i x new ids all f e h =
     let next : suc i ≡ i + 1 = omega arith in

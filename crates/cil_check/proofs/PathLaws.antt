@@ -131,3 +131,10 @@ past (x ∷ xs) (suc i) h = past xs i (omega arith)
 -- a path that has ended agrees
 pub agree_short : (g : Graph) (s : Shape) (xs ys : List Step) (i : ℕ) → length ys ≤ i → agree g s (map step_of (drop i xs)) (map step_of (drop i ys)) ≡ true
 agree_short g s xs ys i h = ap (λ zs. agree g s (map step_of (drop i xs)) (map step_of zs)) (past ys i h) ∙ agree_none g s (map step_of (drop i xs))
+
+-- what a loop over two paths knows of the whole, where the steps are not one and where they are
+pub agree_apart : (w a s b u n r : Bool) → a ≡ w → a ≡ (if s then n else (not b || not u)) → s ≡ false → r ≡ not b || not u → r ≡ w
+agree_apart w a s b u n r h e apart is = is ∙ sym (e ∙ ap (λ x. if x then n else (not b || not u)) apart) ∙ h
+
+pub agree_along : (w a s b u n : Bool) → a ≡ w → a ≡ (if s then n else (not b || not u)) → s ≡ true → n ≡ w
+agree_along w a s b u n h e same = sym (e ∙ ap (λ x. if x then n else (not b || not u)) same) ∙ h

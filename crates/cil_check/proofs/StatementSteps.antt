@@ -1,5 +1,5 @@
 -- Device: steps of the walks over statements.
-use Rattle.std.proofs.Common.{◌≡◌, ℕ, zero, suc, ◌<◌, Bool, true, false, ◌&&◌, Option, List, [], ◌∷◌, ◌++◌, length, drop, get_or, ℤ, refl, sym, ap, ◌∙◌, arith, append_assoc, Result, Ok, Err, OnOk, IfOk}
+use Rattle.std.proofs.Common.{◌≡◌, ℕ, zero, suc, ◌+◌, ◌<◌, Bool, true, false, ◌&&◌, Option, List, [], ◌∷◌, ◌++◌, length, drop, get_or, ℤ, refl, sym, ap, ◌∙◌, subst, arith, append_assoc, Result, Ok, Err, OnOk, IfOk}
 use Rattle.type_graph.specs.declared.nodes.Node.{Node}
 use Rattle.cil_tree.specs.declared.statements.Stmt.{Stmt}
 use Rattle.cil_base.specs.declared.kinds.IntKind.{IntKind}
@@ -21,6 +21,19 @@ pub once_from : (seen : List ℤ) (default : Bool) (ms : List (Option ℤ)) (i :
 once_from seen default [] i d h = absurd (omega arith)
 once_from seen default (m ∷ ms) zero d h = refl
 once_from seen default (m ∷ ms) (suc i) d h = once_from seen default ms i d (omega arith)
+
+-- where this mark is not the first, and where it is
+pub once_fails : (seen : List ℤ) (default w r : Bool) (ms : List (Option ℤ)) (i : ℕ) (d : Option ℤ) → i < length ms → once seen default (drop i ms) ≡ w → r ≡ is_first seen default (get_or ms i d) → r ≡ false → false ≡ w
+once_fails seen default w r ms i d here h first fails =
+    sym (sym h ∙ once_from seen default ms i d here ∙ ap (λ b. b && once (seen_with seen (get_or ms i d)) (default_with default (get_or ms i d)) (drop (suc i) ms)) (sym first ∙ fails))
+
+pub once_passes : (seen new : List ℤ) (default also w r : Bool) (ms : List (Option ℤ)) (i : ℕ) (d : Option ℤ) → i < length ms → once seen default (drop i ms) ≡ w → r ≡ is_first seen default (get_or ms i d) → r ≡ true →
+    new ≡ seen_with seen (get_or ms i d) → also ≡ default_with default (get_or ms i d) → once new also (drop (i + 1) ms) ≡ w
+once_passes seen new default also w r ms i d here h first holds values noted =
+    let next : suc i ≡ i + 1 = omega arith in
+    subst (λ (k : ℕ). once new also (drop k ms) ≡ w) next
+    (ap (λ s. once s also (drop (suc i) ms)) values ∙ ap (λ b. once (seen_with seen (get_or ms i d)) b (drop (suc i) ms)) noted
+    ∙ sym (once_from seen default ms i d here ∙ ap (λ b. b && once (seen_with seen (get_or ms i d)) (default_with default (get_or ms i d)) (drop (suc i) ms)) (sym first ∙ holds)) ∙ h)
 
 -- what two parts have, added one after the other
 pub both_added : {A T E : Type 0} (r : Result T E) (old mid new hs fs all : List A) → mid ≡ old ++ hs → all ≡ hs ++ fs → OnOk r (new ≡ mid ++ fs) → OnOk r (new ≡ old ++ all)

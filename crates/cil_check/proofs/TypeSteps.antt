@@ -1,5 +1,6 @@
 -- Device: steps of the loops over types.
-use Rattle.std.proofs.Common.{◌≡◌, ℕ, zero, suc, ◌+◌, ◌<◌, ◌≤◌, Bool, true, false, ◌&&◌, List, [], ◌∷◌, length, drop, slice_get, get_or, Some, None, refl, sym, ap, ◌∙◌, subst, arith, not, eqb, ◌⊎◌, inl, inr}
+use Rattle.std.proofs.Common.{◌≡◌, ℕ, zero, suc, ◌+◌, ◌-◌, ◌<◌, ◌≤◌, Bool, true, false, ◌&&◌, List, [], ◌∷◌, length, length-drop, take, drop, slice_get, get_or, Some, None, refl, sym, ap, ◌∙◌, subst, arith, not, eqb, ◌⊎◌, inl, inr}
+use Rattle.std.proofs.lemmas.List.{take_all}
 use Rattle.cil_base.specs.declared.numbers.TypeId.{TypeId}
 use Rattle.type_graph.specs.declared.nodes.Node.{Node}
 use Rattle.type_graph.specs.declared.nodes.Node.TheVariants.{Void, Int, Ptr, Array, Func, Agg}
@@ -78,3 +79,7 @@ fit_from g kind behind [] i d h = absurd (omega arith)
 fit_from g kind behind (m ∷ []) zero d h = refl
 fit_from g kind behind (m ∷ n ∷ ms) zero d h = refl
 fit_from g kind behind (m ∷ ms) (suc i) d h = fit_from g kind behind ms i d (omega arith)
+
+-- the slice from a place on is what is behind it
+pub slice_from : {A : Type 0} (xs : List A) (n m : ℕ) → n ≡ m → take (length xs - n) (drop n xs) ≡ drop m xs
+slice_from xs n m same = take_all (length xs - n) (drop n xs) (omega (arith, length-drop n xs)) ∙ ap (λ k. drop k xs) same

@@ -117,7 +117,6 @@ fn may_stand(
 }
 
 /// Whether a flexible array stands only as a struct's last member behind another (C11 6.7.2.1p3, p18).
-#[tactic(auto, using(crate::proofs::TypeSteps::fit_from, crate::proofs::TypeSteps::member_there))]
 fn flexible_is_last(g: &TypeGraph, tops: &[Tops], kind: AggKind, members: &[Member]) -> bool
     requires table { AreTops tops.now g.now }
     requires whole { length tops.now ≡ length g.now.nodes }

@@ -106,7 +106,6 @@ fn top_of(g: &TypeGraph, tops: &[Tops], n: &Node) -> Tops
 }
 
 /// The entries of all types.
-#[tactic(auto, using(crate::proofs::ElementTable::tops_pushed))]
 pub(crate) fn element_tops(alloc: Global, g: &TypeGraph) -> Result<Vec<Tops>, Memory>
     ensures { IfOk result (λ tops. AreTops tops.items g.now × (length tops.items ≡ length g.now.nodes)) }
 {

@@ -15,7 +15,6 @@ use type_graph::TypeGraph;
 
 /// The type of an expression; none where it is ill-typed.
 #[cycle(typing)]
-#[tactic(auto, using(cil_tree::proofs::Views::at_value, cil_tree::proofs::Views::at_address, cil_tree::proofs::Views::at_start))]
 pub(crate) fn type_of(s: &Scope, e: &Exp) -> Option<Seen>
     ensures told { told s.now.unit.now.graph result ≡ type_of (seen_scope s.now) (exp_of s.now.unit.now.graph.nodes e.now) }
     ensures there { IfSome result (IsThere s.now.unit.now.graph) }
@@ -34,7 +33,6 @@ pub(crate) fn type_of(s: &Scope, e: &Exp) -> Option<Seen>
 
 /// The type of a place; none where it is ill-typed.
 #[cycle(typing)]
-#[tactic(auto, using(crate::proofs::ExpressionSteps::part_next))]
 pub(crate) fn place_type(s: &Scope, place: &Lval) -> Option<TypeId>
     ensures told { at s.now.unit.now.graph result ≡ place_type (seen_scope s.now) (lval_of s.now.unit.now.graph.nodes place.now) }
     ensures there { IfSome result (λ t. t.0 < length s.now.unit.now.graph.nodes) }

@@ -88,7 +88,6 @@ fn may_follow(s: &Scope, more: bool, e: &Exp) -> bool
 }
 
 /// Whether the arguments past the parameters fit: there may be more, and each has a promoted type (C11 6.5.2.2p6, p7).
-#[tactic(auto, using(crate::proofs::CallSteps::rest_from))]
 fn rest_fits(s: &Scope, more: bool, arguments: &[Exp]) -> bool
     ensures { result ≡ arguments_fit (seen_scope s.now) NoTypes more (map (exp_of s.now.unit.now.graph.nodes) arguments.now) }
 {
@@ -102,7 +101,6 @@ fn rest_fits(s: &Scope, more: bool, arguments: &[Exp]) -> bool
 
 /// Whether the arguments have exactly the parameters' types, in their number, and those past them promoted ones where
 /// there may be more (C11 6.5.2.2p2, p6, p7).
-#[tactic(auto, using(crate::proofs::CallSteps::argument_next, crate::proofs::CallSteps::argument_missing, crate::proofs::CallSteps::past_parameters, crate::proofs::TypeSteps::type_at))]
 fn arguments_fit(s: &Scope, params: &[TypeId], more: bool, arguments: &[Exp]) -> bool
     requires { EachType (length s.now.unit.now.graph.nodes) params.now }
     ensures { result ≡ arguments_fit (seen_scope s.now) (shapes_of (shape s.now.unit.now.graph.nodes) params.now) more (map (exp_of s.now.unit.now.graph.nodes) arguments.now) }

@@ -25,7 +25,6 @@ use type_graph::{AggKind, Aggregate, Member, Node, Quals, TypeGraph};
 /// Adds the names of members.
 ///
 /// After Memory some of them are added.
-#[tactic(auto, using(crate::proofs::NameSteps::ids_from))]
 fn add_member_names(members: &[Member], ids: &mut Vec<NameId>) -> Result<(), Memory>
     ensures { OnOk result (ids.new.items ≡ ids.old.items ++ map member_id members.now) }
 {
@@ -415,7 +414,6 @@ fn is_in_file(u: &CilUnit, names: &NamePool, file: &IndexSet<u32>, name: NameId)
 /// Adds the names of locals.
 ///
 /// After Memory some of them are added.
-#[tactic(auto, using(crate::proofs::NameSteps::ids_from))]
 fn add_locals(locals: &[Local], ids: &mut Vec<NameId>) -> Result<(), Memory>
     ensures { OnOk result (ids.new.items ≡ ids.old.items ++ map local_id locals.now) }
 {

@@ -58,7 +58,6 @@ fn is_parameter(g: &TypeGraph, t: TypeId) -> bool
 }
 
 /// Whether a function may take each of the types.
-#[tactic(auto, using(crate::proofs::TypeSteps::parameters_from, crate::proofs::TypeSteps::type_at))]
 fn are_parameters(g: &TypeGraph, params: &[TypeId]) -> bool
     requires { EachType (length g.now.nodes) params.now }
     ensures { result ≡ are_parameters (shapes_of (shape g.now.nodes) params.now) }

@@ -51,7 +51,6 @@ fn scaled(index: u64, size: u32) -> u128
 }
 
 /// An element of an array, whose index is below the array's known bound.
-#[tactic(auto, using(crate::proofs::PathLaws::element_low, crate::proofs::PathLaws::element_there, crate::proofs::PathLaws::element_none))]
 fn element_part(g: &TypeGraph, l: &Layouts, whole: Subobject, index: u64) -> Option<Subobject>
     requires step { InStep l.now g.now }
     requires there { whole.ty.0 < length g.now.nodes }
@@ -179,7 +178,6 @@ fn type_after_step(g: &TypeGraph, t: TypeId, step: Step) -> Option<TypeId>
 }
 
 /// Whether two paths from an object of a type do not part at a union.
-#[tactic(auto, using(crate::proofs::PathLaws::agree_next, crate::proofs::PathLaws::agree_short))]
 pub(crate) fn agree(g: &TypeGraph, t: TypeId, path: &[Step], other: &[Step]) -> bool
     requires { t.0 < length g.now.nodes }
     ensures { result ≡ agree g.now (shape g.now.nodes t.0) (map step_of path.now) (map step_of other.now) }

@@ -79,7 +79,6 @@ impl Marked {
 }
 
 /// Whether no value stands twice, and at most one default label.
-#[tactic(auto, using(crate::proofs::StatementSteps::once_from))]
 fn are_once(alloc: Global, marks: &[Option<i128>]) -> Result<bool, Memory>
     ensures { IfOk result (λ b. b ≡ once [] false marks.now) }
 {
