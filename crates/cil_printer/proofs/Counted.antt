@@ -48,23 +48,23 @@ bytes_written o n bytes h fits e = e ∙ put_written n [] bytes h ∙ ap (λ k. 
     same : n - 0 ≡ n
     same = omega arith
 
-text_held : (o a : Output) (n : ℕ) (p : Program) → n ≡ capped (length (Text p)) → n ≤ 268435456 → a ≡ Written n [] → o ≡ prints a 0 (program_lines p) → o ≡ Written n (Text p)
+text_held : (o a : Output) (n : ℕ) (p : Program) → n ≡ capped (length (Text p)) → n ≤ text_limit → a ≡ Written n [] → o ≡ prints a 0 (program_lines p) → o ≡ Written n (Text p)
 unfolding prints
 text_held o a n p e h k f = bytes_written o n (Text p) (omega (arith, h)) (omega (arith, e, h)) (f ∙ ap (λ y. put y (Text p)) k)
 
-pub text_kept : (o a : Output) (n : ℕ) (p : Program) → n ≡ capped (length (Text p)) → n ≤ 268435456 → a ≡ Written n [] → o ≡ prints a 0 (program_lines p) → counts o ≡ false
+pub text_kept : (o a : Output) (n : ℕ) (p : Program) → n ≡ capped (length (Text p)) → n ≤ text_limit → a ≡ Written n [] → o ≡ prints a 0 (program_lines p) → counts o ≡ false
 text_kept o a n p e h k f = ap counts (text_held o a n p e h k f)
 
-pub text_written : (o a : Output) (n : ℕ) (p : Program) → n ≡ capped (length (Text p)) → n ≤ 268435456 → a ≡ Written n [] → o ≡ prints a 0 (program_lines p) → text_of o ≡ Text p
+pub text_written : (o a : Output) (n : ℕ) (p : Program) → n ≡ capped (length (Text p)) → n ≤ text_limit → a ≡ Written n [] → o ≡ prints a 0 (program_lines p) → text_of o ≡ Text p
 text_written o a n p e h k f = ap text_of (text_held o a n p e h k f)
 
-pub is_text : (n : ℕ) (bytes : List ℕ) (p : Program) → IsProgram p → n ≡ capped (length (Text p)) → n ≤ 268435456 → bytes ≡ Text p → IsTextOf bytes p
+pub is_text : (n : ℕ) (bytes : List ℕ) (p : Program) → IsProgram p → n ≡ capped (length (Text p)) → n ≤ text_limit → bytes ≡ Text p → IsTextOf bytes p
 is_text n bytes p is e h same = record { program = is; text = same; short = short (ap length same) }
   where
     short : length bytes ≡ length (Text p) → length bytes ≤ text_limit
     short k = omega (arith, e, h, k)
 
-pub is_long : (n : ℕ) (p : Program) → n ≡ capped (length (Text p)) → 268435456 < n → text_limit < length (Text p)
+pub is_long : (n : ℕ) (p : Program) → n ≡ capped (length (Text p)) → text_limit < n → text_limit < length (Text p)
 is_long n p e h = omega (arith, e, h)
 
 pub none_too_big : (g : Graph) (t : ℕ) → TypesAreSmall g → IsLeastTooBig g t → ⊥

@@ -5,18 +5,10 @@ use Rattle.cil_tree.specs.Lines.{Token}
 use Rattle.cil_tree.specs.Declarators.{in_parentheses}
 use Rattle.cil_printer.specs.Output.{Output, Counted, Written, put, puts, capped}
 use Rattle.cil_printer.specs.Spaced.{spaced}
-use Rattle.cil_printer.proofs.Rooms.{taken_twice, taken_blanks}
+use Rattle.cil_printer.proofs.Rooms.{kept_twice, taken_blanks}
 
 capped_twice : (a m n : ℕ) → capped (capped (a + m) + n) ≡ capped (a + (m + n))
 capped_twice a m n = omega arith
-
-pub kept_twice : (k : ℕ) (text xs ys : List ℕ) → (text ++ take (k - length text) xs) ++ take (k - length (text ++ take (k - length text) xs)) ys ≡ text ++ take (k - length text) (xs ++ ys)
-kept_twice k text xs ys =
-    append_assoc text (take (k - length text) xs) (take (k - length (text ++ take (k - length text) xs)) ys)
-    ∙ ap (λ t. text ++ t) (ap (λ n. take (k - length text) xs ++ take n ys) left ∙ taken_twice (k - length text) xs ys)
-  where
-    left : k - length (text ++ take (k - length text) xs) ≡ (k - length text) - length (take (k - length text) xs)
-    left = omega (arith, length-append text (take (k - length text) xs))
 
 pub put-put : (o : Output) (xs ys : List ℕ) → put (put o xs) ys ≡ put o (xs ++ ys)
 unfolding put

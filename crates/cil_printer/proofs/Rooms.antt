@@ -23,6 +23,14 @@ taken_twice (suc n) (x ∷ xs) ys = ap (λ t. x ∷ t) (ap (λ k. take n xs ++ t
     less : suc n - suc (length (take n xs)) ≡ n - length (take n xs)
     less = omega arith
 
+pub kept_twice : (k : ℕ) (text xs ys : List ℕ) → (text ++ take (k - length text) xs) ++ take (k - length (text ++ take (k - length text) xs)) ys ≡ text ++ take (k - length text) (xs ++ ys)
+kept_twice k text xs ys =
+    append_assoc text (take (k - length text) xs) (take (k - length (text ++ take (k - length text) xs)) ys)
+    ∙ ap (λ t. text ++ t) (ap (λ n. take (k - length text) xs ++ take n ys) left ∙ taken_twice (k - length text) xs ys)
+  where
+    left : k - length (text ++ take (k - length text) xs) ≡ (k - length text) - length (take (k - length text) xs)
+    left = omega (arith, length-append text (take (k - length text) xs))
+
 -- where so many blanks follow that there is no room for more
 pub taken_blanks : (n j k : ℕ) (xs ys : List ℕ) → n ≤ j → n ≤ k → take n (replicate j 32 ++ xs) ≡ take n (replicate k 32 ++ ys)
 taken_blanks zero j k xs ys h g = refl

@@ -46,10 +46,6 @@ all_get f [] n x e h = absurd (cc h)
 all_get f (y ∷ xs) zero x e h = let same : y ≡ x = cc in ap f (sym same) ∙ both_left (f y) (list_all f xs) e
 all_get f (y ∷ xs) (suc n) x e h = all_get f xs n x (both_right (f y) (list_all f xs) e) h
 
-names_plain : (ts : List Token) → list_all is_plain_name ts ≡ true → are_plain ts ≡ true
-names_plain [] e = refl
-names_plain (t ∷ ts) e = plain_cons t ts (plain_name_plain t (both_left (is_plain_name t) (list_all is_plain_name ts) e)) (names_plain ts (both_right (is_plain_name t) (list_all is_plain_name ts) e))
-
 at_plain : (ts : List Token) (n : ℕ) → list_all is_plain_name ts ≡ true → is_plain (slice_index_or ts n []) ≡ true
 at_plain [] n e = refl
 at_plain (t ∷ ts) zero e = plain_name_plain t (both_left (is_plain_name t) (list_all is_plain_name ts) e)

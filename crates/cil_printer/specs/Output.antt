@@ -13,7 +13,7 @@ pub data Output : Type 0 where
 abbrev pub capped : ℕ → ℕ
 capped n = min n (2 ^ 64 - 1)
 
--- bytes more
+-- bytes more; a room is a number of 64 bits
 unfoldable pub put : Output → List ℕ → Output
 put o [] = o
 put (Counted n) (b ∷ bytes) = Counted (capped (n + length (b ∷ bytes)))

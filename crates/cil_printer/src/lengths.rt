@@ -73,7 +73,6 @@ fn next_sides(
 
 /// The lengths of the declarations of all types, each from those of the types that it names. So a text's length is
 /// known from as many additions as there are tokens in its tree, however long the declarators would be.
-#[tactic(auto, using(crate::proofs::Counted::no_sides, crate::proofs::Counted::sides_more))]
 pub(crate) fn all_sides(
     unit: &CilUnit,
     names: &NamePool,

@@ -35,7 +35,7 @@ impl Page {
     }
 
     /// Appends bytes and one more, as many of them as there is room for.
-    #[tactic(auto, using(crate::proofs::Puts::kept_twice))]
+    #[tactic(auto, using(crate::proofs::Rooms::kept_twice))]
     pub(crate) fn append_ended(&mut self, more: &[u8], last: u8)
         ensures bytes { self.new.bytes.items ≡ self.old.bytes.items ++ take (self.old.room - length self.old.bytes.items) (more.now ++ last ∷ []) }
         ensures room { self.new.room ≡ self.old.room }

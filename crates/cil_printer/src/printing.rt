@@ -3,7 +3,7 @@ ghost use Rattle.layout_lp64.specs.Tables.{InStep};
 ghost use Rattle.cil_tree.specs.View.{program_of};
 ghost use Rattle.cil_tree.specs.WellFormedTypes.{TypesAreSmall};
 ghost use Rattle.cil_tree.specs.Text.{Text};
-ghost use Rattle.cil_tree.specs.Programs.{IsProgram, IsTextOf};
+ghost use Rattle.cil_tree.specs.Programs.{IsProgram, IsTextOf, text_limit};
 ghost use Rattle.cil_printer.specs.Output.{capped};
 ghost use Rattle.cil_printer.specs.Seen.{tree_of};
 ghost use Rattle.cil_printer.specs.Stops.{StopsAt};
@@ -82,7 +82,7 @@ impl<'a> Program<'a> {
     fn text(&self, length: u64) -> Result<Bytes, Memory>
         requires program { IsProgram (tree_of self.now) }
         requires counted { length ≡ capped (length_of (Text (tree_of self.now))) }
-        requires short { length ≤ 268435456 }
+        requires short { length ≤ text_limit }
         ensures { IfOk result (λ b. b ≡ Text (tree_of self.now)) }
     {
         let mut out = Sink::keeping(self.graph().alloc(), length as usize)?;

@@ -14,8 +14,8 @@ enum Kept {
     Text(Page),
 }
 
-/// Where a text goes: its bytes are counted or kept. No call fails: the room of what is kept is taken when the sink is
-/// made, and what would not fit is left out.
+/// Where a text goes: its bytes are counted or kept. Nothing that appends fails: the room of what is kept is
+/// taken when the sink is made, and what would not fit is left out.
 #[derive(Drop)]
 pub(crate) struct Sink {
     kept: Kept,
