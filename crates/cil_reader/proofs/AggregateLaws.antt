@@ -255,9 +255,6 @@ members_seen : (g : Graph) (names : List (List ℕ)) (ms : List Member) → map 
 unfolding members_in
 members_seen g names ms = refl
 
-abbrev ends_with : Graph → List (List ℕ) → List Member → Bool
-ends_with g names ms = reading.is_last (map (seen_member (program_with g names)) ms)
-
 alike_fit : (g : Graph) (names : List (List ℕ)) (xs : List SeenAggregate) → ((b : ℕ) → is_some (members_of g.aggs b) ≡ is_some (members_among xs b)) → (kind : AggKind) (behind : Bool) (ms : List Member) →
     members_fit g kind behind ms ≡ can_hold xs kind behind (map (seen_member (program_with g names)) ms)
 alike_fit g names xs e kind behind [] = refl

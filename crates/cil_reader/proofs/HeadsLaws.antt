@@ -115,8 +115,6 @@ simple_label env labels n ws e = ap (λ v. cond v (labelled labels Label (label_
 pub simple_instr : (env : Env) (labels : List (List ℕ)) (n : ℕ) (ws : List Word) → is_label ws ≡ false → read_simple env labels n ws ≡ option_map (λ (i : Instr). Whole (Do i)) (read_instr env n ws)
 simple_instr env labels n ws e = ap (λ v. cond v (labelled labels Label (label_text ws)) (option_map (λ (i : Instr). Whole (Do i)) (read_instr env n ws))) e
 
--- lines that begin with `}`
-
 -- what is known of lines
 
 pub known_tested : (g : Graph) (env : Env) (x : Box SeenExp Global) (t : Option TypeId) → ExpKnown g env x.value t → HeadKnown g (seen.Tested x)

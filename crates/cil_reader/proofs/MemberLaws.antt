@@ -61,9 +61,6 @@ there_later g h ms r e = by ms e
     by [] b = tt
     by (x ∷ xs) b = (omega (arith, b.0, no_fewer g h r), by xs b.1)
 
-pub no_types : (n : ℕ) → EachType n []
-no_types n = tt
-
 pub each_there : (n : ℕ) (ts : List TypeId) (t : TypeId) → EachType n ts → t.0 < n → EachType n (ts ++ t ∷ [])
 each_there n [] t e h = (h, tt)
 each_there n (x ∷ ts) t e h = (e.0, each_there n ts t e.1 h)

@@ -148,9 +148,6 @@ offsets_over env exp k l s ws whole e inv = sym inv ∙ ap (λ j. offsets_left e
 
 -- elements
 
-abbrev pub element_read : Lval → Option Shape → Reading Exp → Reading Part
-element_read l s o = option_map (to_element l s) (option_and_then (λ (r : Exp × List Word). in_brackets r.0 r.1) o)
-
 brackets_are : (x : Exp) (ws : List Word) → in_brackets x ws ≡ option_map (λ (vs : List Word). (x, vs)) (bracketed ws)
 brackets_are x (RightBracket ∷ ws) = refl
 brackets_are x _ = refl
