@@ -1,6 +1,6 @@
 ghost use Rattle.std.specs.Prelude.{◌≡◌, ◌≤◌, ◌<◌, ◌+◌, ◌^◌, [], true, length, replicate, take, slice_get, slice_index_or, slice_set, None, IfOk, OnOk, IsTrue, vec_len};
 ghost use Rattle.std.specs.Vec.{vec_capacity};
-ghost use Rattle.byte_mem.specs.Contents.{seen, is_covered, byte_of, grown, cell_of, is_plain, known_in, is_part};
+ghost use Rattle.byte_mem.specs.Contents.{seen, byte_of, grown, cell_of, is_plain, known_in, is_part};
 ghost use Rattle.byte_mem.specs.Places.{Extended};
 
 use crate::pointers::{Pointer, is_same_pointer};

@@ -1,4 +1,4 @@
-ghost use Rattle.std.specs.Prelude.{◌≡◌, ◌≢◌, ◌<◌, ◌≤◌, ◌+◌, ◌↔◌, ℕ, [], None, Some, length, IsTrue, MatchOption, OnOk};
+ghost use Rattle.std.specs.Prelude.{◌≡◌, ◌<◌, ◌≤◌, ◌+◌, ◌↔◌, ℕ, [], None, Some, length, IsTrue, MatchOption};
 ghost use Rattle.byte_mem.specs.Change.{changed_live, stored_live};
 ghost use Rattle.byte_mem.specs.Layers.{local, number_at, slots_at, IsFrame, IsAbsent, IsRising, LocalChanges, LocalPut, IsLocalPut};
 ghost use Rattle.byte_mem.specs.Places.{begun};

@@ -1,8 +1,8 @@
 ghost use Rattle.std.specs.Prelude.{◌≡◌, ◌≤◌, ◌+◌, ◌<◌, ◌^◌, length, replicate, IfSome, IfOk, option_map, ◌%◌, nat_eq};
-ghost use Rattle.byte_mem.specs.Object.{inside, aligned, part_at, load_held, load_part, store_held, store_part, fill_part, protect_held};
+ghost use Rattle.byte_mem.specs.Object.{inside, aligned, load_held, load_part, store_held, store_part, fill_part};
 ghost use Rattle.byte_mem.specs.Change.{changed_held};
 ghost use Rattle.byte_mem.specs.Scalar.{IsSize};
-ghost use Rattle.byte_mem.specs.Places.{held_of, IsWithin, PlaceChanges, Extended, begun};
+ghost use Rattle.byte_mem.specs.Places.{held_of, IsWithin, PlaceChanges, Extended};
 
 use crate::contents::Contents;
 use crate::pointers::Pointer;

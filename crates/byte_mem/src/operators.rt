@@ -1,9 +1,8 @@
-ghost use Rattle.std.specs.Prelude.{◌≡◌, ◌<◌, ◌≤◌, ◌^◌, ℕ, true, false, pos, neg_ℤ, ◌*ℤ◌, ◌+ℤ◌, ◌-ℤ◌, int_div, int_rem, unsigned_abs, option_map};
+ghost use Rattle.std.specs.Prelude.{◌≡◌, ◌<◌, ◌≤◌, ◌^◌, true, false, pos, neg_ℤ, ◌*ℤ◌, ◌-ℤ◌, int_div, int_rem, unsigned_abs, option_map};
 ghost use Rattle.std.specs.Option.{ForSome};
 ghost use Rattle.std.specs.Ordering.{int_eq};
 ghost use Rattle.cil_base.specs.Integer.{IsOf};
 ghost use Rattle.cil_base.specs.Arithmetic.{is_shift};
-ghost use Rattle.byte_mem.specs.Name.{same_name};
 ghost use Rattle.byte_mem.specs.Operator.{is_boolean_scalar, converted, converted_pointer, converted_part, number_in, pointer_in, place_of, in_reach, reached, truth, is_past_end, equal_pointers, equal_null, equal, IsIndex, offsets_in, offsets, compared, further_pointer, further, pointer_sum, pointer_less, distance, pointer_difference, member_place, element_place, computed, unary};
 ghost use Rattle.byte_mem.specs.Store.{memory};
 

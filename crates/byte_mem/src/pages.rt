@@ -1,4 +1,4 @@
-ghost use Rattle.std.specs.Prelude.{◌≡◌, ◌<◌, ◌≤◌, ◌↔◌, ℕ, None, Some, [], length, OnOk, IsTrue, vec_len, slice_index_or};
+ghost use Rattle.std.specs.Prelude.{◌≡◌, ◌<◌, ◌≤◌, ◌↔◌, ℕ, None, Some, [], length, OnOk, IsTrue, vec_len};
 ghost use Rattle.byte_mem.specs.Change.{changed_live, stored_live};
 ghost use Rattle.byte_mem.specs.Layers.{paged, page_at, IsPut, PagedChanges, PagedPut, IsPagedPut};
 ghost use Rattle.byte_mem.specs.Places.{begun};

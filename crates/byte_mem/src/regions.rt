@@ -1,4 +1,4 @@
-ghost use Rattle.std.specs.Prelude.{◌≡◌, ◌≤◌, ◌+◌, ◌<◌, ◌^◌, ℕ, [], length, take, max, IfOk, IfSome, OnOk, IsTrue, nat_eq, nat_le, if◌then◌else◌};
+ghost use Rattle.std.specs.Prelude.{◌≡◌, ◌≤◌, ◌+◌, ◌<◌, ◌^◌, [], length, take, max, IfOk, IfSome, OnOk, IsTrue, nat_eq, nat_le, if◌then◌else◌};
 ghost use Rattle.byte_mem.specs.Change.{changed_held};
 ghost use Rattle.byte_mem.specs.Object.{store_held};
 ghost use Rattle.byte_mem.specs.Places.{region_at, held_in, IsIn, IsSameRegions, IsGrown, IsBegun, RegionChanges, end_in, top_of, trimmed};

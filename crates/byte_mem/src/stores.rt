@@ -1,8 +1,7 @@
-ghost use Rattle.std.specs.Prelude.{◌≡◌, IfOk, IfSome, option_map, None, Some};
+ghost use Rattle.std.specs.Prelude.{◌≡◌, IfOk, IfSome, None, Some};
 ghost use Rattle.cil_base.specs.declared.kinds.Abi.TheVariants.{Lp64};
 ghost use Rattle.cil_base.specs.Integer.{IsOf};
 ghost use Rattle.byte_mem.specs.Operator.{load_number};
-ghost use Rattle.byte_mem.specs.Object.{new_held, function_held, protect_held};
 ghost use Rattle.byte_mem.specs.Scalar.{IsValue};
 ghost use Rattle.byte_mem.specs.Change.{changed_held};
 ghost use Rattle.byte_mem.specs.Memory.{no_memory, with_held, make, make_function, end_object, live_size, protect, load, load_bytes, changed, store, store_bytes, fill, zero};

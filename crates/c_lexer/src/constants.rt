@@ -1,4 +1,4 @@
-ghost use Rattle.std.specs.Prelude.{◌≡◌, ◌≤◌, false, length, drop};
+ghost use Rattle.std.specs.Prelude.{◌≡◌, false};
 ghost use Rattle.c_lexer.specs.Constants.{behind_digits, behind_octals, behind_hexes, is_u, is_l, is_suffix, is_x, begins_hex, begins_digit, is_integer_behind_zero, is_integer, is_floating_suffix, behind_sign, is_power, is_e, is_p, is_behind_fraction, is_behind_whole, is_decimal_floating, is_behind_hex_fraction, is_behind_hex_whole, is_hex_floating, is_floating, behind_quote, begins_character, behind_start, behind_escape, behind_inner, count, characters, has_universal};
 
 use crate::bytes::is_octal;

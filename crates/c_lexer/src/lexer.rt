@@ -3,7 +3,6 @@ ghost use Rattle.c_lexer.specs.Longest.{fresh_behind};
 ghost use Rattle.c_lexer.specs.Automaton.{pieces};
 ghost use Rattle.c_lexer.specs.Tokens.{Answer, IsAnswer, read, begun};
 ghost use Rattle.c_lexer.specs.Lexed.{Gives, IfAnswered, IfRefused, IsTokenRefusal, Grows, PlacesWithin};
-ghost use Rattle.c_lexer.specs.ReaderView.{reading_of, IsBounded};
 
 use crate::automaton::piece;
 use crate::entries::Spot;

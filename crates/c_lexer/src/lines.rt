@@ -1,8 +1,8 @@
-ghost use Rattle.std.specs.Prelude.{◌≡◌, ◌<◌, ◌≤◌, ◌^◌, ◌++◌, length, drop, IfOk, IfSome, false, not, ◌&&◌, ◌==◌};
+ghost use Rattle.std.specs.Prelude.{◌≡◌, ◌<◌, ◌≤◌, ◌^◌, ◌++◌, length, IfOk, IfSome, false, not, ◌&&◌, ◌==◌};
 ghost use Rattle.std.specs.Int.{is_in_range};
 ghost use Rattle.std.specs.Option.{option_map};
 ghost use Rattle.c_lexer.specs.Languages.{is_nil};
-ghost use Rattle.c_lexer.specs.Lines.{behind_blanks, number_from, number_at, file_len, unescaped, file_of, are_flags, marker_end, marker_file, marker_rest, marker, ends_word, begins_with_word, ends_with_backslash, pragma, line_behind_hash, line_of, has_line_feed};
+ghost use Rattle.c_lexer.specs.Lines.{behind_blanks, number_from, number_at, file_len, unescaped, file_of, are_flags, marker_end, marker_file, marker, ends_word, begins_with_word, ends_with_backslash, pragma, line_behind_hash, line_of, has_line_feed};
 ghost use Rattle.c_lexer.specs.View.{line_view, HasLine};
 
 use crate::bytes::{is_blank, is_word_byte};

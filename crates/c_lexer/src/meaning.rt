@@ -1,4 +1,4 @@
-ghost use Rattle.std.specs.Prelude.{◌≡◌, ◌==◌, length};
+ghost use Rattle.std.specs.Prelude.{◌≡◌, ◌==◌};
 ghost use Rattle.std.specs.List.{list_any};
 ghost use Rattle.c_lexer.specs.Tokens.{number_meaning, meaning_of_word, meaning_of_text, character_meaning, literal_meaning, sign_meaning, meaning};
 

@@ -1,7 +1,6 @@
 ghost use Rattle.std.specs.Prelude.{◌≡◌, ◌<◌, ◌≤◌, ◌^◌, ◌+◌, ℕ, List, length, IfOk, OnOk, None};
 ghost use Rattle.cil_base.specs.NamePool.{interned};
-ghost use Rattle.cil_base.specs.declared.faults.Stop.TheVariants.{Refused as IsRefused};
-ghost use Rattle.c_lexer.specs.Tokens.{line_feeds, moved, passed, refusal_at, refused, refused_attribute, line_refused, with_name, with_attribute, marker_read, line_read, with_token, attribute_read, inside_read, outside_read, token_read, piece_read, Reading, id_of, ended};
+ghost use Rattle.c_lexer.specs.Tokens.{line_feeds, moved, refusal_at, refused, line_refused, with_name, with_attribute, marker_read, line_read, with_token, inside_read, outside_read, token_read, piece_read, id_of, ended};
 ghost use Rattle.c_lexer.specs.Lines.{line_of};
 ghost use Rattle.c_lexer.specs.Lexed.{Gives, Grows};
 ghost use Rattle.c_lexer.specs.ReaderView.{reading_of, Follows, Refuses, IsBounded};

@@ -1,6 +1,6 @@
 ghost use Rattle.std.specs.Prelude.{◌≡◌, IfOk};
 ghost use Rattle.c_tree.specs.Syntax as plain;
-ghost use Rattle.c_tree.specs.View.{expr_of, declarator_of, bound_of, parameters_of};
+ghost use Rattle.c_tree.specs.View.{declarator_of, bound_of, parameters_of};
 ghost use Rattle.c_tree.specs.Height.{declarator_height};
 
 use crate::bounds::BoundNode;

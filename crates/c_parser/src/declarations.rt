@@ -8,7 +8,7 @@ ghost use Rattle.c_cursor.specs.Lexemes.{Onward};
 ghost use Rattle.c_cursor.specs.Given.{Gives};
 ghost use Rattle.c_exprs.specs.Subs.{behind_comma, listed, more_listed};
 ghost use Rattle.c_exprs.specs.DeclaratorReading.{outer_of};
-ghost use Rattle.c_parser.specs.DeclarationReading.{assert_end, static_assert, initialised, behind_declarator, init_declarator, init_declarators, behind_specifiers, specified, declaration_at, declaration};
+ghost use Rattle.c_parser.specs.DeclarationReading.{assert_end, static_assert, initialised, behind_declarator, init_declarator, init_declarators, behind_specifiers, specified, declaration};
 ghost use Rattle.c_parser.specs.UnitReading.{lower};
 
 use crate::below::{expr_below, init_below, named_declarator_below, specifiers_below};

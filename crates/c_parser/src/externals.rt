@@ -1,6 +1,6 @@
 ghost use Rattle.std.specs.Prelude.{◌≡◌, ◌<◌, ◌≤◌, [], ◌∷◌, length, map, IfOk, MatchResult};
 ghost use Rattle.c_tree.specs.View.{specifiers_of, declarator_of};
-ghost use Rattle.c_tree.specs.UnitView.{init_declarator_of, declaration_of, block_of};
+ghost use Rattle.c_tree.specs.UnitView.{init_declarator_of, declaration_of};
 ghost use Rattle.c_tree.specs.UnitView.{external_of as tree_of};
 ghost use Rattle.c_tree.specs.Scoped.{entered, has_typedef, after_own_list};
 ghost use Rattle.c_cursor.specs.declared.stops.ParseStop.TheVariants.{Memory as WantOfMemory};

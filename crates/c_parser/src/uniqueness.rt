@@ -1,4 +1,4 @@
-ghost use Rattle.std.specs.Prelude.{◌≡◌, ℕ, Bool, true, List};
+ghost use Rattle.std.specs.Prelude.{◌≡◌, ℕ, true, List};
 ghost use Rattle.typedef_scopes.specs.Scopes.{Scope};
 ghost use Rattle.c_tree.specs.Units.{DeclarationTree, StmtTree, ExternalTree, UnitTree};
 ghost use Rattle.c_tree.specs.Spelling.{Lexeme};

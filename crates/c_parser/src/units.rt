@@ -1,4 +1,4 @@
-ghost use Rattle.std.specs.Prelude.{◌≡◌, ◌<◌, ◌≤◌, true, map, drop, Ok, IfOk, IfErr};
+ghost use Rattle.std.specs.Prelude.{◌≡◌, ◌<◌, true, map, drop, Ok, IfOk, IfErr};
 ghost use Rattle.c_tree.specs.UnitView.{unit_of};
 ghost use Rattle.c_tree.specs.UnitView.{external_of as tree_of};
 ghost use Rattle.c_tree.specs.Levels.{has_some};

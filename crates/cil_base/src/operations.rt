@@ -1,5 +1,5 @@
 ghost use Rattle.std.specs.Prelude.{◌≡◌, ◌≢◌, ◌*◌, ◌^◌, ◌≤◌, ◌<◌, false, pos, ◌+ℤ◌, ◌-ℤ◌, ◌*ℤ◌, int_div, int_rem, bit_and, bit_or, bit_xor, unsigned_abs, IfSome};
-ghost use Rattle.cil_base.specs.Integer.{IsOf, least, greatest};
+ghost use Rattle.cil_base.specs.Integer.{IsOf};
 ghost use Rattle.cil_base.specs.Arithmetic.{arith_of, is_shift, fits, settled, quotient, remainder, shift_count, left_shifted, right_shifted, told, bits_of, bitwise};
 
 use crate::conversion::wrap;

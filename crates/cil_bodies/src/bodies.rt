@@ -1,7 +1,4 @@
-ghost use Rattle.std.specs.Prelude.{◌≡◌, [], List, map, IfOk};
-ghost use Rattle.type_graph.specs.declared.nodes.Node.{Node};
-ghost use Rattle.cil_tree.specs.Tree.{Body as TreeBody, Done};
-ghost use Rattle.cil_tree.specs.View.{body_of, local_of, text_at};
+ghost use Rattle.std.specs.Prelude.{◌≡◌, IfOk};
 ghost use Rattle.cil_bodies.specs.Bodies.{names_of, IsNewBody};
 
 use cil_base::{Memory, NameId};

@@ -1,8 +1,8 @@
-ghost use Rattle.std.specs.Prelude.{◌≡◌, ◌<◌, IfSome, length, drop};
-ghost use Rattle.cil_tree.specs.View.{type_at, exp_of, host_of, lval_of, offsets_of};
-ghost use Rattle.cil_tree.specs.Typing.{type_of, host_type, part_type, place_type, global_type, local_type, member_type};
+ghost use Rattle.std.specs.Prelude.{◌≡◌, ◌<◌, IfSome, length};
+ghost use Rattle.cil_tree.specs.View.{type_at, exp_of, host_of, lval_of};
+ghost use Rattle.cil_tree.specs.Typing.{type_of, host_type, part_type, place_type, global_type, local_type};
 ghost use Rattle.type_graph.specs.Shapes.{shape};
-ghost use Rattle.cil_check.specs.Seen.{seen_shape, IsThere, told, at, seen_scope, bare, steps_to};
+ghost use Rattle.cil_check.specs.Seen.{IsThere, told, at, seen_scope, steps_to};
 
 use crate::operators::{
     address, binary, cast, constant, element, member, pointed, read, start, unary,

@@ -1,4 +1,4 @@
-ghost use Rattle.std.specs.Prelude.{◌≡◌, ◌<◌, ◌↔◌, IfOk, length, map, true};
+ghost use Rattle.std.specs.Prelude.{◌≡◌, ◌<◌, ◌↔◌, IfOk, length, true};
 ghost use Rattle.std.specs.List.{list_all};
 ghost use Rattle.type_graph.specs.Shapes.{shape};
 ghost use Rattle.layout_lp64.specs.Tables.{InStep};

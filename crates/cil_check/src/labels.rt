@@ -1,4 +1,4 @@
-ghost use Rattle.std.specs.Prelude.{◌≡◌, ◌++◌, IfOk, OnOk, drop};
+ghost use Rattle.std.specs.Prelude.{◌≡◌, ◌++◌, IfOk, OnOk};
 ghost use Rattle.cil_tree.specs.View.{stmt_of, stmts_of};
 ghost use Rattle.cil_tree.specs.Bodies.{labels_of, labels_in, labels_fit};
 ghost use Rattle.cil_check.specs.Seen.{seen_scope};

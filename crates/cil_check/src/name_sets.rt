@@ -1,7 +1,7 @@
-ghost use Rattle.std.specs.Prelude.{◌≡◌, ◌<◌, ◌&&◌, ◌++◌, nat_eq, IfOk, IsTrue, map, length, drop, []};
-ghost use Rattle.std.specs.List.{list_all, list_any};
+ghost use Rattle.std.specs.Prelude.{◌≡◌, ◌<◌, ◌&&◌, ◌++◌, nat_eq, IfOk, IsTrue, map, length};
+ghost use Rattle.std.specs.List.{list_all};
 ghost use Rattle.cil_tree.specs.View.{text_at};
-ghost use Rattle.cil_tree.specs.Names.{is_plain_name, are_different, is_among};
+ghost use Rattle.cil_tree.specs.Names.{is_plain_name, are_different};
 ghost use Rattle.cil_check.specs.NameLists.{number, AllIn};
 ghost use Rattle.cil_check.specs.Sets.{fresh};
 

@@ -1,14 +1,14 @@
-ghost use Rattle.std.specs.Prelude.{◌≡◌, ◌<◌, ◌&&◌, ◌++◌, nat_eq, IfOk, OnOk, IsTrue, IfSome, is_some, map, length, drop, true, false, [], List, ℕ};
+ghost use Rattle.std.specs.Prelude.{◌≡◌, ◌<◌, ◌&&◌, ◌++◌, IfOk, OnOk, IfSome, is_some, map, length, true, false, [], List, ℕ};
 ghost use Rattle.std.specs.List.{list_all};
-ghost use Rattle.type_graph.specs.Shapes.{Shape, shape, shape_of, shapes_of, VoidType, IntType, MoreTypes, NoTypes};
+ghost use Rattle.type_graph.specs.Shapes.{shape, shape_of, shapes_of, VoidType, IntType, MoreTypes, NoTypes};
 ghost use Rattle.type_graph.specs.declared.nodes.Node.{Node};
 ghost use Rattle.cil_base.specs.Integer.{ulong_of};
 ghost use Rattle.cil_tree.specs.Declarators.{tag_text};
 ghost use Rattle.type_graph.specs.Arena.{NamesBelow, EachType};
-ghost use Rattle.cil_tree.specs.View.{text_at, type_at, global_of, definition_of, local_of, program_of, body_of};
-ghost use Rattle.cil_tree.specs.Typing.{same_shape, same_shapes, is_type, is_enum, pointer_to};
-ghost use Rattle.cil_tree.specs.Names.{memset_type, is_declared, is_memset, global_is_named, internal_is_apart, members_are_named, member_names, enumerators, file_names, tags, are_different, are_apart, is_among, host_names, body_is_named, definition_is_named, local_name_of, is_plain_name};
-ghost use Rattle.cil_check.specs.NameLists.{number, member_id, global_id, local_id, member_ids, enumerator_ids_of, enumerator_ids, tag_ids_of, tag_ids, AllIn};
+ghost use Rattle.cil_tree.specs.View.{text_at, type_at, global_of, definition_of, program_of, body_of};
+ghost use Rattle.cil_tree.specs.Typing.{same_shape, same_shapes, is_type, pointer_to};
+ghost use Rattle.cil_tree.specs.Names.{memset_type, is_declared, is_memset, global_is_named, internal_is_apart, members_are_named, member_names, enumerators, file_names, tags, are_different, are_apart, is_among, host_names, body_is_named, definition_is_named, is_plain_name};
+ghost use Rattle.cil_check.specs.NameLists.{member_id, global_id, local_id, member_ids, enumerator_ids_of, enumerator_ids, tag_ids_of, tag_ids, AllIn};
 ghost use Rattle.cil_check.specs.FileNames.{KnowsFile, locals_named, within_is_named, names_rules};
 
 use crate::bodies::text_at;

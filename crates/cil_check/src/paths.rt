@@ -1,4 +1,4 @@
-ghost use Rattle.std.specs.Prelude.{◌≡◌, ◌<◌, ◌≤◌, ◌+◌, ◌*◌, ◌^◌, IfSome, length, map};
+ghost use Rattle.std.specs.Prelude.{◌≡◌, ◌<◌, ◌+◌, ◌*◌, ◌^◌, IfSome, length, map};
 ghost use Rattle.type_graph.specs.Shapes.{shape};
 ghost use Rattle.cil_tree.specs.View.{step_of};
 ghost use Rattle.cil_tree.specs.Globals.{member_part, element_part, path_part, is_union, agree};

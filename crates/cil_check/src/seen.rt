@@ -1,8 +1,7 @@
-ghost use Rattle.std.specs.Prelude.{◌≡◌, ◌↔◌, ◌<◌, true, IsTrue, IfSome, MatchOption, length};
+ghost use Rattle.std.specs.Prelude.{◌≡◌, ◌<◌, IfSome, length};
 ghost use Rattle.type_graph.specs.Shapes.{shape};
-ghost use Rattle.type_graph.specs.Arena.{complete_shape};
 ghost use Rattle.cil_tree.specs.View.{type_at};
-ghost use Rattle.cil_tree.specs.Typing.{is_scalar, same_shape, same_quals};
+ghost use Rattle.cil_tree.specs.Typing.{same_shape, same_quals};
 ghost use Rattle.cil_check.specs.Seen.{seen_shape, IsThere, told};
 
 use cil_base::{IntKind, TypeId};

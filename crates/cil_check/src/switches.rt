@@ -1,4 +1,4 @@
-ghost use Rattle.std.specs.Prelude.{◌≡◌, ◌++◌, IfOk, OnOk, IsTrue, drop, false, []};
+ghost use Rattle.std.specs.Prelude.{◌≡◌, ◌++◌, IfOk, OnOk, IsTrue, false, []};
 ghost use Rattle.cil_tree.specs.View.{stmt_of, stmts_of};
 ghost use Rattle.cil_check.specs.Statements.{marks_of, marks_in, once, switch_is_once, is_first, seen_with, default_with};
 

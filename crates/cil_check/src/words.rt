@@ -1,4 +1,4 @@
-ghost use Rattle.std.specs.Prelude.{◌≡◌, map, drop};
+ghost use Rattle.std.specs.Prelude.{◌≡◌, map};
 ghost use Rattle.std.specs.List.{list_all};
 ghost use Rattle.cil_tree.specs.Names.{begins_word, goes_on_word, is_identifier, begins, is_builtin, is_among, keywords, other_words, host_names, is_name, is_plain_name};
 ghost use Rattle.cil_check.specs.Words.{words_1, words_2, words_3, words_4, words_5, words_6, words_7, words_8};

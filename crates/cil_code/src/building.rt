@@ -1,4 +1,4 @@
-ghost use Rattle.std.specs.Prelude.{◌≡◌, ◌<◌, ℕ, List, Option, IfOk, IfSome, length, map};
+ghost use Rattle.std.specs.Prelude.{◌<◌, ℕ, List, Option, IfOk, IfSome, length, map};
 ghost use Rattle.layout_lp64.specs.Tables.{InStep};
 ghost use Rattle.cil_tree.specs.Tree as plain;
 ghost use Rattle.cil_tree.specs.Typing.{Scope as Within};
@@ -7,7 +7,6 @@ ghost use Rattle.std.specs.Option.{option_map};
 ghost use Rattle.cil_check.specs.Seen.{seen_scope, IsThere};
 ghost use Rattle.cil_machine.specs.Typed.{IsTyped, IsPlaced};
 ghost use Rattle.cil_control.specs.Flat as flat;
-ghost use Rattle.cil_code.specs.Passing.{IsOperand};
 ghost use Rattle.cil_code.specs.Doing.{IsStep};
 
 use crate::calls::resolve_call;

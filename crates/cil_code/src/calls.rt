@@ -8,7 +8,6 @@ ghost use Rattle.cil_check.specs.Seen.{seen_scope, IsThere, at};
 ghost use Rattle.cil_semantics.specs.Values.{kind_in};
 ghost use Rattle.cil_semantics.specs.Statements.{result_type};
 ghost use Rattle.cil_machine.specs.Typed.{IsTyped, IsPlaced};
-ghost use Rattle.cil_code.specs.Passing.{IsOperand};
 ghost use Rattle.cil_code.specs.Calling.{kind_of, IsReceived, IsReceiver, AreOperands, IsCallee, IsCall};
 
 use crate::operands::{Operand, resolve_operand};

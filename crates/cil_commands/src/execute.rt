@@ -5,7 +5,7 @@ ghost use Rattle.cil_tree.specs.Programs.{IsProgram};
 ghost use Rattle.outside.specs.Counts.{Rose};
 ghost use Rattle.outside.specs.Named.{find_file, names_of};
 ghost use Rattle.cil_sources.specs.Files.{bytes_under};
-ghost use Rattle.cil_commands.specs.Execute.{IsRunAnswer, RanAs, RunSays};
+ghost use Rattle.cil_commands.specs.Execute.{RanAs, RunSays};
 ghost use Rattle.cil_commands.specs.RunEnds.{status_by};
 ghost use Rattle.cil_commands.specs.Calls.{CountsCalls};
 

@@ -12,7 +12,7 @@ ghost use Rattle.cil_reader.specs.Stops.{IsNoText};
 ghost use Rattle.outside.specs.Counts.{Rose};
 ghost use Rattle.outside.specs.Moves.{Began, Wrote};
 ghost use Rattle.outside.specs.Named.{names_of};
-ghost use Rattle.std.specs.Option.{option_map, option_and_then};
+ghost use Rattle.std.specs.Option.{option_map};
 ghost use Rattle.cil_base.specs.declared.faults.Refusal.{Refusal};
 ghost use Rattle.cil_commands.specs.Answers.{IsAnswerTo};
 ghost use Rattle.outside.specs.Named.{Told};

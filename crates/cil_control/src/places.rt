@@ -1,4 +1,4 @@
-ghost use Rattle.std.specs.Prelude.{◌≡◌, ◌+◌, ◌++◌, IfOk, OnOk, drop, Some};
+ghost use Rattle.std.specs.Prelude.{◌≡◌, ◌+◌, ◌++◌, IfOk, OnOk, Some};
 ghost use Rattle.cil_tree.specs.View.{stmt_of, stmts_of};
 ghost use Rattle.cil_control.specs.Remains.{steps, steps_in};
 ghost use Rattle.cil_control.specs.Flat.{labels_at, labels_from, cases_at, cases_from, default_at, default_from, or_else};

@@ -1,13 +1,13 @@
-ghost use Rattle.std.specs.Prelude.{◌≡◌, ◌≤◌, List, Some, None, length, map, IfOk, OnOk};
-ghost use Rattle.byte_mem.specs.Memory.{with_held, make, end_object};
+ghost use Rattle.std.specs.Prelude.{◌≡◌, List, Some, None, length, map, IfOk, OnOk};
+ghost use Rattle.byte_mem.specs.Memory.{with_held, make};
 ghost use Rattle.byte_mem.specs.Scalar.{bytes_of};
 ghost use Rattle.byte_mem.specs.Store.{memory, Becomes};
 ghost use Rattle.execution.specs.Data as passed;
-ghost use Rattle.execution.specs.Data.{local_name, bytes_in, argument_held, with_arguments, with_objects, without_objects};
+ghost use Rattle.execution.specs.Data.{bytes_in, argument_held, with_arguments, with_objects, without_objects};
 ghost use Rattle.execution.specs.Calls.{number_of, numbers};
 ghost use Rattle.execution.specs.Runs.{writable};
 ghost use Rattle.cil_code.specs.Calling.{kind_from};
-ghost use Rattle.cil_frames.specs.Entering.{argument_of, arguments_of, automatic_of, objects_of, begun_in, ended_in};
+ghost use Rattle.cil_frames.specs.Entering.{argument_of, arguments_of, objects_of, begun_in, ended_in};
 
 use crate::kinds::single;
 use byte_mem::{Byte, Cells, ObjName, Pointer, Scalar, Store, Value};

@@ -1,4 +1,4 @@
-ghost use Rattle.std.specs.Prelude.{◌≡◌, ◌<◌, ℕ, List, map, length, option_map};
+ghost use Rattle.std.specs.Prelude.{◌≡◌, ◌<◌, ℕ, List, length, option_map};
 ghost use Rattle.type_graph.specs.Shapes.{shape, shapes_of};
 ghost use Rattle.type_graph.specs.Arena.{EachType};
 ghost use Rattle.cil_tree.specs.Tree.{Program};

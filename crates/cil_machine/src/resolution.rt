@@ -1,6 +1,6 @@
 ghost use Rattle.std.specs.Prelude.{◌≡◌, ◌<◌, ℕ, Some, None, IfOk, IfSome, length, false, true, is_some, List, ◌∷◌};
-ghost use Rattle.type_graph.specs.Shapes.{Shape, IntType, PtrType, shape};
-ghost use Rattle.type_graph.specs.Arena.{Graph, complete_shape};
+ghost use Rattle.type_graph.specs.Shapes.{Shape, IntType, shape};
+ghost use Rattle.type_graph.specs.Arena.{complete_shape};
 ghost use Rattle.layout_lp64.specs.Tables.{InStep};
 ghost use Rattle.cil_tree.specs.Tree as plain;
 ghost use Rattle.cil_tree.specs.Typing.{type_of, place_type, is_comparison, member_type, element_type, pointed};
@@ -12,7 +12,7 @@ ghost use Rattle.cil_tree.specs.declared.expressions.Offset.{Offset};
 ghost use Rattle.cil_check.specs.Seen.{seen_scope, seen_shape, IsThere, told, at};
 ghost use Rattle.cil_semantics.specs.Values.{scalar_in, size_in};
 ghost use Rattle.cil_machine.specs.Typed.{IsTyped, IsPlaced, IsHosted, IsClass, IsOnWay};
-ghost use Rattle.cil_machine.specs.Resolution.{Means, MeansPlace, MeansHost, IsPart};
+ghost use Rattle.cil_machine.specs.Resolution.{Means, IsPart};
 
 use crate::terms::{Spot, Term};
 use byte_mem::Scalar;

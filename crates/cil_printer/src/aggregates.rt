@@ -1,10 +1,7 @@
-ghost use Rattle.std.specs.Prelude.{◌≡◌, ◌<◌, ℕ, [], ◌∷◌, ◌++◌, Option, Some, None, List, map, length, true, codes, slice_get};
-ghost use Rattle.cil_base.specs.declared.kinds.IntKind.TheVariants.{Int as int};
+ghost use Rattle.std.specs.Prelude.{◌≡◌, ◌<◌, ℕ, [], ◌∷◌, ◌++◌, Some, None, map, length, true, codes, slice_get};
 ghost use Rattle.type_graph.specs.declared.aggregates.Member.{Member};
-ghost use Rattle.type_graph.specs.Shapes.{shape};
-ghost use Rattle.cil_tree.specs.Declarators.{tagged, number, declared};
+ghost use Rattle.cil_tree.specs.Declarators.{tagged};
 ghost use Rattle.cil_tree.specs.Text.{member_name, enumerator_line, member_line, enum_lines, tag_lines, struct_lines};
-ghost use Rattle.cil_printer.specs.Output.{puts};
 ghost use Rattle.cil_tree.specs.Text.{concat_each};
 ghost use Rattle.cil_tree.specs.Programs.{IsProgram};
 ghost use Rattle.cil_printer.specs.Plain.{IsPlainProgram, IsPlainAggregate, is_plain, are_plain, prints};

@@ -1,15 +1,15 @@
-ghost use Rattle.std.specs.Prelude.{◌≡◌, ◌<◌, ◌≤◌, ℕ, [], ◌∷◌, ◌++◌, Option, Some, None, map, drop, length, true, codes};
+ghost use Rattle.std.specs.Prelude.{◌≡◌, ◌<◌, [], ◌∷◌, ◌++◌, Some, None, map, drop, length, true, codes};
 ghost use Rattle.type_graph.specs.Shapes.{shape, shapes_of};
 ghost use Rattle.type_graph.specs.Arena.{EachType};
 ghost use Rattle.cil_tree.specs.Tree.{Function as Defined};
-ghost use Rattle.cil_tree.specs.View.{type_at, text_at, local_of, global_of, body_of, stmts_of};
+ghost use Rattle.cil_tree.specs.View.{type_at, text_at, global_of, body_of, stmts_of};
 ghost use Rattle.cil_tree.specs.Typing.{scope_of};
 ghost use Rattle.cil_tree.specs.Bodies.{each_stmt};
 ghost use Rattle.cil_tree.specs.Declarators.{in_parentheses, declared, listed};
 ghost use Rattle.cil_tree.specs.Text.{linkage, parameter_tokens, function_tokens, local_line, function_lines};
 ghost use Rattle.cil_printer.specs.Output.{puts};
 ghost use Rattle.cil_printer.specs.Plain.{IsPlainProgram, IsPlain, is_plain, are_plain, prints};
-ghost use Rattle.cil_printer.specs.Seen.{seen, tree_of, scope_in};
+ghost use Rattle.cil_printer.specs.Seen.{tree_of, scope_in};
 ghost use Rattle.cil_printer.specs.Typed.{stmt_is_typed};
 
 use crate::function::Function;

@@ -1,9 +1,9 @@
 ghost use Rattle.std.specs.Prelude.{◌≡◌, [], ◌∷◌, ◌++◌, Option, Some, None, is_some, true, codes};
 ghost use Rattle.std.specs.Option.{option_map, option_and_then};
 ghost use Rattle.cil_base.specs.Operators.{operator_spelling};
-ghost use Rattle.cil_tree.specs.Tree.{Const, Value, Un, Bin, Cast, AddrOf, StartOf, Place, Here, Field, Index};
+ghost use Rattle.cil_tree.specs.Tree.{Const, Value, Un, Bin, Cast, AddrOf, StartOf, Here, Field, Index};
 ghost use Rattle.cil_tree.specs.View.{type_at, exp_of, host_of, offsets_of, lval_of};
-ghost use Rattle.cil_tree.specs.Typing.{pointed, element_of, type_of, host_type, part_type, place_type};
+ghost use Rattle.cil_tree.specs.Typing.{pointed, type_of, host_type, part_type, place_type};
 ghost use Rattle.cil_tree.specs.Declarators.{in_parentheses, type_tokens};
 ghost use Rattle.cil_tree.specs.Text.{unary_spelling, exp_tokens, host_tokens, offset_tokens, place_tokens};
 ghost use Rattle.cil_printer.specs.Output.{puts};

@@ -1,15 +1,15 @@
-ghost use Rattle.std.specs.Prelude.{◌≡◌, ◌<◌, ◌+◌, ℕ, suc, Bool, [], ◌∷◌, ◌++◌, Option, Some, None, map, length, true, codes};
+ghost use Rattle.std.specs.Prelude.{◌≡◌, ◌<◌, [], ◌∷◌, Some, None, map, length, true};
 ghost use Rattle.type_graph.specs.Shapes.{shape, shapes_of};
 ghost use Rattle.type_graph.specs.Arena.{EachType};
 ghost use Rattle.cil_tree.specs.Tree.{Zeros, Image};
 ghost use Rattle.cil_printer.specs.Sides.{following};
 ghost use Rattle.cil_tree.specs.View.{type_at, text_at, local_of, item_of, global_of, definition_of};
-ghost use Rattle.cil_tree.specs.Typing.{is_scalar, is_function};
+ghost use Rattle.cil_tree.specs.Typing.{is_function};
 ghost use Rattle.cil_tree.specs.Declarators.{in_parentheses, type_tokens, declared, listed};
-ghost use Rattle.cil_tree.specs.Text.{is_function_type, is_scalar_type, declarator, linkage, storage, declaration_line, local_line, object_lines, parameter_tokens};
+ghost use Rattle.cil_tree.specs.Text.{is_function_type, linkage, storage, declaration_line, local_line, object_lines, parameter_tokens};
 ghost use Rattle.cil_printer.specs.Output.{puts};
 ghost use Rattle.cil_printer.specs.Plain.{IsPlainProgram, is_plain, prints};
-ghost use Rattle.cil_printer.specs.Seen.{seen, tree_of, named_parts};
+ghost use Rattle.cil_printer.specs.Seen.{tree_of, named_parts};
 
 use crate::program::Program;
 use crate::sink::Sink;

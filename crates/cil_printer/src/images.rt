@@ -1,5 +1,4 @@
-ghost use Rattle.std.specs.Prelude.{◌≡◌, ◌<◌, [], ◌∷◌, ◌++◌, Option, Some, None, map, length, codes, decimal};
-ghost use Rattle.cil_base.specs.Integer.{long_of};
+ghost use Rattle.std.specs.Prelude.{◌≡◌, ◌<◌, [], ◌∷◌, Option, Some, None, map, length, codes, decimal};
 ghost use Rattle.type_graph.specs.Shapes.{shape};
 ghost use Rattle.cil_tree.specs.Tree.{ToField, ToIndex};
 ghost use Rattle.cil_tree.specs.View.{step_of, item_of};

@@ -1,10 +1,10 @@
 ghost use Rattle.std.specs.Prelude.{◌≡◌, [], ◌∷◌, ◌++◌, Option, Some, None, is_some, map, true, codes};
-ghost use Rattle.std.specs.Option.{option_map, option_and_then};
+ghost use Rattle.std.specs.Option.{option_map};
 ghost use Rattle.cil_tree.specs.Tree.{Set, Zero};
 ghost use Rattle.cil_tree.specs.View.{exp_of, lval_of, callee_of, instr_of};
-ghost use Rattle.cil_tree.specs.Typing.{pointed, type_of, place_type};
+ghost use Rattle.cil_tree.specs.Typing.{type_of, place_type};
 ghost use Rattle.cil_tree.specs.Declarators.{in_parentheses};
-ghost use Rattle.cil_tree.specs.Text.{exp_tokens, place_tokens, argument_tokens, callee_tokens, result_tokens, size_tokens, instr_tokens};
+ghost use Rattle.cil_tree.specs.Text.{place_tokens, argument_tokens, callee_tokens, result_tokens, size_tokens, instr_tokens};
 ghost use Rattle.cil_printer.specs.Output.{puts};
 ghost use Rattle.cil_printer.specs.Seen.{seen, scope_in, nodes_in, exp_parts};
 ghost use Rattle.cil_printer.specs.Typed.{are_typed, result_is_typed, callee_is_typed, instr_is_typed};

@@ -1,7 +1,7 @@
-ghost use Rattle.std.specs.Prelude.{◌≡◌, ◌<◌, List, [], Option, Some, None, MatchOption, IfSome, length, slice_get};
+ghost use Rattle.std.specs.Prelude.{◌≡◌, ◌<◌, List, Option, Some, None, MatchOption, IfSome, length, slice_get};
 ghost use Rattle.std.specs.Option.{option_map, option_and_then};
 ghost use Rattle.type_graph.specs.declared.layout.Layout.{Layout};
-ghost use Rattle.type_graph.specs.Shapes.{Shape, shape};
+ghost use Rattle.type_graph.specs.Shapes.{shape};
 ghost use Rattle.type_graph.specs.declared.aggregates.Member.{Member};
 ghost use Rattle.type_graph.specs.Arena.{Graph, IsArena};
 ghost use Rattle.type_graph.specs.Layouts.{layout};

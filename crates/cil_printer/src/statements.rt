@@ -1,11 +1,11 @@
-ghost use Rattle.std.specs.Prelude.{◌≡◌, ◌+◌, ℕ, suc, [], ◌∷◌, ◌++◌, Option, Some, None, is_some, true, codes};
+ghost use Rattle.std.specs.Prelude.{◌≡◌, ◌+◌, suc, [], ◌∷◌, ◌++◌, Option, Some, None, is_some, true, codes};
 ghost use Rattle.std.specs.Option.{option_map};
 ghost use Rattle.cil_tree.specs.Tree.{Do, If, Switch, Loop, Block, Label, Case, Default, Goto, Break, Return};
 ghost use Rattle.cil_tree.specs.View.{exp_of, instr_of, stmt_of, stmts_of};
 ghost use Rattle.cil_tree.specs.Typing.{type_of};
 ghost use Rattle.cil_tree.specs.Bodies.{each_stmt, each_within};
 ghost use Rattle.cil_tree.specs.Declarators.{in_parentheses};
-ghost use Rattle.cil_tree.specs.Text.{heading, closing, exp_tokens, return_tokens, stmt_lines, lines_of};
+ghost use Rattle.cil_tree.specs.Text.{heading, closing, exp_tokens, stmt_lines, lines_of};
 ghost use Rattle.cil_printer.specs.Output.{puts, capped};
 ghost use Rattle.cil_printer.specs.Seen.{scope_in, nodes_in, returned_tokens};
 ghost use Rattle.cil_printer.specs.Typed.{instr_is_typed, value_is_typed, stmt_is_typed};

@@ -1,4 +1,4 @@
-ghost use Rattle.std.specs.Prelude.{◌≡◌, ◌<◌, ◌||◌, List, [], ◌∷◌, ◌++◌, length, true, false, IfSome, codes, decimal};
+ghost use Rattle.std.specs.Prelude.{◌≡◌, ◌<◌, [], ◌∷◌, length, true, false, IfSome, codes, decimal};
 ghost use Rattle.type_graph.specs.Shapes.{shape, shapes_of};
 ghost use Rattle.type_graph.specs.Arena.{EachType};
 ghost use Rattle.cil_tree.specs.Declarators.{keyword_of, tag_text, tagged, aggregate_words, kind_words, bound_tokens, in_parentheses, listed, all_declared, declared, ended};

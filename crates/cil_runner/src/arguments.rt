@@ -1,4 +1,4 @@
-ghost use Rattle.std.specs.Prelude.{◌≡◌, ◌∷◌, [], pos, Some, IfOk};
+ghost use Rattle.std.specs.Prelude.{◌≡◌, Some, IfOk};
 ghost use Rattle.execution.specs.Runs.{int_argument, words_argument};
 ghost use Rattle.cil_frames.specs.Entering.{argument_of, arguments_of};
 ghost use Rattle.cil_runner.specs.Beginning.{arguments_for};

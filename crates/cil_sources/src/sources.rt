@@ -1,9 +1,9 @@
-ghost use Rattle.std.specs.Prelude.{◌≡◌, ◌≢◌, ◌≤◌, ◌+◌, Err, None, Some, [], map, vec_len, IfOk, IfSome, IsErr, IsErrOf, IfErr, OnOk};
+ghost use Rattle.std.specs.Prelude.{◌≡◌, ◌≢◌, ◌≤◌, ◌+◌, Err, None, Some, map, IfOk, IfSome, IsErr, IsErrOf, IfErr, OnOk};
 ghost use Rattle.std.specs.String.{string_bytes};
 ghost use Rattle.outside.specs.Counts.{Rose};
 ghost use Rattle.outside.specs.Named.{names_of};
 ghost use Rattle.cil_sources.specs.Files.{all_under, found_all};
-ghost use Rattle.cil_sources.specs.Units.{kept, unit_fault, Kept};
+ghost use Rattle.cil_sources.specs.Units.{kept, unit_fault};
 ghost use Rattle.cil_sources.specs.Steps.{with_unit, is_within, state_of};
 
 use crate::file::read_file;

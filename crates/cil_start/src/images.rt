@@ -1,7 +1,7 @@
-ghost use Rattle.std.specs.Prelude.{◌≡◌, ◌<◌, ◌^◌, ℕ, pos, true, List, ◌∷◌, Option, Some, None, OnOk, length, map, IfSome};
+ghost use Rattle.std.specs.Prelude.{◌≡◌, ◌<◌, ◌^◌, pos, true, Option, Some, None, length, map};
 ghost use Rattle.std.specs.List.{list_all};
 ghost use Rattle.byte_mem.specs.declared.pointers.ObjName.TheVariants.{Entity};
-ghost use Rattle.byte_mem.specs.Store.{memory, Becomes, Put};
+ghost use Rattle.byte_mem.specs.Store.{memory, Becomes};
 ghost use Rattle.byte_mem.specs.Memory.{with_held, store};
 ghost use Rattle.type_graph.specs.Shapes.{shape};
 ghost use Rattle.type_graph.specs.Arena.{complete_shape};
@@ -10,7 +10,7 @@ ghost use Rattle.cil_tree.specs.View.{item_of};
 ghost use Rattle.cil_tree.specs.Globals.{item_fits};
 ghost use Rattle.cil_semantics.specs.Values.{scalar_in};
 ghost use Rattle.typed_values.specs.Units.{constant_value};
-ghost use Rattle.cil_start.specs.Loads.{program_in, IsReady, written_of, place_of, Changed, IsObject, item_held, items_held, Writing};
+ghost use Rattle.cil_start.specs.Loads.{program_in, IsReady, written_of, place_of, Changed, IsObject, item_held, items_held};
 
 use crate::loaded::Loaded;
 use byte_mem::{ObjName, Pointer, Scalar, Store, Value};

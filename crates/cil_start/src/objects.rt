@@ -1,4 +1,4 @@
-ghost use Rattle.std.specs.Prelude.{◌≡◌, ◌<◌, ◌^◌, ℕ, true, [], None, OnOk, length, map, slice_get, Some, take};
+ghost use Rattle.std.specs.Prelude.{◌≡◌, ◌<◌, true, [], None, OnOk, length, map, Some};
 ghost use Rattle.std.specs.List.{list_all};
 ghost use Rattle.byte_mem.specs.declared.pointers.ObjName.TheVariants.{Entity};
 ghost use Rattle.byte_mem.specs.Store.{memory, Becomes};

@@ -1,4 +1,4 @@
-ghost use Rattle.std.specs.Prelude.{◌≡◌, ◌<◌, ◌^◌, ◌++◌, ℕ, IfOk, OnOk, List, [], Option, Some, None, length, map, replicate};
+ghost use Rattle.std.specs.Prelude.{◌≡◌, ◌<◌, ◌^◌, ◌++◌, IfOk, OnOk, List, [], Option, Some, length, map, replicate};
 ghost use Rattle.byte_mem.specs.declared.pointers.ObjName.TheVariants.{Argument};
 ghost use Rattle.byte_mem.specs.declared.values.Byte.TheVariants.{Known};
 ghost use Rattle.byte_mem.specs.Store.{memory, Becomes};
@@ -7,7 +7,6 @@ ghost use Rattle.byte_mem.specs.Object.{Held};
 ghost use Rattle.byte_mem.specs.Scalar.{parts_of};
 ghost use Rattle.cil_base.specs.Integer.{pointer_size_of};
 ghost use Rattle.execution.specs.Runs.{memory_of, words_held, word_held, word_pointers, writable};
-ghost use Rattle.cil_start.specs.Words.{argv_held};
 
 use byte_mem::{Byte, Cells, ObjName, Pointer, Store};
 use cil_base::{Abi, Bytes, Memory};

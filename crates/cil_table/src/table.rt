@@ -1,4 +1,4 @@
-ghost use Rattle.std.specs.Prelude.{◌≡◌, ◌<◌, IfOk, length};
+ghost use Rattle.std.specs.Prelude.{◌≡◌, ◌<◌, IfOk};
 ghost use Rattle.cil_tree.specs.View.{global_of};
 ghost use Rattle.cil_link.specs.Entities.{IsThere, IsOne};
 ghost use Rattle.cil_link.specs.Units.{programs_in, units_in};

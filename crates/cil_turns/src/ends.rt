@@ -1,5 +1,4 @@
 ghost use Rattle.std.specs.Prelude.{◌≡◌};
-ghost use Rattle.execution.specs.Runs.{status_of};
 ghost use Rattle.host_calls.specs.Host.{byte_of};
 ghost use Rattle.cil_code.specs.Taking.{datum_of};
 ghost use Rattle.cil_turns.specs.Turning.{Status};

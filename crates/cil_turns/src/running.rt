@@ -1,4 +1,4 @@
-ghost use Rattle.std.specs.Prelude.{◌≡◌, ◌≤◌, ℕ, OnOk, OnErr};
+ghost use Rattle.std.specs.Prelude.{◌≡◌, ◌≤◌, ℕ};
 ghost use Rattle.byte_mem.specs.Store.{memory};
 ghost use Rattle.host_calls.specs.Counted.{IsCounted};
 ghost use Rattle.outside.specs.Counts.{KeepsLimit};

@@ -1,7 +1,7 @@
 ghost use Rattle.std.specs.Prelude.{◌≡◌, ◌≤◌, ◌↔◌, map, decimal, IsTrue, IfSome};
 ghost use Rattle.std.specs.List.{list_all};
 ghost use Rattle.std.specs.String.{string_bytes};
-ghost use Rattle.cil_words.specs.Command.{command_of, command_by_name, merge_of, run_of, run_bounded_of, sample_of, sample_by, number_between, steps_of, seed_of, units_of, names_file, is_word as is_word_of, are_words as are_words_of};
+ghost use Rattle.cil_words.specs.Command.{command_of, command_by_name, merge_of, run_of, run_bounded_of, sample_of, sample_by, number_between, seed_of, units_of, names_file, is_word as is_word_of, are_words as are_words_of};
 
 use itoa::Buffer;
 

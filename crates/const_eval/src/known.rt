@@ -4,7 +4,7 @@ ghost use Rattle.cil_base.specs.Integer.{IsOf, wrapped};
 ghost use Rattle.cil_base.specs.Arithmetic.{is_shift};
 ghost use Rattle.type_graph.specs.Shapes.{shape};
 ghost use Rattle.const_eval.specs.declared.known.Known.TheVariants.{Integer};
-ghost use Rattle.const_eval.specs.Values.{constant_of, kind_in, integer_in, entity_in, told_as_int, truth_of, decided_by, to_integer, to_pointer, converted_in, unary_in, binary_in, computed_of, binary_kind, pointee_in, sum_of, difference_of, member_at, moved_by, IsKnown, stepped_in};
+ghost use Rattle.const_eval.specs.Values.{constant_of, kind_in, integer_in, entity_in, told_as_int, truth_of, decided_by, to_integer, to_pointer, converted_in, unary_in, binary_in, computed_of, binary_kind, pointee_in, sum_of, difference_of, member_at, moved_by, IsKnown};
 
 use cil_base::{BinOp, Constant, EntityId, IntKind, TypeId, UnOp, arith, wrap};
 use type_graph::AggKind;

@@ -1,8 +1,7 @@
 ghost use Rattle.std.specs.Prelude.{◌≡◌, ◌≤◌, ◌<◌, ◌+◌, ◌^◌, ℕ, [], ◌∷◌, ◌++◌, None, Some, OnOk, OnErr, slice_get, unsigned_abs, MatchOption};
 ghost use Rattle.byte_mem.specs.Memory.{live_size, fill};
 ghost use Rattle.byte_mem.specs.Store.{memory};
-ghost use Rattle.cil_base.specs.Integer.{reduced};
-ghost use Rattle.host_calls.specs.Host.{result_of, parameters_of, byte_of, getchar, putchar, malloc, free, free_named, memset, called, same_scalar, same_result, have_kinds, values_of, host, undefined, with_number, heap_limit, free_object, filled, value_arg, number_arg, HostState};
+ghost use Rattle.host_calls.specs.Host.{result_of, parameters_of, byte_of, getchar, putchar, malloc, free, free_named, memset, called, same_scalar, same_result, have_kinds, values_of, host, heap_limit, free_object, filled, value_arg, number_arg, HostState};
 ghost use Rattle.host_calls.specs.Counted.{IsCounted, state, Answers};
 
 use crate::names::HostName;

@@ -1,13 +1,13 @@
-ghost use Rattle.std.specs.Prelude.{◌≡◌, ◌↔◌, ◌<◌, ◌≤◌, ◌+◌, ◌^◌, ℕ, true, false, Some, None, length, MatchResult, MatchOption, IfOk, OnOk, IfSome, IsSome, IsTrue, slice_get, slice_index};
+ghost use Rattle.std.specs.Prelude.{◌≡◌, ◌↔◌, ◌<◌, ◌+◌, ◌^◌, ℕ, true, false, Some, None, length, MatchResult, MatchOption, IfOk, OnOk, IfSome, IsSome, IsTrue, slice_get};
 ghost use Rattle.type_graph.specs.declared.aggregates.Member.{Member};
 ghost use Rattle.type_graph.specs.declared.layout.Layout.{Layout};
 ghost use Rattle.type_graph.specs.Shapes.{shape};
 ghost use Rattle.cil_base.specs.declared.kinds.Abi.{Abi};
 ghost use Rattle.type_graph.specs.Arena.{IsArena, empty_graph};
-ghost use Rattle.type_graph.specs.Layouts.{AggLayout, nothing_placed, enum_layout, without_elements as no_elements};
+ghost use Rattle.type_graph.specs.Layouts.{nothing_placed, enum_layout, without_elements as no_elements};
 ghost use Rattle.layout_lp64.specs.Capped.{resolve, copies, member_span, capped_all, capped_finished, capped_members, capped_aggregate};
-ghost use Rattle.layout_lp64.specs.Placements.{placed_of, seen};
-ghost use Rattle.layout_lp64.specs.Tables.{agg_found, whole_found, found, found_offset, AreSpans, AreTables, InStep, WereInStep, AreAligned, AddsSpan, AddsLayout, AddsAggs, AddsSpans, AddsLayouts, AggregatesFit, TypesFit, AggsFit, FitsOrNew, IsLeastLarge, is_large};
+ghost use Rattle.layout_lp64.specs.Placements.{seen};
+ghost use Rattle.layout_lp64.specs.Tables.{whole_found, found, found_offset, AreSpans, AreTables, InStep, WereInStep, AreAligned, AddsSpan, AddsLayout, AddsAggs, AddsSpans, AddsLayouts, AggregatesFit, TypesFit, AggsFit, FitsOrNew, IsLeastLarge, is_large};
 ghost use Rattle.layout_lp64.specs.Stops.{StopsAt};
 ghost use Rattle.std.specs.Option.{option_and_then, option_map};
 

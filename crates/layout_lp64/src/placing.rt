@@ -1,8 +1,6 @@
-ghost use Rattle.std.specs.Prelude.{◌≡◌, ◌<◌, true, false, Some, None, Option, ℕ, map, IfOk};
-ghost use Rattle.std.specs.Option.{option_map};
+ghost use Rattle.std.specs.Prelude.{◌≡◌, ◌<◌, IfOk};
 ghost use Rattle.type_graph.specs.Layouts.{nothing_placed};
 ghost use Rattle.type_graph.specs.declared.layout.Layout.{Layout};
-ghost use Rattle.type_graph.specs.declared.aggregates.Member.{Member};
 ghost use Rattle.layout_lp64.specs.Capped.{capped_step, capped_finished};
 ghost use Rattle.layout_lp64.specs.Placements.{placed_of, seen};
 

@@ -1,6 +1,6 @@
-ghost use Rattle.std.specs.Prelude.{◌≡◌, ◌<◌, ◌≤◌, length, IfOk};
+ghost use Rattle.std.specs.Prelude.{◌≡◌, ◌<◌, length, IfOk};
 ghost use Rattle.type_graph.specs.Shapes.{shape, shapes_of, FuncType, AggType};
-ghost use Rattle.type_graph.specs.Arena.{IsArena, NamesBelow, EachType, HasKind};
+ghost use Rattle.type_graph.specs.Arena.{NamesBelow, EachType, HasKind};
 ghost use Rattle.type_graph.specs.Growth.{Grows, KeepsAggregates, GainsOnly};
 ghost use Rattle.map_graph.specs.Mapped.{kept_quals, number_in, Maps, GainsMapped};
 ghost use Rattle.map_graph.specs.Steps.{type_in, at_places, node_mapped, Gives};

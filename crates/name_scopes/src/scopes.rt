@@ -1,5 +1,5 @@
 ghost use Rattle.std.specs.Prelude.{◌≡◌, ◌≤◌, List, [], ◌∷◌, ◌++◌, length, map, OnOk, OnErr, IfSome, IfNone};
-ghost use Rattle.name_scopes.specs.Scopes.{Scope, found, declared};
+ghost use Rattle.name_scopes.specs.Scopes.{found, declared};
 ghost use Rattle.name_scopes.specs.Undo.{pair_of};
 
 use crate::log::{Entry, close_scope, enter_declaration, open_scope, take_back, told};

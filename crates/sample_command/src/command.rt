@@ -1,5 +1,4 @@
-ghost use Rattle.std.specs.Prelude.{◌≡◌, ◌≢◌, ◌≤◌, ◌<◌, ℕ, false, None, length, map, vec_len, IfOk};
-ghost use Rattle.std.specs.String.{string_bytes};
+ghost use Rattle.std.specs.Prelude.{◌≡◌, ◌≢◌, ◌≤◌, ◌<◌, ℕ, false, None, length, IfOk};
 ghost use Rattle.c_lexer.specs.Lexed.{IfRefused};
 ghost use Rattle.outside.specs.Counts.{Rose};
 ghost use Rattle.cil_tree.specs.View.{program_of};

@@ -1,8 +1,8 @@
-ghost use Rattle.std.specs.Prelude.{◌≡◌, ◌<◌, ◌+◌, ◌++◌, ◌^◌, ◌==◌, ◌%◌, map, IfOk, OnOk, if◌then◌else◌};
+ghost use Rattle.std.specs.Prelude.{◌≡◌, ◌<◌, ◌+◌, ◌++◌, ◌^◌, ◌==◌, ◌%◌, map, IfOk, OnOk};
 ghost use Rattle.std.specs.List.{concat, range_with_len};
 ghost use Rattle.std.specs.String.{string_bytes};
-ghost use Rattle.sample_units.specs.Draws.{next_state as the_next, drawn as the_drawn, state_at};
-ghost use Rattle.sample_units.specs.Units.{struct_lines, work_lines, declaration_line, call_line, main_lines, rest_lines, unit_text as the_text, unit_texts, file_name as the_name, file_names};
+ghost use Rattle.sample_units.specs.Draws.{next_state as the_next, drawn as the_drawn};
+ghost use Rattle.sample_units.specs.Units.{struct_lines, work_lines, declaration_line, call_line, main_lines, rest_lines, unit_texts, file_name as the_name, file_names};
 
 use crate::pieces::push_pieces;
 use crate::words::{

@@ -1,4 +1,4 @@
-ghost use Rattle.std.specs.Prelude.{◌≡◌, map, OnOk, IfOk};
+ghost use Rattle.std.specs.Prelude.{◌≡◌, map, IfOk};
 ghost use Rattle.cil_base.specs.NamePool.{Stays};
 ghost use Rattle.fresh_names.specs.Giving.{IsReady};
 ghost use Rattle.static_rename.specs.Files.{HaveTexts, AreKept};

@@ -1,4 +1,4 @@
-ghost use Rattle.std.specs.Prelude.{◌≡◌, ◌<◌, ℕ, Bool, true, None, length, IsTrue};
+ghost use Rattle.std.specs.Prelude.{◌≡◌, ◌<◌, Bool, true, None, length, IsTrue};
 ghost use Rattle.type_graph.specs.declared.aggregates.AggKind.{AggKind};
 ghost use Rattle.type_graph.specs.Arena.{NamesBelow, HasKind, EachType, complete, members_of, members_fit};
 

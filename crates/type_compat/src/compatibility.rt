@@ -1,5 +1,5 @@
 ghost use Rattle.std.specs.Prelude.{◌≡◌, ◌<◌, length, IsTrue};
-ghost use Rattle.type_graph.specs.Shapes.{shape, shape_of, shapes_of, VoidType, IntType, PtrType, ArrayType, FuncType, AggType};
+ghost use Rattle.type_graph.specs.Shapes.{shape, shapes_of, VoidType, IntType, PtrType, ArrayType, FuncType, AggType};
 ghost use Rattle.type_graph.specs.Arena.{EachType};
 ghost use Rattle.type_compat.specs.Pairs.{AllCompatible};
 ghost use Rattle.type_compat.specs.Compatible.{same_quals, same_bounds, is_enum, survives, plain_prototype, compatible_shape, compatible_shapes};

@@ -1,6 +1,6 @@
-ghost use Rattle.std.specs.Prelude.{◌≡◌, ◌<◌, ◌≤◌, ◌++◌, ℕ, true, false, length, IfOk, OnOk, OnErr, Ok, MatchOption, IfSome, Some, None};
-ghost use Rattle.type_graph.specs.Shapes.{shape, shape_of, shapes_of, VoidType, IntType, PtrType, ArrayType, FuncType, AggType};
-ghost use Rattle.type_graph.specs.Arena.{EachType, IsArena};
+ghost use Rattle.std.specs.Prelude.{◌≡◌, ◌<◌, true, length, IfOk, OnOk, Ok, IfSome, Some, None};
+ghost use Rattle.type_graph.specs.Shapes.{shape, shapes_of, PtrType, ArrayType, FuncType};
+ghost use Rattle.type_graph.specs.Arena.{EachType};
 ghost use Rattle.type_graph.specs.Growth.{Grows, KeepsAggregates, GainsOnly};
 ghost use Rattle.type_compat.specs.Pairs.{AllComposed};
 ghost use Rattle.type_compat.specs.Parts.{GainsParts, GainsAmong};

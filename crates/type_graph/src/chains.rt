@@ -1,5 +1,5 @@
-ghost use Rattle.std.specs.Prelude.{◌≡◌, ℕ, suc, ◌+◌, ◌*◌, ◌%◌, ◌^◌, ◌<◌, ◌≤◌, Some, [], length, replicate, MatchOption, IfOk, IfErr, OnOk, OnErr, slice_get};
-ghost use Rattle.type_graph.specs.Linked.{node_hash, mixed, mixed_all, quals_hash, bound_hash, IsLinked, IsChained, HasRoom, HadRoom, IsAhead};
+ghost use Rattle.std.specs.Prelude.{◌≡◌, ℕ, suc, ◌+◌, ◌*◌, ◌%◌, ◌^◌, ◌<◌, ◌≤◌, Some, [], length, MatchOption, IfOk, OnOk, OnErr, slice_get};
+ghost use Rattle.type_graph.specs.Linked.{node_hash, mixed, mixed_all, quals_hash, bound_hash, IsLinked, IsChained, HasRoom, HadRoom};
 
 use crate::nodes::{Node, Quals};
 use cil_base::{Memory, TypeId};

@@ -1,9 +1,7 @@
-ghost use Rattle.std.specs.Prelude.{◌≡◌, ◌≤◌, ◌<◌, true, false, Some, None, [], ◌∷◌, ◌++◌, length, is_some, IsTrue, MatchOption, IsOk, IfOk, OnOk, OnErr, slice_get, slice_set, ℕ};
+ghost use Rattle.std.specs.Prelude.{◌≡◌, ◌<◌, true, false, Some, None, [], ◌∷◌, ◌++◌, length, is_some, IsTrue, MatchOption, IsOk, IfOk, OnOk, OnErr, slice_get, slice_set, ℕ};
 ghost use Rattle.cil_base.specs.declared.kinds.Abi.TheVariants.{Lp64};
 ghost use Rattle.cil_base.specs.declared.numbers.AggId.{AggId};
 ghost use Rattle.type_graph.specs.declared.aggregates.Aggregate.{Aggregate};
-ghost use Rattle.type_graph.specs.declared.aggregates.Member.{Member};
-ghost use Rattle.std.specs.Prelude.{List};
 ghost use Rattle.type_graph.specs.Shapes.{shape, shape_of};
 ghost use Rattle.type_graph.specs.Arena.{IsArena, NamesBelow, HasKind, empty_graph, complete, members_of, members_fit, member_count};
 ghost use Rattle.type_graph.specs.Growth.{Grows, AddsNode, KeepsAggregates, with_agg, with_members, renamed};

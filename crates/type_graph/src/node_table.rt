@@ -1,5 +1,4 @@
 ghost use Rattle.std.specs.Prelude.{◌≡◌, ℕ, ◌+◌, ◌^◌, ◌<◌, Some, [], ◌∷◌, ◌++◌, length, MatchOption, OnOk, OnErr, slice_get};
-ghost use Rattle.type_graph.specs.Linked.{HadRoom};
 
 use crate::chains::Chains;
 use crate::nodes::Node;

@@ -1,6 +1,6 @@
 ghost use Rattle.std.specs.Prelude.{◌≡◌, ℕ, ◌<◌, List, [], ◌∷◌, ◌++◌, length, IsTrue, MatchBool, MatchOption, IfOk, OnOk};
 ghost use Rattle.type_things.specs.Things.{labels, Agree, IsClash};
-ghost use Rattle.type_joins.specs.Forests.{root, IsForest, joined};
+ghost use Rattle.type_joins.specs.Forests.{root, IsForest};
 ghost use Rattle.type_joins.specs.Joined.{zipped, chosen, carried, IsJoining};
 ghost use Rattle.type_things.specs.Webs.{things_of};
 

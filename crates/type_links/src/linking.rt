@@ -1,4 +1,4 @@
-ghost use Rattle.std.specs.Prelude.{◌≡◌, ℕ, List, [], ◌∷◌, ◌++◌, IsTrue, map, length, slice_get, MatchOption, IfOk, OnOk};
+ghost use Rattle.std.specs.Prelude.{◌≡◌, ℕ, List, [], ◌∷◌, ◌++◌, IsTrue, map, length, MatchOption, IfOk, OnOk};
 ghost use Rattle.type_things.specs.Things.{IsClash};
 ghost use Rattle.type_joins.specs.Forests.{root, IsForest};
 ghost use Rattle.type_joins.specs.Joined.{IsJoining};

@@ -1,4 +1,4 @@
-ghost use Rattle.std.specs.Prelude.{◌≡◌, ℕ, ◌+◌, ◌≤◌, List, [], ◌∷◌, ◌++◌, Some, None, map, length, is_some, slice_get, IfOk, OnOk};
+ghost use Rattle.std.specs.Prelude.{◌≡◌, ℕ, ◌+◌, List, [], ◌∷◌, ◌++◌, Some, None, map, length, is_some, slice_get, IfOk, OnOk};
 ghost use Rattle.type_things.specs.Units.{plain, compared, member_part, aggregate_thing, type_thing, aggregates_from, types_from, aggregate_count, firsts_from};
 ghost use Rattle.type_things.specs.Heads.{first_type, is_enum, is_open, is_bounded, lacks_prototype, has_prototype, parts_of, first_part};
 ghost use Rattle.type_things.specs.Weaving.{IsSpanned, Adds, Closes, AreStems, AreSomeStems, AllArenas, IsWoven};

@@ -1,5 +1,4 @@
-ghost use Rattle.std.specs.Prelude.{◌≡◌, ◌||◌, false, true, suc, max, IfOk};
-ghost use Rattle.type_graph.specs.declared.nodes.Node.{Node};
+ghost use Rattle.std.specs.Prelude.{◌||◌, false, true, suc, max, IfOk};
 ghost use Rattle.type_graph.specs.Shapes.{shape};
 ghost use Rattle.typed_tree.specs.Tree as tree;
 ghost use Rattle.typed_tree.specs.View.{form_of, typed_of, arguments_of, typed_init_of};

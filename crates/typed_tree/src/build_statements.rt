@@ -1,4 +1,4 @@
-ghost use Rattle.std.specs.Prelude.{◌≡◌, max, IfOk};
+ghost use Rattle.std.specs.Prelude.{max};
 ghost use Rattle.std.specs.Option.{option_map};
 ghost use Rattle.typed_tree.specs.Statements as tree;
 ghost use Rattle.typed_tree.specs.StatementView.{stmts_of, top_stmts, top_maybe, top_maybe_init};

@@ -2,7 +2,6 @@ ghost use Rattle.std.specs.Prelude.{◌≡◌, suc, max, List, map};
 ghost use Rattle.type_graph.specs.declared.nodes.Node.{Node};
 ghost use Rattle.type_graph.specs.Shapes.{shape};
 ghost use Rattle.typed_tree.specs.StatementView.{stmts_of, top_stmts};
-ghost use Rattle.typed_tree.specs.Units.{Function, Entity as TreeEntity, Unit as TreeUnit};
 ghost use Rattle.typed_tree.specs.UnitView.{local_of, literal_of, function_of, definition_of, entity_of, unit_of, top_locals, top_literals, top_function, top_definition, top_entity};
 
 use crate::statements::TypedStmt;

@@ -1,4 +1,4 @@
-ghost use Rattle.std.specs.Prelude.{◌≡◌, ◌<◌, ◌↔◌, ◌⊎◌, cond, length, IsTrue, OnOk, OnErr};
+ghost use Rattle.std.specs.Prelude.{◌≡◌, ◌<◌, ◌↔◌, cond, length, IsTrue, OnOk, OnErr};
 ghost use Rattle.cil_base.specs.contracts.numbers.AggIdPartialEq.TheImpl.{ghosts};
 ghost use Rattle.cil_base.specs.declared.numbers.AggId.{AggId as SeenAggId};
 ghost use Rattle.type_graph.specs.Shapes.{shape};

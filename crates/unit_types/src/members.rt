@@ -3,7 +3,7 @@ ghost use Rattle.type_graph.specs.declared.aggregates.Aggregate.{Aggregate};
 ghost use Rattle.type_graph.specs.Shapes.{shape};
 ghost use Rattle.type_graph.specs.Arena.{complete, flexible_shape, is_struct, members_of, members_fit};
 ghost use Rattle.type_graph.specs.declared.nodes.Node.{Node};
-ghost use Rattle.unit_types.specs.Normal.{is_plain, bears, is_normal, normal_node, normal_member, normal_members, NormalFrom};
+ghost use Rattle.unit_types.specs.Normal.{is_plain, bears, is_normal, normal_node, normal_members, NormalFrom};
 
 use cil_base::{AggId, TypeId};
 use type_graph::{AggKind, Member, Node, QualType, Quals, TypeGraph};

@@ -1,8 +1,8 @@
 ghost use Rattle.std.specs.Prelude.{◌≡◌, ◌<◌, true, false, None, Some, length, slice_get, IfOk, IfErr, OnOk, OnErr};
 ghost use Rattle.type_graph.specs.declared.aggregates.Aggregate.{Aggregate};
 ghost use Rattle.type_graph.specs.Shapes.{shape, shape_of};
-ghost use Rattle.type_graph.specs.Arena.{IsArena, NamesBelow, HasKind, empty_graph, members_of, members_fit};
-ghost use Rattle.type_graph.specs.Growth.{Grows, AddsNode, KeepsAggregates, with_agg, with_members};
+ghost use Rattle.type_graph.specs.Arena.{NamesBelow, HasKind, empty_graph, members_of, members_fit};
+ghost use Rattle.type_graph.specs.Growth.{Grows, KeepsAggregates, with_agg, with_members};
 ghost use Rattle.layout_lp64.specs.Tables.{InStep, WereInStep};
 ghost use Rattle.layout_lp64.specs.Stops.{StopsAt};
 ghost use Rattle.layout_lp64.specs.declared.layouts.LayoutStop.TheVariants.{Memory as WantOfMemory};

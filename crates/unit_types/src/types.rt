@@ -1,8 +1,8 @@
-ghost use Rattle.std.specs.Prelude.{◌≡◌, ◌<◌, ◌≤◌, ◌↔◌, true, false, None, Some, length, slice_get, IfOk, IfErr, OnOk, OnErr, IsTrue};
+ghost use Rattle.std.specs.Prelude.{◌≡◌, ◌<◌, ◌↔◌, true, false, None, Some, length, slice_get, IfOk, IfErr, OnOk, IsTrue};
 ghost use Rattle.std.specs.Option.{option_map, option_and_then};
 ghost use Rattle.type_graph.specs.declared.aggregates.Aggregate.{Aggregate};
 ghost use Rattle.type_graph.specs.declared.layout.Layout.{Layout};
-ghost use Rattle.type_graph.specs.Shapes.{shape, shape_of, VoidType, IntType, PtrType, ArrayType, FuncType, AggType, shapes_of};
+ghost use Rattle.type_graph.specs.Shapes.{shape, VoidType, IntType, PtrType, ArrayType, FuncType, AggType, shapes_of};
 ghost use Rattle.type_graph.specs.declared.nodes.Node.TheVariants as node;
 ghost use Rattle.type_graph.specs.Arena.{IsArena, EachType, complete, empty_graph, members_of};
 ghost use Rattle.type_graph.specs.Growth.{Grows, KeepsAggregates, with_agg, with_members};
