@@ -1,5 +1,5 @@
 -- What the public calls answer, from what the readings give.
-use Rattle.std.proofs.Common.{◌≡◌, refl, sym, ◌∙◌, ap, subst, ℕ, suc, ◌+◌, List, drop, Ok, Err, Result, IfOk, IfErr}
+use Rattle.std.proofs.Common.{◌≡◌, refl, sym, ◌∙◌, ap, subst, ℕ, List, drop, Ok, Err, Result, IfOk, IfErr}
 use Rattle.typedef_scopes.specs.Scopes.{Scope}
 use Rattle.c_tree.specs.declared.level.Level.{Level}
 use Rattle.c_tree.specs.Syntax.{ExprTree, SpecifierTrees, DeclaratorTree, InitTree}
@@ -7,7 +7,6 @@ use Rattle.c_cursor.specs.declared.stops.ParseStop.{ParseStop}
 use Rattle.c_cursor.specs.declared.stops.ParseStop.TheVariants.{At, Memory}
 use Rattle.c_exprs.specs.declared.words.SpecifierForm.TheVariants.{Declaration as InDeclaration}
 use Rattle.c_exprs.specs.declared.words.DeclaratorForm.TheVariants.{Definition as InDefinition, Member as InMember}
-use Rattle.c_cursor.specs.Readers.{Input, input}
 use Rattle.c_cursor.specs.Lexemes.{Standing, ahead}
 use Rattle.c_cursor.specs.Given.{Fails, Gives}
 use Rattle.c_exprs.specs.Subs.{In}

@@ -1,5 +1,5 @@
 -- A parameter list is left with the scopes in front of it.
-use Rattle.std.proofs.Common.{◌≡◌, refl, sym, ◌∙◌, ap, subst, ℕ, suc, ◌+◌, ◌≤◌, arith, Bool, List, [], ◌∷◌, ◌++◌, length, map, Ok}
+use Rattle.std.proofs.Common.{◌≡◌, refl, sym, ◌∙◌, ap, subst, ℕ, ◌≤◌, arith, Bool, List, [], ◌∷◌, ◌++◌, length, map, Ok}
 use Rattle.typedef_scopes.specs.Scopes.{Scope}
 use Rattle.cil_base.specs.declared.tokens.Punctuator.TheVariants.{RightParen}
 use Rattle.c_tree.specs.declared.expression.Parameter.{Parameter}

@@ -1,12 +1,11 @@
 -- What a class has of the next token, told by its kind.
 use Rattle.std.specs.Prelude.{if◌then◌else◌}
-use Rattle.std.proofs.Common.{◌≡◌, refl, sym, ◌∙◌, ap, subst, ℕ, ◌+◌, Bool, true, false, not, true≢false, ◌||◌, List, [], Option, Some, None, Result, Ok, Err, IfSome, IfOk}
+use Rattle.std.proofs.Common.{◌≡◌, refl, sym, ◌∙◌, ap, ℕ, ◌+◌, Bool, true, false, not, true≢false, ◌||◌, List, [], Option, Some, None, Ok}
 use Rattle.cil_base.specs.declared.numbers.NameId.{NameId}
 use Rattle.cil_base.specs.declared.tokens.TokenKind.{TokenKind}
 use Rattle.cil_base.specs.declared.tokens.TokenKind.TheVariants.{Name as IsName, Keyword as IsKeyword, Integer as IsInteger, Character as IsCharacter, Literal as IsLiteral, Punctuator as IsPunctuator}
 use Rattle.typedef_scopes.specs.Scopes.{Scope, is_type}
 use Rattle.c_tree.specs.Spelling.{Lexeme}
-use Rattle.c_cursor.specs.declared.stops.ParseStop.{ParseStop}
 use Rattle.c_cursor.specs.Readers.{head, one}
 use Rattle.c_cursor.specs.Classes.{fitting, has_text, a_name}
 use Rattle.c_exprs.specs.Classes.{is_empty, start_kind, start_fits, start_of, with_text, qualifier_kind, designation_kind, piece_kind, operator_kind, derivation_kind, an_identifier}

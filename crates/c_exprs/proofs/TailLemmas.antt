@@ -1,5 +1,5 @@
 -- A reading that ends in another, and gives what that gives.
-use Rattle.std.proofs.Common.{◌≡◌, refl, sym, ◌∙◌, ap, subst, ℕ, ◌≤◌, Bool, true, false, nat_le, List, Result, Ok}
+use Rattle.std.proofs.Common.{◌≡◌, sym, ◌∙◌, ap, subst, ℕ, ◌≤◌, Bool, true, false, nat_le, List, Result, Ok}
 use Rattle.cil_base.specs.declared.tokens.Punctuator.TheVariants.{Star as StarSign}
 use Rattle.typedef_scopes.specs.Scopes.{Scope}
 use Rattle.c_tree.specs.Syntax.{DeclaratorTree}

@@ -1,5 +1,5 @@
 -- The trees of a list, read one by one and put at its end.
-use Rattle.std.proofs.Common.{◌≡◌, refl, sym, ◌∙◌, ap, ℕ, max, Bool, true, false, not, ◌||◌, List, [], ◌∷◌, ◌++◌, map, length, arith}
+use Rattle.std.proofs.Common.{◌≡◌, refl, ◌∙◌, ap, Bool, true, false, not, ◌||◌, List, [], ◌∷◌, ◌++◌, map, length, arith}
 use Rattle.c_tree.specs.declared.words.Qualifier.{Qualifier}
 use Rattle.c_tree.specs.Levels.{has_some}
 use Rattle.c_tree.specs.declared.expression.Expr.{Expr}
@@ -13,7 +13,6 @@ use Rattle.c_tree.specs.declared.expression.Designator.{Designator}
 use Rattle.c_tree.specs.Syntax.{MoreExprs, MoreSpecifiers, MoreMembers, MoreMemberDeclarators, MoreEnumerators, MoreParameters, MoreItems, MoreDesignators}
 use Rattle.c_tree.specs.View.{expr_of, specifier_of, member_of, member_declarator_of, enumerator_of, parameter_of, item_of, designator_of, exprs_of, specifiers_of, members_of, member_declarators_of, enumerators_of, parameters_of, items_of, designators_of}
 use Rattle.c_tree.specs.Scoped.{names_type}
-use Rattle.c_tree.specs.Height.{expr_height, specifier_height, member_height, member_declarator_height, enumerator_height, parameter_height, item_height, designator_height, exprs_height, specifiers_height, members_height, member_declarators_height, enumerators_height, parameters_height, items_height, designators_height}
 use Rattle.c_exprs.specs.ExprReading.{expr_trees}
 use Rattle.c_exprs.specs.SpecifierReading.{some_typed, specifier_trees, member_trees, member_declarator_trees, enumerator_trees}
 use Rattle.c_exprs.specs.DeclaratorReading.{parameter_trees}

@@ -7,7 +7,7 @@ use Rattle.c_tree.specs.Spelling.{Lexeme}
 use Rattle.cil_base.specs.declared.tokens.Punctuator.TheVariants.{Comma as CommaSign}
 use Rattle.c_exprs.specs.declared.words.SpecifierForm.{SpecifierForm}
 use Rattle.c_exprs.specs.declared.words.DeclaratorForm.{DeclaratorForm}
-use Rattle.c_cursor.specs.Readers.{Reader, pure, fail, bind, one, when, many}
+use Rattle.c_cursor.specs.Readers.{Reader, pure, fail, bind, when, many}
 use Rattle.c_cursor.specs.Classes.{is_sign, next_is, take}
 
 -- what was read, and the scopes behind it

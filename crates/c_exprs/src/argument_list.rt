@@ -34,7 +34,6 @@ pub(crate) fn next_argument<L: TokenList>(
 
 /// All arguments behind some.
 #[cycle(reading)]
-#[tactic(auto, using(crate::proofs::ListLoops::growing_from, crate::proofs::ListLoops::growing_next, crate::proofs::ListLoops::growing_stops, crate::proofs::ListLoops::growing_ends))]
 pub(crate) fn more_arguments<L: TokenList>(
     alloc: Global,
     c: &mut Cursor<L>,

@@ -18,7 +18,6 @@ use std::alloc::Global;
 use typedef_scopes::Scopes;
 
 /// Any number of type qualifiers (C11 6.7.3).
-#[tactic(auto, using(c_cursor::proofs::ListLoops::collecting_from, c_cursor::proofs::ListLoops::collecting_next, c_cursor::proofs::ListLoops::collecting_stops, c_cursor::proofs::ListLoops::collecting_ends))]
 pub(crate) fn qualifiers<L: TokenList>(
     alloc: Global,
     c: &mut Cursor<L>,

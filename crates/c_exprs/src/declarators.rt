@@ -65,7 +65,6 @@ pub(crate) fn derivation<L: TokenList>(
 
 /// All derivations behind a declarator.
 #[cycle(reading)]
-#[tactic(auto, using(crate::proofs::ListLoops::following_from, crate::proofs::ListLoops::following_next, crate::proofs::ListLoops::following_fails, crate::proofs::ListLoops::following_ends))]
 pub(crate) fn derivations<L: TokenList>(
     alloc: Global,
     c: &mut Cursor<L>,

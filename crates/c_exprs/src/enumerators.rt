@@ -64,7 +64,6 @@ pub(crate) fn next_enumerator<L: TokenList>(
 
 /// All enumerators behind some, and whether a comma stands behind the last.
 #[cycle(reading)]
-#[tactic(auto, using(crate::proofs::ListLoops::ending_from, crate::proofs::ListLoops::ending_next, crate::proofs::ListLoops::ending_stops, crate::proofs::ListLoops::ending_last, crate::proofs::ListLoops::ending_ends))]
 pub(crate) fn more_enumerators<L: TokenList>(
     alloc: Global,
     c: &mut Cursor<L>,

@@ -149,7 +149,6 @@ pub(crate) fn rise<L: TokenList>(
 
 /// All operators behind an operand, in an expression of that level (C11 6.5.2, 6.5.5 to 6.5.17).
 #[cycle(reading)]
-#[tactic(auto, using(crate::proofs::ListLoops::following_from, crate::proofs::ListLoops::following_next, crate::proofs::ListLoops::following_fails, crate::proofs::ListLoops::following_ends))]
 pub(crate) fn rises<L: TokenList>(
     alloc: Global,
     c: &mut Cursor<L>,

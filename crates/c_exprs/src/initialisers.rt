@@ -81,7 +81,6 @@ pub(crate) fn designator<L: TokenList>(
 
 /// All designators behind some.
 #[cycle(reading)]
-#[tactic(auto, using(crate::proofs::ListLoops::growing_from, crate::proofs::ListLoops::growing_next, crate::proofs::ListLoops::growing_stops, crate::proofs::ListLoops::growing_ends))]
 pub(crate) fn more_designators<L: TokenList>(
     alloc: Global,
     c: &mut Cursor<L>,
@@ -183,7 +182,6 @@ pub(crate) fn next_item<L: TokenList>(
 
 /// All items behind some, and whether a comma stands behind the last.
 #[cycle(reading)]
-#[tactic(auto, using(crate::proofs::ListLoops::ending_from, crate::proofs::ListLoops::ending_next, crate::proofs::ListLoops::ending_stops, crate::proofs::ListLoops::ending_last, crate::proofs::ListLoops::ending_ends))]
 pub(crate) fn more_items<L: TokenList>(
     alloc: Global,
     c: &mut Cursor<L>,

@@ -76,7 +76,6 @@ pub(crate) fn next_member_declarator<L: TokenList>(
 
 /// All declarators of members behind some.
 #[cycle(reading)]
-#[tactic(auto, using(crate::proofs::ListLoops::growing_from, crate::proofs::ListLoops::growing_next, crate::proofs::ListLoops::growing_stops, crate::proofs::ListLoops::growing_ends))]
 pub(crate) fn more_member_declarators<L: TokenList>(
     alloc: Global,
     c: &mut Cursor<L>,

@@ -82,7 +82,6 @@ pub(crate) fn next_parameter<L: TokenList>(
 
 /// All parameters behind some, and whether `, ...` ends them.
 #[cycle(reading)]
-#[tactic(auto, using(crate::proofs::ListLoops::ending_from, crate::proofs::ListLoops::ending_next, crate::proofs::ListLoops::ending_stops, crate::proofs::ListLoops::ending_last, crate::proofs::ListLoops::ending_ends))]
 pub(crate) fn more_parameters<L: TokenList>(
     alloc: Global,
     c: &mut Cursor<L>,
@@ -142,7 +141,6 @@ pub(crate) fn prototyped<L: TokenList>(
 }
 
 /// All identifiers of a list behind some.
-#[tactic(auto, using(crate::proofs::ListLoops::naming_from, crate::proofs::ListLoops::naming_next, crate::proofs::ListLoops::naming_stops, crate::proofs::ListLoops::naming_ends))]
 fn more_identifiers<L: TokenList>(
     c: &mut Cursor<L>,
     s: &Scopes,

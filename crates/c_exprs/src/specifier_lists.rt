@@ -24,7 +24,6 @@ use typedef_scopes::Scopes;
 
 /// All declarations among members behind some.
 #[cycle(reading)]
-#[tactic(auto, using(crate::proofs::ListLoops::growing_from, crate::proofs::ListLoops::growing_next, crate::proofs::ListLoops::growing_stops, crate::proofs::ListLoops::growing_ends))]
 pub(crate) fn more_members<L: TokenList>(
     alloc: Global,
     c: &mut Cursor<L>,
@@ -190,7 +189,6 @@ pub(crate) fn specifier<L: TokenList>(
 
 /// All specifiers behind some. `first_typed`: a type specifier is among them.
 #[cycle(reading)]
-#[tactic(auto, using(crate::proofs::ListLoops::specifying_from, crate::proofs::ListLoops::specifying_next, crate::proofs::ListLoops::specifying_stops, crate::proofs::ListLoops::specifying_ends, crate::proofs::TreeLists::typed_more))]
 pub(crate) fn more_specifiers<L: TokenList>(
     alloc: Global,
     c: &mut Cursor<L>,

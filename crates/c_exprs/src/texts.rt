@@ -15,7 +15,6 @@ use std::alloc::Global;
 use typedef_scopes::Scopes;
 
 /// How an expression of that level and height begins with the next token, if it can.
-#[tactic(auto, using(crate::proofs::NextLemmas::start_found, crate::proofs::NextLemmas::nothing_next))]
 fn next_start<L: TokenList>(c: &Cursor<L>, s: &Scopes, height: u32, level: Level) -> Option<Start>
     ensures found { IsStartNext result (next_of (start_of height level s.now) (head (ahead c.now).rest)) (head (ahead c.now).rest) }
     ensures room { IfSome result (λ _. c.now.at < length c.now.all) }

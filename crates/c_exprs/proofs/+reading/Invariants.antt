@@ -1,5 +1,5 @@
 -- The measure is the height that is left, and then how far a reading stands from those below it.
-use Rattle.std.proofs.Common.{◌≡◌, ◌≤◌, ◌<◌, ◌-◌, ◌+◌, ◌*◌, length, map, false}
+use Rattle.std.proofs.Common.{◌≡◌, ◌-◌, ◌+◌, ◌*◌, length, map, false}
 use Rattle.cil_base.specs.declared.tokens.Punctuator.TheVariants.{RightBrace, Ellipsis}
 use Rattle.c_tree.specs.declared.level.Level.TheVariants.{Assignment as AssignmentLevel}
 use Rattle.c_tree.specs.View.{expr_of, member_of, member_declarator_of, enumerator_of, specifier_of, parameter_of, declarator_of, designator_of, item_of}
