@@ -37,7 +37,6 @@ pub(crate) fn expr_below<L: TokenList>(
 }
 
 /// The specifiers of a declaration, lower than that height (C11 6.7).
-#[tactic(auto, using(crate::proofs::Lower::no_specifiers, crate::proofs::Lower::specifiers_same, crate::proofs::Lower::specifiers_fails))]
 pub(crate) fn specifiers_below<L: TokenList>(
     alloc: Global,
     c: &mut Cursor<L>,
@@ -54,7 +53,6 @@ pub(crate) fn specifiers_below<L: TokenList>(
 }
 
 /// A declarator that may be that of a function's definition, lower than that height (C11 6.7.6, 6.9.1).
-#[tactic(auto, using(crate::proofs::Lower::no_declarator, crate::proofs::Lower::declarator_same, crate::proofs::Lower::declarator_fails))]
 pub(crate) fn declarator_below<L: TokenList>(
     alloc: Global,
     c: &mut Cursor<L>,
@@ -71,7 +69,6 @@ pub(crate) fn declarator_below<L: TokenList>(
 }
 
 /// A declarator without an identifier list, lower than that height (C11 6.7.6).
-#[tactic(auto, using(crate::proofs::Lower::no_declarator, crate::proofs::Lower::declarator_same, crate::proofs::Lower::declarator_fails))]
 pub(crate) fn named_declarator_below<L: TokenList>(
     alloc: Global,
     c: &mut Cursor<L>,
@@ -88,7 +85,6 @@ pub(crate) fn named_declarator_below<L: TokenList>(
 }
 
 /// An initialiser, lower than that height (C11 6.7.9).
-#[tactic(auto, using(crate::proofs::Lower::no_init, crate::proofs::Lower::init_same, crate::proofs::Lower::init_fails))]
 pub(crate) fn init_below<L: TokenList>(
     alloc: Global,
     c: &mut Cursor<L>,

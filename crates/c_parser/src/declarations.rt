@@ -140,7 +140,6 @@ fn next_init_declarator<L: TokenList>(
 }
 
 /// All declarators with their initialisers behind some.
-#[tactic(auto, using(c_exprs::proofs::ListLoops::growing_from, c_exprs::proofs::ListLoops::growing_next, c_exprs::proofs::ListLoops::growing_stops, c_exprs::proofs::ListLoops::growing_ends))]
 pub(crate) fn more_init_declarators<L: TokenList>(
     alloc: Global,
     c: &mut Cursor<L>,

@@ -38,7 +38,6 @@ use std::alloc::Global;
 use typedef_scopes::Scopes;
 
 /// Declarations before the body of a function with an identifier list (C11 6.9.1p6).
-#[tactic(auto, using(c_exprs::proofs::ListLoops::growing_from, c_exprs::proofs::ListLoops::growing_next, c_exprs::proofs::ListLoops::growing_stops, c_exprs::proofs::ListLoops::growing_ends))]
 fn declarations<L: TokenList>(
     alloc: Global,
     c: &mut Cursor<L>,
@@ -88,7 +87,6 @@ fn enter_function(s: &mut Scopes, d: &FullDeclarator) -> Result<(), ParseStop>
 }
 
 /// A function's definition behind its declarator, whose name is declared (C11 6.9.1).
-#[tactic(auto, using(crate::proofs::Kept::two_kept))]
 fn definition<L: TokenList>(
     alloc: Global,
     c: &mut Cursor<L>,

@@ -87,7 +87,6 @@ fn more_externals<L: TokenList>(
 }
 
 /// Reads external declarations, at least one, from the first token of a unit to its end.
-#[tactic(auto, using(crate::proofs::UnitWhole::behind_first, crate::proofs::UnitWhole::some_pushed, crate::proofs::UnitWhole::stops_first, crate::proofs::UnitWhole::reads_same, crate::proofs::UnitWhole::stops_same))]
 fn externals<L: TokenList>(
     alloc: Global,
     c: &mut Cursor<L>,
