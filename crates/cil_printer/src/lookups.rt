@@ -34,7 +34,6 @@ impl<'a> Program<'a> {
     }
 
     /// The name of a global.
-    #[tactic(auto, using(crate::proofs::Found::global_named, crate::proofs::Found::global_unnamed))]
     pub(crate) fn global_name(&self, e: EntityId) -> &[u8]
         ensures { result.now ≡ global_name (tree_of self.now) e.0 }
     {
@@ -45,7 +44,6 @@ impl<'a> Program<'a> {
     }
 
     /// The type of a global.
-    #[tactic(auto, using(crate::proofs::Found::global_typed))]
     pub(crate) fn global_type(&self, e: EntityId) -> Option<TypeId>
         ensures { seen (tree_of self.now).graph.nodes result ≡ global_type (tree_of self.now) e.0 }
     {

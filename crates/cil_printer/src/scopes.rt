@@ -9,7 +9,6 @@ use cil_base::{BinOp, LabelId, LocalId, TypeId};
 
 impl<'a> Function<'a> {
     /// The name of a local.
-    #[tactic(auto, using(crate::proofs::Found::local_named, crate::proofs::Found::local_unnamed))]
     pub(crate) fn local_name(&self, l: LocalId) -> &[u8]
         ensures { result.now ≡ local_name (scope_in self.now).locals l.0 }
     {
@@ -20,7 +19,6 @@ impl<'a> Function<'a> {
     }
 
     /// The type of a local.
-    #[tactic(auto, using(crate::proofs::Found::local_typed))]
     pub(crate) fn local_type(&self, l: LocalId) -> Option<TypeId>
         ensures { seen (nodes_in self.now) result ≡ local_type (scope_in self.now).locals l.0 }
     {
