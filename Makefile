@@ -22,7 +22,7 @@ first: program
 test:
 	.ci/run
 
-# Edits of crates whose check takes minutes, which the gate leaves out: the prover must refuse each.
+# Edits of dearer crates, which the gate leaves out: the prover must refuse each.
 try-edits:
 	scripts/try-edits
 
