@@ -1,5 +1,6 @@
 -- Device: what is found first of units is what is defined: their first refusal, or that all are read.
 use Rattle.std.proofs.Common.{◌≡◌, ℕ, suc, ◌+◌, ◌<◌, ◌≤◌, Bool, true, false, nat_lt, List, [], ◌∷◌, ◌++◌, length, Option, Some, None, Result, Ok, Err, refl, sym, ap, subst, arith}
+use Rattle.cil_base.specs.Limits.{total_bytes, unit_bytes}
 use Rattle.cil_base.specs.declared.faults.Fault.{Fault}
 use Rattle.cil_base.specs.declared.faults.Fault.TheVariants.{Syntax}
 use Rattle.cil_base.specs.declared.faults.Place.{Place}
@@ -21,7 +22,7 @@ use Rattle.c_parser.specs.UnitStops.{AnswersUnit}
 use Rattle.c_parser.proofs.UnitWhole.{answers_unit}
 use Rattle.c_typing.specs.Scopes.{Env, Found, Good, Bad}
 use Rattle.c_typing.specs.Faults.{walked, first_fault, fault_in}
-use Rattle.c_faults.specs.Reading.{Source, Read, IsWithin, greatest_unit, greatest_total, HasTokens, IsRead, Begins, refusal_at, IsUnitFault, TooLarge, TooMuch, OfToken, OfGrammar, OfWalk}
+use Rattle.c_faults.specs.Reading.{Source, Read, IsWithin, HasTokens, IsRead, Begins, refusal_at, IsUnitFault, TooLarge, TooMuch, OfToken, OfGrammar, OfWalk}
 use Rattle.c_faults.specs.Definitions.{first_twice, duplicate}
 use Rattle.c_faults.specs.Acceptance.{AreRead, total_of, names_behind, Clashes, FaultAt, InUnit, Twice, Accepted}
 use Rattle.c_faults.specs.FirstRefusal.{Finding, IsWhole, IsRefused, Stops, Lost, refused, after_walk, stops_from, syntax_fault, placed_stop, after_stop, after_grammar, after_tokens, tokens_of, within_total, within_unit, finding, Findings, AllWhole, OneRefused, OneStops, OneLost, with_read, on_finding, findings, refusal_for_two, refusal_of, first_refusal}
@@ -76,16 +77,16 @@ is_less m n e = grind arith
 is_most : (m n : ℕ) → nat_lt m n ≡ false → n ≤ m
 is_most m n e = grind arith
 
-of_total : (abi : Abi) (total : ℕ) (names : List (List ℕ)) (u : Source) → length u.bytes ≤ greatest_unit → (b : Bool) → nat_lt greatest_total (total + length u.bytes) ≡ b → Finds abi total names u (within_total abi total names u b)
-of_total abi total names u l true e = TooMuch l (is_less greatest_total (total + length u.bytes) e)
-of_total abi total names u l false e = of_tokens abi total names u (record { alone = l; together = is_most greatest_total (total + length u.bytes) e }) (tokens_of names u) refl
+of_total : (abi : Abi) (total : ℕ) (names : List (List ℕ)) (u : Source) → length u.bytes ≤ unit_bytes → (b : Bool) → nat_lt total_bytes (total + length u.bytes) ≡ b → Finds abi total names u (within_total abi total names u b)
+of_total abi total names u l true e = TooMuch l (is_less total_bytes (total + length u.bytes) e)
+of_total abi total names u l false e = of_tokens abi total names u (record { alone = l; together = is_most total_bytes (total + length u.bytes) e }) (tokens_of names u) refl
 
-of_unit : (abi : Abi) (total : ℕ) (names : List (List ℕ)) (u : Source) (b : Bool) → nat_lt greatest_unit (length u.bytes) ≡ b → Finds abi total names u (within_unit abi total names u b)
-of_unit abi total names u true e = TooLarge (is_less greatest_unit (length u.bytes) e)
-of_unit abi total names u false e = of_total abi total names u (is_most greatest_unit (length u.bytes) e) (nat_lt greatest_total (total + length u.bytes)) refl
+of_unit : (abi : Abi) (total : ℕ) (names : List (List ℕ)) (u : Source) (b : Bool) → nat_lt unit_bytes (length u.bytes) ≡ b → Finds abi total names u (within_unit abi total names u b)
+of_unit abi total names u true e = TooLarge (is_less unit_bytes (length u.bytes) e)
+of_unit abi total names u false e = of_total abi total names u (is_most unit_bytes (length u.bytes) e) (nat_lt total_bytes (total + length u.bytes)) refl
 
 finds : (abi : Abi) (total : ℕ) (names : List (List ℕ)) (u : Source) → Finds abi total names u (finding abi total names u)
-finds abi total names u = of_unit abi total names u (nat_lt greatest_unit (length u.bytes)) refl
+finds abi total names u = of_unit abi total names u (nat_lt unit_bytes (length u.bytes)) refl
 
 -- units in order
 

@@ -1,5 +1,6 @@
 -- Device: the first refusal of units, executably, for rows. The law `refusal_is_first` says that it is the one that is defined: of a syntax fault, where the tokens in front of its second place begin an external declaration.
 use Rattle.std.specs.Prelude.{ℕ, zero, suc, ◌+◌, Bool, true, false, nat_lt, List, [], ◌∷◌, length, Option, Some, None, Result, Ok, Err}
+use Rattle.cil_base.specs.Limits.{total_bytes, unit_bytes}
 use Rattle.cil_base.specs.declared.faults.Fault.TheVariants.{Syntax}
 use Rattle.cil_base.specs.declared.faults.Place.{Place}
 use Rattle.cil_base.specs.declared.faults.What.TheVariants.{UnitBytes, TotalBytes}
@@ -19,7 +20,7 @@ use Rattle.c_parser.specs.StatementWords.{token_ahead}
 use Rattle.c_parser.specs.UnitReading.{external_of, unit}
 use Rattle.c_typing.specs.Scopes.{Env, Found, Good, Bad}
 use Rattle.c_typing.specs.Faults.{walked}
-use Rattle.c_faults.specs.Reading.{Source, Read, greatest_unit, greatest_total, over, refusal_at}
+use Rattle.c_faults.specs.Reading.{Source, Read, over, refusal_at}
 use Rattle.c_faults.specs.Definitions.{first_twice, duplicate}
 
 -- what is found of a unit
@@ -78,10 +79,10 @@ within_total abi total names u false = after_tokens abi u (tokens_of names u)
 
 abbrev pub within_unit : Abi → ℕ → List (List ℕ) → Source → Bool → Finding
 within_unit abi total names u true = IsRefused (over UnitBytes u)
-within_unit abi total names u false = within_total abi total names u (nat_lt greatest_total (total + length u.bytes))
+within_unit abi total names u false = within_total abi total names u (nat_lt total_bytes (total + length u.bytes))
 
 abbrev pub finding : Abi → ℕ → List (List ℕ) → Source → Finding
-finding abi total names u = within_unit abi total names u (nat_lt greatest_unit (length u.bytes))
+finding abi total names u = within_unit abi total names u (nat_lt unit_bytes (length u.bytes))
 
 -- of all units, one behind the other
 pub data Findings : Type 0 where

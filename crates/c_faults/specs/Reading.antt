@@ -1,6 +1,7 @@
 -- Definition: what is read of a translation unit of bytes (C11 5.1.1.2p1, phases 5 to 7), and what it is refused for, in the order in which it is looked at (own): its bytes, its tokens, its grammar, its declarations and expressions.
 use Rattle.std.specs.Prelude.{◌≡◌, ℕ, ◌+◌, ◌<◌, ◌≤◌, List, ◌++◌, length, Option, Some, None}
 use Rattle.std.specs.Option.{option_map}
+use Rattle.cil_base.specs.Limits.{total_bytes, unit_bytes}
 use Rattle.cil_base.specs.declared.faults.Fault.{Fault}
 use Rattle.cil_base.specs.declared.faults.Fault.TheVariants.{Limit}
 use Rattle.cil_base.specs.declared.faults.What.{What}
@@ -28,17 +29,10 @@ pub record Source : Type 0 where
   pub unit : UnitNo
   pub file : NameId
 
--- the most bytes of a unit, and of the units so far (own)
-abbrev pub greatest_unit : ℕ
-greatest_unit = 4194304
-
-abbrev pub greatest_total : ℕ
-greatest_total = 16777216
-
 -- a unit whose bytes pass neither limit, where so many are behind
 pub record IsWithin (total : ℕ) (u : Source) : Type 0 where
-  pub alone : length u.bytes ≤ greatest_unit
-  pub together : total + length u.bytes ≤ greatest_total
+  pub alone : length u.bytes ≤ unit_bytes
+  pub together : total + length u.bytes ≤ total_bytes
 
 -- the refusal of a unit that passes a limit, at its first token (own)
 abbrev pub over : What → Source → Refusal
@@ -92,8 +86,8 @@ refusal_at t x = option_map (λ (place : Place). record { fault = x.0; at = plac
 
 -- why a unit is refused, where units of so many bytes are before it
 pub data IsUnitFault (abi : Abi) (total : ℕ) (names : List (List ℕ)) (u : Source) : Refusal → Type 0 where
-  TooLarge : greatest_unit < length u.bytes → IsUnitFault abi total names u (over UnitBytes u)
-  TooMuch : length u.bytes ≤ greatest_unit → greatest_total < total + length u.bytes → IsUnitFault abi total names u (over TotalBytes u)
+  TooLarge : unit_bytes < length u.bytes → IsUnitFault abi total names u (over UnitBytes u)
+  TooMuch : length u.bytes ≤ unit_bytes → total_bytes < total + length u.bytes → IsUnitFault abi total names u (over TotalBytes u)
   OfToken : (refusal : Refusal) (behind : List (List ℕ)) → IsWithin total u → IsAnswer u.unit u.file names u.bytes (Refused refusal behind) → IsUnitFault abi total names u refusal
   OfGrammar : (refusal : Refusal) (t : Lexed) (behind : List (List ℕ)) → IsWithin total u → HasTokens u names t behind → IsFirstSyntaxFault t refusal → IsUnitFault abi total names u refusal
   OfWalk : (refusal : Refusal) (t : Lexed) (behind : List (List ℕ)) (tree : UnitTree) (x : Fault × ℕ)

@@ -1,5 +1,6 @@
 -- Device: what the reader of the code knows, and how its answers follow the definition's outcomes.
 use Rattle.std.specs.Prelude.{◌≡◌, ℕ, ◌+◌, ◌≤◌, List, length, reverse, Result, Ok, Err, All}
+use Rattle.cil_base.specs.Limits.{unit_bytes}
 use Rattle.cil_base.specs.declared.faults.Stop.{Stop}
 use Rattle.cil_base.specs.declared.faults.Stop.TheVariants.{Refused as IsRefused, Memory as IsMemory}
 use Rattle.c_lexer.specs.declared.reader.Reader.{Reader}
@@ -23,7 +24,7 @@ Refuses IsMemory outcome names = ⊥
 -- numbers are in range
 pub record IsBounded (limit : ℕ) (r : Reader) : Type 0 where
   pub same : r.limit ≡ limit
-  pub low : limit ≤ 4194304
+  pub low : limit ≤ unit_bytes
   pub line : r.spot.line ≤ 2147483648 + r.spot.start
   pub few : length r.entries.items ≤ r.spot.start
   pub all : All (IsWithin limit) r.entries.items

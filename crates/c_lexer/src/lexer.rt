@@ -3,6 +3,7 @@ ghost use Rattle.c_lexer.specs.Longest.{fresh_behind};
 ghost use Rattle.c_lexer.specs.Automaton.{pieces};
 ghost use Rattle.c_lexer.specs.Tokens.{Answer, IsAnswer, read, begun};
 ghost use Rattle.c_lexer.specs.Lexed.{Gives, IfAnswered, IfRefused, IsTokenRefusal, Grows, PlacesWithin};
+ghost use Rattle.cil_base.specs.Limits.{unit_bytes};
 
 use crate::automaton::piece;
 use crate::entries::Spot;
@@ -35,7 +36,7 @@ pub fn lex<'a>(
     file: NameId,
     names: &mut NamePool,
 ) -> Result<Tokens<'a>, Stop>
-    requires small { length bytes.now ≤ 4194304 }
+    requires small { length bytes.now ≤ unit_bytes }
     requires named { file.0 < length names.old }
     ensures tokens { IfAnswered (λ answer. Gives result bytes.now unit names.new answer) (IsAnswer unit file names.old bytes.now) }
     ensures only { (answer : Answer) → IsAnswer unit file names.old bytes.now answer → Gives result bytes.now unit names.new answer }
@@ -55,7 +56,7 @@ fn read_pieces<'a>(
     file: NameId,
     names: &mut NamePool,
 ) -> Result<Tokens<'a>, Stop>
-    requires { length bytes.now ≤ 4194304 }
+    requires { length bytes.now ≤ unit_bytes }
     ensures tokens { Gives result bytes.now unit names.new (read (pieces 0 true bytes.now) (begun unit file names.old)) }
     ensures pool { Grows names.old names.new }
 {

@@ -4,6 +4,7 @@ ghost use Rattle.c_lexer.specs.Tokens.{line_feeds, moved, refusal_at, refused, l
 ghost use Rattle.c_lexer.specs.Lines.{line_of};
 ghost use Rattle.c_lexer.specs.Lexed.{Gives, Grows};
 ghost use Rattle.c_lexer.specs.ReaderView.{reading_of, Follows, Refuses, IsBounded};
+ghost use Rattle.cil_base.specs.Limits.{unit_bytes};
 
 use crate::attributes::{Advance, Attribute, Bracket, Shape, part_of_piece};
 use crate::entries::{Entry, Spot};
@@ -32,7 +33,7 @@ pub struct Reader {
 }
 
 fn line_feeds(text: &[u8]) -> u32
-    requires { length text.now ≤ 4194304 }
+    requires { length text.now ≤ unit_bytes }
     ensures value { result ≡ line_feeds text.now }
     ensures within { result ≤ length text.now }
 {
@@ -47,7 +48,7 @@ fn line_feeds(text: &[u8]) -> u32
 
 /// Behind a text (C11 6.10.4: each line feed in it is a line).
 fn moved(text: &[u8], spot: Spot) -> Spot
-    requires room { spot.start + length text.now ≤ 4194304 }
+    requires room { spot.start + length text.now ≤ unit_bytes }
     requires line { spot.line ≤ 2147483648 + spot.start }
     ensures value { result ≡ moved text.now spot }
     ensures line { result.line ≤ 2147483648 + result.start }

@@ -1,6 +1,7 @@
 ghost use Rattle.std.specs.Prelude.{◌≡◌, ◌<◌, ◌≤◌, length, Some, All};
 ghost use Rattle.c_lexer.specs.Entries.{IsWithin};
 ghost use Rattle.c_lexer.specs.Lexed.{token_at, text_at, place_at};
+ghost use Rattle.cil_base.specs.Limits.{unit_bytes};
 
 use crate::entries::{Entry, Spot};
 use cil_base::{Place, Token, UnitNo};
@@ -24,13 +25,13 @@ impl<'a> Model for Tokens<'a> {
 
     ghost view = { λ t. record { source = t.source.now; unit = t.unit; entries = t.entries.items; end = t.end } };
 
-    ghost invariant = { λ t. (length t.entries.items ≤ 4194304) × All (IsWithin (length t.source.now)) t.entries.items };
+    ghost invariant = { λ t. (length t.entries.items ≤ unit_bytes) × All (IsWithin (length t.source.now)) t.entries.items };
 }
 
 impl<'a> Tokens<'a> {
     /// The tokens that were read from a source.
     pub(crate) fn new(source: &'a [u8], unit: UnitNo, entries: Vec<Entry>, end: Spot) -> Self
-        requires few { length entries.items ≤ 4194304 }
+        requires few { length entries.items ≤ unit_bytes }
         requires within { All (IsWithin (length source.now)) entries.items }
         ensures { result ≡ record { source = source.now; unit = unit; entries = entries.items; end = end } }
     {

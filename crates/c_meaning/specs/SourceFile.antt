@@ -1,5 +1,6 @@
 -- Definition: a source file and the tokens that it has (C11 5.1.1.1, 6.4).
 use Rattle.std.specs.Prelude.{◌≡◌, ℕ, ◌≤◌, List, [], ◌∷◌, length, map}
+use Rattle.cil_base.specs.Limits.{unit_bytes}
 use Rattle.cil_base.specs.declared.numbers.UnitNo.{UnitNo}
 use Rattle.cil_base.specs.declared.numbers.NameId.{NameId}
 use Rattle.cil_base.specs.declared.tokens.TokenKind.{TokenKind}
@@ -43,7 +44,7 @@ spelled_in source entries = map (λ (e : Entry). spelled e.token.kind (text_of s
 
 -- a file of at most 4,194,304 bytes (own) with these tokens
 pub record HasTokens (file : SourceFile) (tokens : List Spelled) : Type 0 where
-  pub small : length file.bytes ≤ 4194304
+  pub small : length file.bytes ≤ unit_bytes
   pub entries : List Entry
   pub end : Spot
   pub names : List (List ℕ)

@@ -2,6 +2,7 @@
 use Rattle.std.specs.Prelude.{ℕ, Bool, true, false, ◌&&◌, ◌||◌, Option, Some, None, is_some, if◌then◌else◌, ℤ, pos, ◌+ℤ◌, ◌*ℤ◌, neg_ℤ, int_le, unsigned_abs, not}
 use Rattle.std.specs.Ordering.{int_eq}
 use Rattle.std.specs.Option.{option_map, option_and_then}
+use Rattle.cil_base.specs.Limits.{object_bytes}
 use Rattle.cil_base.specs.declared.kinds.IntKind.{IntKind}
 use Rattle.cil_base.specs.declared.kinds.IntKind.TheVariants.{Int as int}
 use Rattle.cil_base.specs.declared.constants.Constant.{Constant}
@@ -16,7 +17,7 @@ use Rattle.type_graph.specs.Shapes.{Shape, FuncType}
 use Rattle.typed_tree.specs.declared.expressions.Logic.{Logic}
 use Rattle.typed_tree.specs.declared.expressions.Logic.TheVariants.{And as both, Or as either}
 use Rattle.typed_tree.specs.Tree.{Typed, Form, Has, Integer, Local, Literal, Entity, Load, Decay, Address, Indirect, Subscript, Member, Convert, Unary, Binary, Logical, Conditional, Comma, Assign, Compute, Step, Call}
-use Rattle.c_typing.specs.Types.{CType, Types, kind_in, size_in, offset_in, greatest_size, pointee}
+use Rattle.c_typing.specs.Types.{CType, Types, kind_in, size_in, offset_in, pointee}
 
 -- a value that is known during translation: an integer of a kind, a number of pointer type, a place of an object with static storage duration and the size of that object, a function
 pub data Known : Type 0 where
@@ -31,7 +32,7 @@ whole_of n kind = if fits kind n then Some (Whole kind n) else None
 
 -- an object at its visible type; one whose size is unknown counts as the greatest (own)
 abbrev pub size_or_greatest : Option ℕ → ℕ
-size_or_greatest None = greatest_size
+size_or_greatest None = object_bytes
 size_or_greatest (Some n) = n
 
 abbrev pub entity_of : Types → Shape → ℕ → Known

@@ -1,6 +1,7 @@
 -- Definition: translation units (C11 6.9): functions, tentative definitions at the unit's end, and the first fault of a unit in the order of the walk.
 use Rattle.std.specs.Prelude.{ℕ, suc, Bool, true, false, not, ◌&&◌, nat_lt, nat_le, List, [], ◌∷◌, Option, Some, None, length, map, codes, is_some, if◌then◌else◌}
 use Rattle.std.specs.Str.{bytes_eq}
+use Rattle.cil_base.specs.Limits.{function_locals}
 use Rattle.cil_base.specs.declared.kinds.Abi.{Abi}
 use Rattle.cil_base.specs.declared.kinds.IntKind.TheVariants.{Int as int}
 use Rattle.cil_base.specs.declared.numbers.NameId.{NameId}
@@ -18,7 +19,7 @@ use Rattle.c_typing.specs.Types.{CType, Types, plain, unqualified, is_function, 
 use Rattle.c_typing.specs.Specifiers.{AtFile, Defining, class_of, is_inline}
 use Rattle.c_typing.specs.Scopes.{External, Internal, Static, Entity, Scope, Env, Found, Good, Bad, Walk, ◌>>=◌, pure, asks, changes, refuses_if, exceeds_if, types_of, left, changes_entity, empty_scope}
 use Rattle.c_typing.specs.Declarators.{Derivation, FunctionOf, declared_in, place_in, is_bare, built, last_of}
-use Rattle.c_typing.specs.Steps.{base_with, greatest_locals}
+use Rattle.c_typing.specs.Steps.{base_with}
 use Rattle.c_typing.specs.Walk.{named, derived}
 use Rattle.c_typing.specs.Declare.{AFunction, head_of, links, inherited, function_linkage, same_linkage}
 use Rattle.c_typing.specs.Statements.{declaration, items, in_sequence, labels_in_items, gotos_in_items, refuses_lost}
@@ -41,7 +42,7 @@ refuses_parameters t n NoParameters ls = pure tt
 refuses_parameters t n (MoreParameters p ps) [] = pure tt
 refuses_parameters t n (MoreParameters (Parameter ss d) ps) (l ∷ ls) = do
   _ ← refuses_if (lacks_type t false l.shape) code.Incomplete (place_in ss d)
-  _ ← exceeds_if (nat_le greatest_locals n) limit.Locals (place_in ss d)
+  _ ← exceeds_if (nat_le function_locals n) limit.Locals (place_in ss d)
   refuses_parameters t (suc n) ps ls
 
 abbrev pub prototype_scope : Option Derivation → Scope

@@ -1,6 +1,7 @@
 -- Definition: the steps of which the walk over expressions, specifiers, declarators and initialisers is made (C11 6.4.4, 6.5, 6.7): each is one rule at one place of the text.
 use Rattle.std.specs.Prelude.{ℕ, zero, suc, ◌+◌, Bool, true, false, not, ◌&&◌, ◌||◌, nat_eq, nat_le, ℤ, pos, List, [], ◌∷◌, ◌++◌, Option, Some, None, length, slice_get, is_some, codes, if◌then◌else◌}
 use Rattle.std.specs.Option.{option_map, option_and_then}
+use Rattle.cil_base.specs.Limits.{function_locals}
 use Rattle.cil_base.specs.declared.kinds.Abi.{Abi}
 use Rattle.cil_base.specs.declared.kinds.IntKind.{IntKind}
 use Rattle.cil_base.specs.declared.kinds.IntKind.TheVariants.{Char, Int as int}
@@ -437,10 +438,6 @@ pub record Parameters : Type 0 where
 abbrev pub with_parameter : Shape → Bool → Parameters → Parameters
 with_parameter s named ps = record { shapes = MoreTypes s ps.shapes; all_named = named && ps.all_named }
 
--- the greatest number of parameters, automatic objects and compound literals of a function (own)
-abbrev pub greatest_locals : ℕ
-greatest_locals = 65535
-
 abbrev pub count_locals : Env → ℕ
 count_locals env = length env.locals + length env.literals
 
@@ -454,7 +451,7 @@ numbers_local x c register = do
 
 abbrev pub declares_local : NameId → ℕ → CType → Bool → Walk ℕ
 declares_local x at c register = do
-  full ← asks (λ (env : Env). nat_le greatest_locals (count_locals env))
+  full ← asks (λ (env : Env). nat_le function_locals (count_locals env))
   _ ← exceeds_if full limit.Locals at
   numbers_local x c register
 
@@ -517,10 +514,6 @@ type_with ss d specified derived = do
   built (place_in ss d) ds b.type
 
 -- initialisers (6.7.9)
-
--- the greatest number of explicit scalars in one initialiser (own)
-abbrev pub greatest_scalars : ℕ
-greatest_scalars = 65536
 
 -- an object with static storage duration is initialised by constants (6.7.9p4)
 abbrev pub scalar_step : Bool → ℕ → Path → Operand → Walk Init

@@ -1,6 +1,7 @@
 -- Definition: the types of a translation unit (C11 6.2.5): a data model, and the list of struct, union and enumerated types, which a shape names by its number; completeness, members and sizes under them.
 use Rattle.std.specs.Prelude.{ℕ, zero, suc, ℤ, Bool, true, false, not, ◌&&◌, ◌||◌, nat_eq, nat_lt, List, [], ◌∷◌, Option, Some, None, length, slice_get, is_some, if◌then◌else◌}
 use Rattle.std.specs.Option.{option_map, option_and_then}
+use Rattle.cil_base.specs.Limits.{object_bytes}
 use Rattle.cil_base.specs.declared.kinds.Abi.{Abi}
 use Rattle.cil_base.specs.declared.kinds.IntKind.{IntKind}
 use Rattle.cil_base.specs.declared.kinds.IntKind.TheVariants.{Int as int}
@@ -168,17 +169,13 @@ alignment_in t s = option_map (λ (l : Layout). l.align) (layout_of t s)
 abbrev pub offset_in : Types → ℕ → ℕ → Option ℕ
 offset_in t a i = option_and_then (λ (l : AggLayout). slice_get l.offsets i) (aggregate_layout t a)
 
--- the greatest size of a type in bytes (own)
-abbrev pub greatest_size : ℕ
-greatest_size = 2147483647
-
 abbrev pub is_above : ℕ → Option ℕ → Bool
 is_above n None = false
 is_above n (Some m) = nat_lt n m
 
 -- the type has more bytes than a type may have (own)
 abbrev pub is_too_big : Types → Shape → Bool
-is_too_big t s = is_above greatest_size (size_in t s)
+is_too_big t s = is_above object_bytes (size_in t s)
 
 -- const parts (6.3.2.1p1)
 

@@ -1,6 +1,7 @@
 -- Definition: the walk over expressions, specifiers, declarators and initialisers in the order of the text (C11 6.5, 6.7): the types and typed expressions that they are, what they declare, and their first fault.
 use Rattle.std.specs.Prelude.{ℕ, suc, ◌+◌, ◌-◌, int_le, unsigned_abs, Bool, true, false, not, ◌&&◌, ◌||◌, nat_lt, nat_le, ℤ, pos, ◌+ℤ◌, List, [], ◌∷◌, ◌++◌, Option, Some, None, length, is_some, if◌then◌else◌}
 use Rattle.std.specs.Option.{option_map, option_and_then}
+use Rattle.cil_base.specs.Limits.{function_locals, initialised_scalars}
 use Rattle.cil_base.specs.declared.kinds.IntKind.TheVariants.{Int as int}
 use Rattle.cil_base.specs.declared.numbers.NameId.{NameId}
 use Rattle.cil_base.specs.declared.faults.Fault.TheVariants.{Excluded}
@@ -21,7 +22,7 @@ use Rattle.c_typing.specs.Scopes.{Env, Walk, ◌>>=◌, pure, asks, changes, fau
 use Rattle.c_typing.specs.Nodes.{IndexNode, StepNode, BinaryNode, LogicalNode, ConditionalNode, CommaNode, CastNode, SizeofNode, AlignofNode, place}
 use Rattle.c_typing.specs.Declarators.{at_first, declared_in, place_in, is_bare, Derivation, PointerTo, ArrayOf, BareFunctionOf, built}
 use Rattle.c_typing.specs.Initialisers.{Part, Frame, Filling, Given, ALiteral, AValue, next_part, designated, designated_along, down_to, nesting_of, with_zero, inits, beginning, whole_part, completed, is_character_array}
-use Rattle.c_typing.specs.Steps.{at_node, by_node, by_operand, by_sized, at_call, identifier, constant, nameless, made_entity, literal_of, logic_of, postfix_form, prefix_form, unary_node, assign_node, member_node, arrow_node, ats_of, base_with, typedef_named, kind_of_tag, kind_of_structure, tagged, opened, names_member, is_misspelled_line, anonymous_member, is_no_line, is_end, known_integer, asserted, closes_body, enumerates, closes_enum, refuses_words, has_words, sized, greatest_locals, count_locals, no_parameters, one_parameter, is_last, prototyped, type_with, greatest_scalars, with_value, with_literal, in_flexible, Base, Body, Parameters}
+use Rattle.c_typing.specs.Steps.{at_node, by_node, by_operand, by_sized, at_call, identifier, constant, nameless, made_entity, literal_of, logic_of, postfix_form, prefix_form, unary_node, assign_node, member_node, arrow_node, ats_of, base_with, typedef_named, kind_of_tag, kind_of_structure, tagged, opened, names_member, is_misspelled_line, anonymous_member, is_no_line, is_end, known_integer, asserted, closes_body, enumerates, closes_enum, refuses_words, has_words, sized, count_locals, no_parameters, one_parameter, is_last, prototyped, type_with, with_value, with_literal, in_flexible, Base, Body, Parameters}
 
 -- outside functions objects have static storage duration (6.2.4p3)
 abbrev pub is_static_here : Env → Bool
@@ -119,7 +120,7 @@ braces_for static p f (Some x) walk = do
 
 abbrev pub numbered : ℕ → CType → Walk ℕ
 numbered at c = do
-  full ← asks (λ (env : Env). nat_le greatest_locals (count_locals env))
+  full ← asks (λ (env : Env). nat_le function_locals (count_locals env))
   _ ← exceeds_if full limit.Locals at
   n ← asks (λ (env : Env). length env.literals)
   _ ← changes (λ (env : Env). record env { literals = env.literals ++ record { quals = c.quals; shape = c.shape } ∷ [] })
@@ -141,7 +142,7 @@ literal_object false at c f = do
 
 -- not too many scalars, at the initialiser's first token (own)
 abbrev pub refuses_scalars : ℕ → Filling → Walk (Unit {0})
-refuses_scalars init f = exceeds_if (nat_lt greatest_scalars f.scalars) limit.Scalars init
+refuses_scalars init f = exceeds_if (nat_lt initialised_scalars f.scalars) limit.Scalars init
 
 -- an initialiser that is done: not too many scalars, and a type that is not too big, at the token of what is declared (own)
 abbrev pub filled : ℕ → ℕ → CType → Filling → Walk CType

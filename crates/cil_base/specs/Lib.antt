@@ -10,3 +10,4 @@ pub mod Token
 pub mod Usual
 pub mod HostNames
 pub mod Kinds
+pub mod Limits

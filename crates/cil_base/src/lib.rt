@@ -13,6 +13,7 @@ mod conversion;
 mod faults;
 mod host;
 mod kinds;
+mod limits;
 mod memory;
 mod names;
 mod numbers;
@@ -27,6 +28,10 @@ pub use conversion::wrap;
 pub use faults::{Code, Fault, Feature, Place, Refusal, RuleStop, Stop, What};
 pub use host::{HOST_NAMES, host_names, is_host_name};
 pub use kinds::{Abi, IntKind, Mode};
+pub use limits::{
+    FUNCTION_LOCALS, INITIALISED_SCALARS, OBJECT_BYTES, RUN_STEPS, TEXT_BYTES, TOTAL_BYTES,
+    UNIT_BYTES,
+};
 pub use memory::Memory;
 pub use names::{Bases, NamePool};
 pub use numbers::{AggId, EntityId, LabelId, LocalId, NameId, TypeId, UnitNo};

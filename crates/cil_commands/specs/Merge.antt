@@ -1,6 +1,7 @@
 -- Definition: what `merge` answers (own).
 use Rattle.std.specs.Prelude.{◌≡◌, ◌≢◌, ℕ, ◌<◌, ◌≤◌, List, length, Option, None}
 use Rattle.std.specs.Option.{option_and_then, option_map}
+use Rattle.cil_base.specs.Limits.{unit_bytes}
 use Rattle.cil_base.specs.declared.kinds.Abi.TheVariants.{Lp64}
 use Rattle.cil_base.specs.declared.faults.Fault.{Fault}
 use Rattle.cil_base.specs.declared.faults.Fault.TheVariants.{Limit, Syntax}
@@ -47,8 +48,8 @@ too_large = refused_first (Limit UnitBytes)
 
 -- why a file is no grammatical unit, with the names that its places' files are numbers in: it has too many bytes, or a token of it is refused, or no grammatical unit spells its tokens
 pub data IsNoGrammar (unit : SourceFile) : Refusal → List (List ℕ) → Type 0 where
-  Large : (names : List (List ℕ)) → 4194304 < length unit.bytes → IsNoGrammar unit too_large names
-  OfToken : (refusal : Refusal) (names : List (List ℕ)) → length unit.bytes ≤ 4194304 → IsLexed unit (Refused refusal names) → IsNoGrammar unit refusal names
+  Large : (names : List (List ℕ)) → unit_bytes < length unit.bytes → IsNoGrammar unit too_large names
+  OfToken : (refusal : Refusal) (names : List (List ℕ)) → length unit.bytes ≤ unit_bytes → IsLexed unit (Refused refusal names) → IsNoGrammar unit refusal names
   OfGrammar : (refusal : Refusal) (names : List (List ℕ)) (tokens : Lexed) → AreTokens unit tokens names → IsSyntaxFault tokens refusal → IsNoGrammar unit refusal names
 
 -- why a file is refused, with the names that its places' files are numbers in: it is no grammatical unit; or it is one that is not of the form, and is refused at a token of it for an excluded form, a constraint of C11 or a limit, or because the text of a program to which it is merged is too long

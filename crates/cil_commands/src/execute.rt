@@ -9,7 +9,7 @@ ghost use Rattle.cil_commands.specs.Execute.{RanAs, RunSays};
 ghost use Rattle.cil_commands.specs.RunEnds.{status_by};
 ghost use Rattle.cil_commands.specs.Calls.{CountsCalls};
 
-use cil_base::{Abi, NamePool};
+use cil_base::{Abi, NamePool, TEXT_BYTES};
 use cil_lines::Status;
 use cil_reader::{ReadStop as TextStop, read};
 use cil_runner::{Machine, RunEnd};
@@ -18,11 +18,8 @@ use cil_tree::CilUnit;
 use outside::{Files, ReadStop, Sink, Source};
 use std::alloc::Global;
 
-// The greatest number of bytes in a CIL text.
-const TEXT_LIMIT: usize = 268_435_456;
-
-// One byte more: so many bytes show that a file is too large.
-const READ_LIMIT: usize = TEXT_LIMIT + 1;
+// One byte more than a CIL text may have: so many bytes show that a file is too large.
+const READ_LIMIT: usize = TEXT_BYTES + 1;
 
 // The status that tells how a run ended.
 fn status_of(end: RunEnd) -> Status
@@ -76,8 +73,8 @@ fn run_text<I: Source, O: Sink>(
     ensures later { I.faults input.old ≤ I.faults input.new }
     ensures writes { CountsCalls Status.WriteFault result (O.faults out.old) (O.faults out.new) }
 {
-    if bytes.len() > TEXT_LIMIT {
-        return Status::NotCil(TEXT_LIMIT);
+    if bytes.len() > TEXT_BYTES {
+        return Status::NotCil(TEXT_BYTES);
     }
     let mut names = NamePool::new(alloc);
     match read(alloc, bytes, &mut names, Abi::Lp64) {

@@ -29,17 +29,14 @@ use crate::reader::unit_of;
 use c_lexer::{Tokens, lex};
 use c_meaning::Expr;
 use c_parser::parse;
-use cil_base::{Fault, Memory, NameId, NamePool, Stop, UnitNo, What};
+use cil_base::{Fault, Memory, NameId, NamePool, Stop, UNIT_BYTES, UnitNo, What};
 use cil_lines::{Status, send};
 use cil_sources::{Sources, read_file, read_units};
 use outside::{Files, ReadStop, Sink};
 use std::alloc::Global;
 use unit_merger::{unit_text, units_text};
 
-// The greatest number of bytes in a translation unit.
-const UNIT_BYTES: usize = 4_194_304;
-
-// One byte more: so many bytes show that a unit is too large.
+// One byte more than a unit may have: so many bytes show that a unit is too large.
 const READ_LIMIT: usize = UNIT_BYTES + 1;
 
 // The tokens of the first unit, whose file is the only name of the pool.

@@ -29,7 +29,7 @@ ghost use Rattle.cil_lines.specs.Sent.{Sent};
 
 use crate::execute::execute;
 use crate::merge::{merge, merge_all};
-use cil_base::NamePool;
+use cil_base::{NamePool, RUN_STEPS};
 use cil_lines::{Status, report};
 use cil_words::{Command, read_words};
 use outside::{Files, Sink, Source};
@@ -133,9 +133,6 @@ pub fn cil<F: Files, I: Source, O: Sink, E: Sink>(
     status
 }
 
-// The bound on the steps of the program of a sample.
-const SAMPLE_STEPS: u64 = 10_000_000;
-
 // The bound on steps that a command gives, or 0.
 fn steps_of(command: &Option<Command>) -> u64
     ensures { result ≡ unwrap_or (option_map bound_of command.now) 0 }
@@ -143,7 +140,7 @@ fn steps_of(command: &Option<Command>) -> u64
     match command {
         Some(Command::Run { steps, .. }) => *steps,
         Some(Command::Merge { .. }) => 0,
-        Some(Command::Sample { .. }) => SAMPLE_STEPS,
+        Some(Command::Sample { .. }) => RUN_STEPS,
         None => 0,
     }
 }

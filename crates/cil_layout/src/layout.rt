@@ -4,9 +4,7 @@ ghost use Rattle.cil_tree.specs.LaidOut.{lines_from, without_blanks, first_bad, 
 ghost use Rattle.cil_layout.specs.Scan.{one_closed, behind_token, read_words, blanks_of, less_if, seen_depth, read_line};
 
 use crate::signs::{is_only, is_token};
-
-/// The most bytes that a CIL text has.
-const TEXT_LIMIT: usize = 268_435_456;
+use cil_base::TEXT_BYTES;
 
 /// One open brace less, if there is one.
 fn one_closed(braces: usize) -> Option<usize>
@@ -152,8 +150,8 @@ fn first_bad(bytes: &[u8]) -> usize
 pub fn bad_place(bytes: &[u8]) -> usize
     ensures { result ≡ bad_place bytes.now }
 {
-    if bytes.len() > TEXT_LIMIT {
-        return TEXT_LIMIT;
+    if bytes.len() > TEXT_BYTES {
+        return TEXT_BYTES;
     }
     first_bad(bytes)
 }

@@ -1,6 +1,7 @@
 -- Definition: the text of a CIL program. Each line is its tokens with one blank between two, behind two blanks for each brace that is still open (a brace that it begins with closes one), and ends with a line feed (own).
 use Rattle.std.specs.Prelude.{◌≡◌, ℕ, ◌*◌, ◌≤◌, List, [], ◌∷◌, ◌++◌, length, codes, decimal, replicate}
 use Rattle.std.specs.List.{join_with_byte}
+use Rattle.cil_base.specs.Limits.{text_bytes}
 use Rattle.cil_base.specs.Operators.{operator_spelling}
 use Rattle.cil_meaning.specs.Program.{Exp, Const, Bin, IsProgram}
 
@@ -29,4 +30,4 @@ Text p =
 pub record IsTextOf (bytes : List ℕ) (p : Exp) : Type 0 where
   pub program : IsProgram p
   pub text : bytes ≡ Text p
-  pub short : length bytes ≤ 268435456
+  pub short : length bytes ≤ text_bytes

@@ -1,6 +1,7 @@
 -- Device: the lengths of types' declarations and of the whole text.
 use Rattle.std.proofs.Common.{◌≡◌, ℕ, zero, suc, ◌-◌, ◌^◌, ◌<◌, ◌≤◌, true, false, List, [], ◌∷◌, ◌++◌, Some, length, take, slice_get, sym, ap, ◌∙◌, subst, arith}
 use Rattle.std.proofs.lemmas.List.{take_all}
+use Rattle.cil_base.specs.Limits.{text_bytes}
 use Rattle.type_graph.specs.Arena.{Graph}
 use Rattle.type_graph.specs.Shapes.{shape}
 use Rattle.layout_lp64.specs.Tables.{IsLeastTooBig}
@@ -8,7 +9,7 @@ use Rattle.cil_tree.specs.Tree.{Program}
 use Rattle.cil_tree.specs.Lines.{Token}
 use Rattle.cil_tree.specs.Text.{Text, program_lines}
 use Rattle.cil_tree.specs.WellFormedTypes.{TypesAreSmall}
-use Rattle.cil_tree.specs.Programs.{IsProgram, IsTextOf, text_limit}
+use Rattle.cil_tree.specs.Programs.{IsProgram, IsTextOf}
 use Rattle.cil_printer.specs.declared.sides.Sides.{Sides}
 use Rattle.cil_printer.specs.Spaced.{spaced}
 use Rattle.cil_printer.specs.Output.{Output, Counted, Written, put, puts, counts, capped, text_of}
@@ -48,23 +49,23 @@ bytes_written o n bytes h fits e = e ∙ put_written n [] bytes h ∙ ap (λ k. 
     same : n - 0 ≡ n
     same = omega arith
 
-text_held : (o a : Output) (n : ℕ) (p : Program) → n ≡ capped (length (Text p)) → n ≤ text_limit → a ≡ Written n [] → o ≡ prints a 0 (program_lines p) → o ≡ Written n (Text p)
+text_held : (o a : Output) (n : ℕ) (p : Program) → n ≡ capped (length (Text p)) → n ≤ text_bytes → a ≡ Written n [] → o ≡ prints a 0 (program_lines p) → o ≡ Written n (Text p)
 unfolding prints
 text_held o a n p e h k f = bytes_written o n (Text p) (omega (arith, h)) (omega (arith, e, h)) (f ∙ ap (λ y. put y (Text p)) k)
 
-pub text_kept : (o a : Output) (n : ℕ) (p : Program) → n ≡ capped (length (Text p)) → n ≤ text_limit → a ≡ Written n [] → o ≡ prints a 0 (program_lines p) → counts o ≡ false
+pub text_kept : (o a : Output) (n : ℕ) (p : Program) → n ≡ capped (length (Text p)) → n ≤ text_bytes → a ≡ Written n [] → o ≡ prints a 0 (program_lines p) → counts o ≡ false
 text_kept o a n p e h k f = ap counts (text_held o a n p e h k f)
 
-pub text_written : (o a : Output) (n : ℕ) (p : Program) → n ≡ capped (length (Text p)) → n ≤ text_limit → a ≡ Written n [] → o ≡ prints a 0 (program_lines p) → text_of o ≡ Text p
+pub text_written : (o a : Output) (n : ℕ) (p : Program) → n ≡ capped (length (Text p)) → n ≤ text_bytes → a ≡ Written n [] → o ≡ prints a 0 (program_lines p) → text_of o ≡ Text p
 text_written o a n p e h k f = ap text_of (text_held o a n p e h k f)
 
-pub is_text : (n : ℕ) (bytes : List ℕ) (p : Program) → IsProgram p → n ≡ capped (length (Text p)) → n ≤ text_limit → bytes ≡ Text p → IsTextOf bytes p
+pub is_text : (n : ℕ) (bytes : List ℕ) (p : Program) → IsProgram p → n ≡ capped (length (Text p)) → n ≤ text_bytes → bytes ≡ Text p → IsTextOf bytes p
 is_text n bytes p is e h same = record { program = is; text = same; short = short (ap length same) }
   where
-    short : length bytes ≡ length (Text p) → length bytes ≤ text_limit
+    short : length bytes ≡ length (Text p) → length bytes ≤ text_bytes
     short k = omega (arith, e, h, k)
 
-pub is_long : (n : ℕ) (p : Program) → n ≡ capped (length (Text p)) → text_limit < n → text_limit < length (Text p)
+pub is_long : (n : ℕ) (p : Program) → n ≡ capped (length (Text p)) → text_bytes < n → text_bytes < length (Text p)
 is_long n p e h = omega (arith, e, h)
 
 pub none_too_big : (g : Graph) (t : ℕ) → TypesAreSmall g → IsLeastTooBig g t → ⊥

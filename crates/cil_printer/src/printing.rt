@@ -3,23 +3,21 @@ ghost use Rattle.layout_lp64.specs.Tables.{InStep};
 ghost use Rattle.cil_tree.specs.View.{program_of};
 ghost use Rattle.cil_tree.specs.WellFormedTypes.{TypesAreSmall};
 ghost use Rattle.cil_tree.specs.Text.{Text};
-ghost use Rattle.cil_tree.specs.Programs.{IsProgram, IsTextOf, text_limit};
+ghost use Rattle.cil_tree.specs.Programs.{IsProgram, IsTextOf};
 ghost use Rattle.cil_printer.specs.Output.{capped};
 ghost use Rattle.cil_printer.specs.Seen.{tree_of};
 ghost use Rattle.cil_printer.specs.Stops.{StopsAt};
+ghost use Rattle.cil_base.specs.Limits.{text_bytes};
 
 use crate::lengths::all_sides;
 use crate::program::Program;
 use crate::sink::Sink;
-use cil_base::{Bytes, Memory, NamePool};
+use cil_base::{Bytes, Memory, NamePool, TEXT_BYTES};
 use cil_tree::CilUnit;
 use layout_lp64::{LayoutStop, Layouts};
 use std::alloc::{AllocError, Global};
 use thiserror::Error;
 use type_graph::TypeGraph;
-
-/// The most bytes that a CIL text has (own).
-const LONGEST: u64 = 268_435_456;
 
 /// Why a program is not printed.
 #[derive(Clone, Copy, Debug, PartialEq, Eq, Error)]
@@ -82,7 +80,7 @@ impl<'a> Program<'a> {
     fn text(&self, length: u64) -> Result<Bytes, Memory>
         requires program { IsProgram (tree_of self.now) }
         requires counted { length ≡ capped (length_of (Text (tree_of self.now))) }
-        requires short { length ≤ text_limit }
+        requires short { length ≤ text_bytes }
         ensures { IfOk result (λ b. b ≡ Text (tree_of self.now)) }
     {
         let mut out = Sink::keeping(self.graph().alloc(), length as usize)?;
@@ -97,7 +95,7 @@ impl<'a> Program<'a> {
         ensures { MatchResult result (λ b. IsTextOf b (tree_of self.now)) (λ e. StopsAt (tree_of self.now) e) }
     {
         let length = self.text_length();
-        if length > LONGEST {
+        if length > TEXT_BYTES as u64 {
             return Err(PrintStop::TooLong);
         }
         let text = self.text(length)?;

@@ -3,6 +3,7 @@ use Rattle.std.proofs.Common.{◌≡◌, ◌↔◌, ℕ, ◌<◌, ◌*◌, ◌�
 use Rattle.std.specs.List.{list_all}
 use Rattle.std.specs.Str.{bytes_eq}
 use Rattle.std.proofs.lemmas.Slice.Eq.{bytes_eq-Decides}
+use Rattle.cil_base.specs.Limits.{text_bytes}
 use Rattle.cil_base.specs.declared.kinds.Abi.{Abi}
 use Rattle.type_graph.specs.Arena.{IsArena}
 use Rattle.cil_tree.specs.declared.globals.CilUnit.{CilUnit}
@@ -10,7 +11,7 @@ use Rattle.cil_tree.specs.Tree.{Program}
 use Rattle.cil_tree.specs.View.{program_of}
 use Rattle.cil_tree.specs.Text.{Text}
 use Rattle.cil_tree.specs.WellFormedTypes.{members_are_unqualified}
-use Rattle.cil_tree.specs.Programs.{IsProgram, IsTextOf, text_limit, seen_aggregate}
+use Rattle.cil_tree.specs.Programs.{IsProgram, IsTextOf, seen_aggregate}
 use Rattle.cil_text.specs.ReadText.{read_text}
 use Rattle.cil_text.specs.TypesOf.{HasNeeded}
 use Rattle.cil_text.proofs.OneText.{text_back}
@@ -34,7 +35,7 @@ other_text bytes text seen p b is told compared fails also =
     let same : bytes_eq seen bytes ≡ true = (bytes_eq-Decides seen bytes).1 (told ∙ is.text ∙ sym also.text) in
     absurd (cc (same, compared, fails))
 
-pub too_long : (bytes : List ℕ) (p : Program) → text_limit < length (Text p) → IsTextOf bytes p → ⊥
+pub too_long : (bytes : List ℕ) (p : Program) → text_bytes < length (Text p) → IsTextOf bytes p → ⊥
 too_long bytes p long is = absurd (omega (arith, long, is.short, ap length is.text))
 
 -- bytes that are read

@@ -1,5 +1,6 @@
 -- Device: one unit more is read.
 use Rattle.std.specs.Prelude.{ℕ, ◌+◌, ◌≤◌, List, [], ◌∷◌, ◌++◌, length, Option, Some, None}
+use Rattle.cil_base.specs.Limits.{total_bytes}
 use Rattle.cil_base.specs.declared.faults.What.{What}
 use Rattle.cil_sources.specs.declared.sources.Sources.{Sources}
 use Rattle.cil_sources.specs.Units.{Kept, kept, unit_fault}
@@ -14,7 +15,7 @@ abbrev pub state_of : Sources → State
 state_of s = record { units = s.units.items; over = s.over; total = s.total }
 
 abbrev pub is_within : Sources → Type 0
-is_within s = s.total ≤ 16777216
+is_within s = s.total ≤ total_bytes
 
 abbrev pub unit_by : Option What → State → List ℕ → State
 unit_by (Some what) s bytes = record { units = s.units; over = Some what; total = s.total }

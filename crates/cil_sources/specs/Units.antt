@@ -1,11 +1,12 @@
 -- Definition: the units of a merge that are kept, and the limit that the first of the others passes (own).
 use Rattle.std.specs.Prelude.{ℕ, ◌+◌, nat_lt, if◌then◌else◌, List, [], ◌∷◌, length, Option, Some, None}
+use Rattle.cil_base.specs.Limits.{total_bytes, unit_bytes}
 use Rattle.cil_base.specs.declared.faults.What.{What}
 use Rattle.cil_base.specs.declared.faults.What.TheVariants.{UnitBytes, TotalBytes}
 
 -- the limit that a unit passes behind units of so many bytes: 4,194,304 bytes in a unit, or 16,777,216 in the units so far
 abbrev pub unit_fault : ℕ → ℕ → Option What
-unit_fault total size = if nat_lt 4194304 size then Some UnitBytes else (if nat_lt 16777216 (total + size) then Some TotalBytes else None)
+unit_fault total size = if nat_lt unit_bytes size then Some UnitBytes else (if nat_lt total_bytes (total + size) then Some TotalBytes else None)
 
 pub record Kept : Type 0 where
   pub units : List (List ℕ)

@@ -5,17 +5,12 @@ ghost use Rattle.outside.specs.Named.{names_of};
 ghost use Rattle.cil_sources.specs.Files.{all_under, found_all};
 ghost use Rattle.cil_sources.specs.Units.{kept, unit_fault};
 ghost use Rattle.cil_sources.specs.Steps.{with_unit, is_within, state_of};
+ghost use Rattle.cil_base.specs.Limits.{total_bytes};
 
 use crate::file::read_file;
-use cil_base::{Bytes, What};
+use cil_base::{Bytes, TOTAL_BYTES, UNIT_BYTES, What};
 use outside::{Files, ReadStop};
 use std::alloc::Global;
-
-/// The greatest number of bytes in a translation unit.
-const UNIT_BYTES: usize = 4_194_304;
-
-/// The greatest number of bytes in all units.
-const TOTAL_BYTES: usize = 16_777_216;
 
 /// One byte more than a unit may have: so many bytes show that it is too large.
 const READ_LIMIT: usize = UNIT_BYTES + 1;
@@ -31,7 +26,7 @@ pub struct Sources {
 
 /// The limit that a unit of so many bytes passes, behind units of so many.
 fn limit_passed(total: usize, size: usize) -> Option<What>
-    requires { total ≤ 16777216 }
+    requires { total ≤ total_bytes }
     ensures { result ≡ unit_fault total size }
 {
     if size > UNIT_BYTES {

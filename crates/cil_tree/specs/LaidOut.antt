@@ -2,10 +2,10 @@
 use Rattle.std.specs.Prelude.{ℕ, ◌+◌, ◌&&◌, ◌||◌, Bool, true, false, nat_eq, nat_lt, if◌then◌else◌, List, [], ◌∷◌, ◌++◌, codes, length}
 use Rattle.std.specs.List.{list_all}
 use Rattle.std.specs.Str.{bytes_eq}
+use Rattle.cil_base.specs.Limits.{text_bytes}
 use Rattle.cil_tree.specs.Lines.{Token, closes, open_behind, line_bytes}
 use Rattle.cil_tree.specs.Declarators.{words_from}
 use Rattle.cil_tree.specs.Names.{goes_on_word, is_among}
-use Rattle.cil_tree.specs.Programs.{text_limit}
 
 -- the lines of a file, each with its line feed; the last one may have none
 abbrev pub lines_from : List ℕ → List ℕ → List (List ℕ)
@@ -58,4 +58,4 @@ first_bad braces at (line ∷ lines) = if is_laid_out braces line then first_bad
 
 -- the place that is named for bytes that are no CIL text
 abbrev pub bad_place : List ℕ → ℕ
-bad_place bytes = if nat_lt text_limit (length bytes) then text_limit else first_bad 0 0 (lines_from [] bytes)
+bad_place bytes = if nat_lt text_bytes (length bytes) then text_bytes else first_bad 0 0 (lines_from [] bytes)

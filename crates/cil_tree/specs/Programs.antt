@@ -2,6 +2,7 @@
 use Rattle.std.specs.Prelude.{◌≡◌, ℕ, ◌≤◌, true, List, Option, length, map, ℤ}
 use Rattle.std.specs.List.{list_all}
 use Rattle.std.specs.Option.{option_map}
+use Rattle.cil_base.specs.Limits.{text_bytes}
 use Rattle.type_graph.specs.declared.aggregates.AggKind.{AggKind}
 use Rattle.type_graph.specs.declared.aggregates.Aggregate.{Aggregate}
 use Rattle.type_graph.specs.declared.aggregates.Member.{Member}
@@ -24,15 +25,11 @@ pub record IsProgram (p : Program) : Type 0 where
   pub names : AreNames p
   pub globals : list_all (global_fits p) p.globals ≡ true
 
--- the most bytes that a text has
-abbrev pub text_limit : ℕ
-text_limit = 268435456
-
 -- the bytes are the CIL text of the program
 pub record IsTextOf (bytes : List ℕ) (p : Program) : Type 0 where
   pub program : IsProgram p
   pub text : bytes ≡ Text p
-  pub short : length bytes ≤ text_limit
+  pub short : length bytes ≤ text_bytes
 
 -- a member by its name, its type and its value; members of well-formed programs have no qualifiers, so these are left out
 pub record SeenMember : Type 0 where

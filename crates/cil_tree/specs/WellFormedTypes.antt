@@ -2,6 +2,7 @@
 use Rattle.std.specs.Prelude.{◌≡◌, ℕ, suc, ◌<◌, ◌≤◌, ◌&&◌, ◌||◌, not, Bool, true, false, nat_lt, if◌then◌else◌, List, [], ◌∷◌, Option, Some, None, is_some, length, pos}
 use Rattle.std.specs.List.{list_all}
 use Rattle.std.specs.Ordering.{int_eq}
+use Rattle.cil_base.specs.Limits.{object_bytes}
 use Rattle.cil_base.specs.declared.kinds.IntKind.TheVariants.{Int as int}
 use Rattle.cil_base.specs.Arithmetic.{fits}
 use Rattle.type_graph.specs.declared.aggregates.Aggregate.{Aggregate}
@@ -129,11 +130,11 @@ each_shape of g = (t : ℕ) → t < length g.nodes → of (shape g.nodes t) ≡ 
 
 -- a complete type has no more bytes than an object may have (own)
 abbrev pub TypesAreSmall : Graph → Type 0
-TypesAreSmall g = (t : ℕ) (l : Layout) → layout g t ≡ Some l → l.size ≤ 2147483647
+TypesAreSmall g = (t : ℕ) (l : Layout) → layout g t ≡ Some l → l.size ≤ object_bytes
 
 -- nor has a complete aggregate, also where no type of the graph names it (own)
 abbrev pub AggregatesAreSmall : Graph → Type 0
-AggregatesAreSmall g = (a : ℕ) (l : AggLayout) → agg_layout g a ≡ Some l → l.whole.size ≤ 2147483647
+AggregatesAreSmall g = (a : ℕ) (l : AggLayout) → agg_layout g a ≡ Some l → l.whole.size ≤ object_bytes
 
 -- the rules of types but for missing tags and the order of aggregates; numbers of types in range and kinds of the data model are what an arena always has
 pub record TypesFit (g : Graph) : Type 0 where

@@ -4,6 +4,7 @@ use Rattle.std.specs.List.{list_any, list_all}
 use Rattle.std.specs.Option.{option_map, option_and_then, option_to_list}
 use Rattle.std.specs.Str.{bytes_eq}
 use Rattle.std.specs.Str.Parse.{digits_value}
+use Rattle.cil_base.specs.Limits.{run_steps}
 use Rattle.cil_words.specs.declared.command.Command.{Command}
 use Rattle.cil_words.specs.declared.command.Command.TheVariants.{Merge, Run, Sample}
 
@@ -53,7 +54,7 @@ run_bounded_of _ = None
 
 -- behind `run`: FILE ARG..., or --steps and the form above; where no bound is given it is 10,000,000
 abbrev pub run_of : List ℕ → List (List ℕ) → Option Command
-run_of word words = if bytes_eq word (codes "--steps") then run_bounded_of words else (if names_file word then Some (Run 10000000 1) else None)
+run_of word words = if bytes_eq word (codes "--steps") then run_bounded_of words else (if names_file word then Some (Run run_steps 1) else None)
 
 -- behind `sample`: SEED UNITS
 abbrev pub sample_by : Option ℕ → Option ℕ → Option Command
@@ -147,7 +148,7 @@ is_common (Sample seed units) = false
 abbrev pub bound_of : Command → ℕ
 bound_of (Merge common first) = 0
 bound_of (Run steps file) = steps
-bound_of (Sample seed units) = 10000000
+bound_of (Sample seed units) = run_steps
 
 abbrev pub steps_asked : List (List ℕ) → ℕ
 steps_asked words = unwrap_or (option_map bound_of (command_of words)) 0

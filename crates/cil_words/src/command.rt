@@ -3,6 +3,7 @@ ghost use Rattle.std.specs.List.{list_all};
 ghost use Rattle.std.specs.String.{string_bytes};
 ghost use Rattle.cil_words.specs.Command.{command_of, command_by_name, merge_of, run_of, run_bounded_of, sample_of, sample_by, number_between, seed_of, units_of, names_file, is_word as is_word_of, are_words as are_words_of};
 
+use cil_base::RUN_STEPS;
 use itoa::Buffer;
 
 /// What the words of the command line ask for.
@@ -19,9 +20,6 @@ pub enum Command {
 
 /// The greatest number of files of a merge.
 const MOST_FILES: usize = 1024;
-
-/// The bound on the steps of a run where the words give none.
-const STEPS: u64 = 10_000_000;
 
 /// The greatest bound on the steps of a run.
 const MOST_STEPS: u64 = 1_000_000_000_000;
@@ -101,7 +99,7 @@ fn run_command(word: &String, rest: &[String]) -> Option<Command>
         bounded_run(rest)
     } else if is_file_name(word.as_bytes()) {
         Some(Command::Run {
-            steps: STEPS,
+            steps: RUN_STEPS,
             file: 1,
         })
     } else {

@@ -2,6 +2,7 @@
 use Rattle.std.specs.Prelude.{ℕ, Bool, true, false, ◌&&◌, Option, Some, None, if◌then◌else◌, ℤ, pos, ◌+ℤ◌, ◌*ℤ◌, neg_ℤ, int_le, unsigned_abs, not}
 use Rattle.std.specs.Ordering.{int_eq}
 use Rattle.std.specs.Option.{option_map, option_and_then}
+use Rattle.cil_base.specs.Limits.{object_bytes}
 use Rattle.cil_base.specs.declared.kinds.Abi.{Abi}
 use Rattle.cil_base.specs.declared.kinds.IntKind.{IntKind}
 use Rattle.cil_base.specs.declared.kinds.IntKind.TheVariants.{Int as int}
@@ -59,7 +60,7 @@ integer_in g s n = option_and_then (λ kind. if fits kind n then Some (Integer k
 
 -- the object or the function that an entity is, at the type that is visible; of an object of unknown size (own) the largest is taken
 abbrev pub size_or : Option ℕ → ℕ
-size_or None = 2147483647
+size_or None = object_bytes
 size_or (Some n) = n
 
 abbrev pub object_in : Graph → Shape → EntityId → Known

@@ -6,13 +6,10 @@ ghost use Rattle.type_graph.specs.Shapes.{shape};
 ghost use Rattle.const_eval.specs.declared.known.Known.TheVariants.{Integer};
 ghost use Rattle.const_eval.specs.Values.{constant_of, kind_in, integer_in, entity_in, told_as_int, truth_of, decided_by, to_integer, to_pointer, converted_in, unary_in, binary_in, computed_of, binary_kind, pointee_in, sum_of, difference_of, member_at, moved_by, IsKnown};
 
-use cil_base::{BinOp, Constant, EntityId, IntKind, TypeId, UnOp, arith, wrap};
+use cil_base::{BinOp, Constant, EntityId, IntKind, OBJECT_BYTES, TypeId, UnOp, arith, wrap};
 use type_graph::AggKind;
 use typed_tree::Logic;
 use unit_types::{Class, Types};
-
-/// The size of an object of which the unit does not know it (own): that of the largest.
-const LARGEST: u32 = 0x7fff_ffff;
 
 /// A part of an object with static storage duration (C11 6.6p9), or its end: the object, the offset in bytes, and the object's size.
 #[derive(Clone, Copy)]
@@ -111,7 +108,7 @@ pub(crate) fn entity(t: &Types, of: TypeId, n: EntityId) -> Known
             Known::Address(Spot {
                 entity: n,
                 offset: 0,
-                size: t.size(of).unwrap_or(LARGEST),
+                size: t.size(of).unwrap_or(OBJECT_BYTES),
             })
         }
     }

@@ -2,14 +2,11 @@ ghost use Rattle.std.specs.Prelude.{IfErr};
 ghost use Rattle.decl_types.specs.Refusals.{IsRefusal, of_local};
 
 use crate::stops::{impossible, narrow, past};
-use cil_base::{LocalId, Memory, RuleStop, What};
+use cil_base::{FUNCTION_LOCALS, LocalId, Memory, RuleStop, What};
 use std::alloc::Global;
 use std::mem;
 use type_graph::QualType;
 use typed_tree::TypedLocal;
-
-/// The most parameters, automatic objects and compound literals of a function (own).
-const MOST_LOCALS: usize = 65_535;
 
 /// What a scope is.
 #[derive(Clone, Copy, PartialEq, Eq)]
@@ -134,7 +131,7 @@ impl Numbers {
 
     /// Whether the function has as many locals and compound literals as it may have.
     fn is_full(&self) -> bool {
-        self.locals.len() + self.literals as usize >= MOST_LOCALS
+        self.locals.len() + self.literals as usize >= FUNCTION_LOCALS
     }
 
     /// An automatic object.
@@ -185,6 +182,6 @@ impl Numbers {
 
     /// Whether a parameter of a function that is defined is within the limit.
     pub(crate) fn is_within(l: LocalId) -> bool {
-        (l.0 as usize) < MOST_LOCALS
+        (l.0 as usize) < FUNCTION_LOCALS
     }
 }

@@ -1,5 +1,5 @@
 use crate::levels::{Composite, Level, Levels, Part, composite_of};
-use cil_base::{AggId, Code, Fault, Feature, IntKind, What};
+use cil_base::{AggId, Code, Fault, Feature, INITIALISED_SCALARS, IntKind, What};
 use indexmap::IndexMap;
 use std::alloc::Global;
 use type_graph::{AggKind, QualType};
@@ -44,9 +44,6 @@ pub struct Filled {
     pub reached: u64,
 }
 
-/// The greatest number of scalars in an initialiser (own).
-const SCALARS: u64 = 65_536;
-
 impl Filling {
     /// An initialiser before its first item.
     pub fn new(alloc: Global, storage: Storage) -> Self {
@@ -63,7 +60,7 @@ impl Filling {
 
     /// The whole initialiser, which begins with a token.
     pub fn finished(self, at: u32) -> Result<Filled, WalkStop> {
-        if self.scalars > SCALARS {
+        if self.scalars > INITIALISED_SCALARS {
             return Err(WalkStop::At(at, Fault::Limit(What::Scalars)));
         }
         Ok(Filled {

@@ -1,6 +1,7 @@
 -- Definition: layouts are in step with an arena where they give each type the size and alignment, and each member the offset, that the arena defines; which type is too big.
 use Rattle.std.specs.Prelude.{◌≡◌, ℕ, suc, ◌<◌, ◌≤◌, Bool, true, false, List, Option, Some, None, length, nat_lt, slice_get, slice_index, ◌⊎◌, if◌then◌else◌}
 use Rattle.std.specs.Option.{option_map, option_and_then}
+use Rattle.cil_base.specs.Limits.{object_bytes}
 use Rattle.cil_base.specs.declared.numbers.AggId.{AggId}
 use Rattle.type_graph.specs.declared.layout.Layout.{Layout}
 use Rattle.type_graph.specs.declared.nodes.Node.TheVariants.{Agg}
@@ -50,11 +51,11 @@ pub record AreTables (l : Layouts) (g : Graph) : Type 0 where
 
 -- no type of the graph has more bytes than an object may have
 pub record AllFit (g : Graph) : Type 0 where
-  pub each : (t : ℕ) (x : Layout) → layout g t ≡ Some x → x.size ≤ 2147483647
+  pub each : (t : ℕ) (x : Layout) → layout g t ≡ Some x → x.size ≤ object_bytes
 
 -- no complete aggregate of the graph has more bytes than an object may have
 pub record AggregatesFit (g : Graph) : Type 0 where
-  pub each : (a : ℕ) (x : AggLayout) → agg_layout g a ≡ Some x → x.whole.size ≤ 2147483647
+  pub each : (a : ℕ) (x : AggLayout) → agg_layout g a ≡ Some x → x.whole.size ≤ object_bytes
 
 -- the layouts are those of the graph
 pub record InStep (l : Layouts) (g : Graph) : Type 0 where
@@ -76,13 +77,13 @@ pub record WereInStep (l : Layouts) (g : Graph) : Type 0 where
 pub record IsLeastTooBig (g : Graph) (t : ℕ) : Type 0 where
   pub large : Layout
   pub is : layout g t ≡ Some large
-  pub size : 2147483647 < large.size
-  pub least : (s : ℕ) (x : Layout) → s < t → layout g s ≡ Some x → x.size ≤ 2147483647
+  pub size : object_bytes < large.size
+  pub least : (s : ℕ) (x : Layout) → s < t → layout g s ≡ Some x → x.size ≤ object_bytes
 
 -- a layout has more bytes than an object may have
 abbrev pub is_large : Option Layout → Bool
 is_large None = false
-is_large (Some x) = nat_lt 2147483647 x.size
+is_large (Some x) = nat_lt object_bytes x.size
 
 -- what is known of layouts that are to be divided by: no alignment is 0
 pub record AreAligned (aggs : List (Option AggLayout)) : Type 0 where

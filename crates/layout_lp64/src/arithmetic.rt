@@ -2,8 +2,10 @@ ghost use Rattle.std.specs.Prelude.{◌≡◌, ◌<◌};
 ghost use Rattle.type_graph.specs.Layouts.{round_up};
 ghost use Rattle.layout_lp64.specs.Capped.{cap};
 
+use cil_base::OBJECT_BYTES;
+
 /// The number of bytes that no object reaches: one more than the largest size.
-pub(crate) const LIMIT: u32 = 2147483648;
+pub(crate) const LIMIT: u32 = OBJECT_BYTES + 1;
 
 /// A number of bytes, where whatever is at least the limit counts as the limit.
 pub(crate) fn capped(n: u64) -> u32

@@ -1,6 +1,7 @@
 -- Definition: what units are refused for, and where.
 use Rattle.std.specs.Prelude.{◌≡◌, ℕ, ◌<◌, Bool, true, false, length, Option, Some, None}
 use Rattle.std.specs.Option.{ForSome}
+use Rattle.cil_base.specs.Limits.{text_bytes}
 use Rattle.cil_base.specs.declared.kinds.Abi.TheVariants.{Lp64}
 use Rattle.cil_base.specs.declared.faults.Fault.{Fault}
 use Rattle.cil_base.specs.declared.faults.Fault.TheVariants.{Lexical, Excluded, Syntax, Constraint, Limit, Duplicate, Incompatible}
@@ -11,7 +12,7 @@ use Rattle.cil_base.specs.declared.faults.Stop.{Stop}
 use Rattle.cil_base.specs.declared.faults.Stop.TheVariants.{Refused, Memory}
 use Rattle.cil_tree.specs.Tree.{Program}
 use Rattle.cil_tree.specs.Text.{Text}
-use Rattle.cil_tree.specs.Programs.{IsProgram, text_limit}
+use Rattle.cil_tree.specs.Programs.{IsProgram}
 
 -- the faults of a grammatical unit: an excluded form, a constraint of C11 that is violated, or a limit that is passed
 abbrev pub IsUnitFault : Fault → Type 0
@@ -80,7 +81,7 @@ pub record IsTooLong (at : Place) : Type 0 where
   pub program : Program
   pub formed : IsProgram program
   pub model : program.graph.abi ≡ Lp64
-  pub long : text_limit < length (Text program)
+  pub long : text_bytes < length (Text program)
   pub unit : at.unit ≡ record { 0 = 0 }
   pub token : at.token ≡ 0
 

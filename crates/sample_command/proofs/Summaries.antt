@@ -1,12 +1,13 @@
 -- Device: what is written of a program, and of one that has no summary.
 use Rattle.std.proofs.Common.{◌≡◌, ◌≢◌, ◌≤◌, ℕ, false, List, length, Option, None, Result, Ok, Err, IfOk, refl, subst}
+use Rattle.cil_base.specs.Limits.{text_bytes}
 use Rattle.outside.specs.Moves.{Began, Wrote}
 use Rattle.cil_base.specs.declared.faults.Refusal.{Refusal}
 use Rattle.cil_base.specs.declared.faults.Stop.{Stop}
 use Rattle.cil_tree.specs.declared.globals.CilUnit.{CilUnit}
 use Rattle.cil_tree.specs.View.{program_of}
 use Rattle.cil_tree.specs.Text.{Text}
-use Rattle.cil_tree.specs.Programs.{IsProgram, text_limit}
+use Rattle.cil_tree.specs.Programs.{IsProgram}
 use Rattle.merge_refusals.specs.Refusals.{IsMergeRefusal, PrintedIfLong}
 use Rattle.unit_merger.specs.Units.{AreMerged, IsRefusedAmong}
 use Rattle.unit_merger.specs.Linking.{IsProgramOf, LateSays}
@@ -16,7 +17,7 @@ use Rattle.cil_lines.specs.declared.status.Status.{Status}
 use Rattle.cil_lines.specs.declared.status.Status.TheVariants.{Done, Exited, StillRunning, WentUndefined, Usage, Refused, NotCil, ReadFault, WriteFault, Memory}
 use Rattle.sample_command.specs.Answers.{IsOfSample, IsSampleRefusal, SampleSays}
 
-pub formed_of : (seed units : ℕ) (pool : List (List ℕ)) (r : Result CilUnit Stop) → IfOk r (λ _. AreMerged (unit_texts seed units) None (file_names units)) → IfOk r (λ u. IsProgram (program_of pool u)) → IfOk r (λ u. length (Text (program_of pool u)) ≤ text_limit) → IfOk r (IsProgramOf false (unit_texts seed units) (file_names units) pool) → IfOk r (IsOfSample seed units pool)
+pub formed_of : (seed units : ℕ) (pool : List (List ℕ)) (r : Result CilUnit Stop) → IfOk r (λ _. AreMerged (unit_texts seed units) None (file_names units)) → IfOk r (λ u. IsProgram (program_of pool u)) → IfOk r (λ u. length (Text (program_of pool u)) ≤ text_bytes) → IfOk r (IsProgramOf false (unit_texts seed units) (file_names units) pool) → IfOk r (IsOfSample seed units pool)
 formed_of seed units pool (Ok u) grammatical formed short of = record { grammatical = grammatical; of = of; formed = formed; short = short }
 formed_of seed units pool (Err stop) grammatical formed short of = tt
 

@@ -1,11 +1,12 @@
 -- Definition: what `sample` answers (own).
 use Rattle.std.specs.Prelude.{ℕ, ◌<◌, ◌≤◌, false, List, length, Option, None}
+use Rattle.cil_base.specs.Limits.{text_bytes}
 use Rattle.outside.specs.Moves.{Began, Wrote}
 use Rattle.cil_base.specs.declared.faults.Refusal.{Refusal}
 use Rattle.cil_tree.specs.declared.globals.CilUnit.{CilUnit}
 use Rattle.cil_tree.specs.View.{program_of}
 use Rattle.cil_tree.specs.Text.{Text}
-use Rattle.cil_tree.specs.Programs.{IsProgram, text_limit}
+use Rattle.cil_tree.specs.Programs.{IsProgram}
 use Rattle.merge_refusals.specs.Refusals.{IsMergeFault, HasOther, PrintedIfLong}
 use Rattle.unit_merger.specs.Units.{AreMerged, IsRefusedAmong}
 use Rattle.unit_merger.specs.Linking.{IsProgramOf, LateSays}
@@ -21,7 +22,7 @@ pub record IsOfSample (seed units : ℕ) (pool : List (List ℕ)) (program : Cil
   pub grammatical : AreMerged (unit_texts seed units) None (file_names units)
   pub of : IsProgramOf false (unit_texts seed units) (file_names units) pool program
   pub formed : IsProgram (program_of pool program)
-  pub short : length (Text (program_of pool program)) ≤ text_limit
+  pub short : length (Text (program_of pool program)) ≤ text_bytes
 
 -- the lines tell that program
 pub record AreOfProgram (seed units : ℕ) (pool : List (List ℕ)) (lines : List ℕ) : Type 0 where

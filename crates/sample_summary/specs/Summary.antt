@@ -1,6 +1,7 @@
 -- Definition: what is told of a sample: figures of its program and of the program's run, a line each (own).
 use Rattle.std.specs.Prelude.{◌≡◌, ℕ, List, [], ◌∷◌, ◌++◌, length, codes, decimal}
 use Rattle.std.specs.List.{concat}
+use Rattle.cil_base.specs.Limits.{run_steps}
 use Rattle.cil_base.specs.declared.runs.Outcome.{Outcome}
 use Rattle.cil_base.specs.declared.runs.Outcome.TheVariants.{Exit, Running, Undefined as WentUndefined}
 use Rattle.execution.specs.Laws.{IsLeastBound}
@@ -22,18 +23,15 @@ summary units types output status steps = line (codes "units ") units ++ (line (
 abbrev pub sample_words : List (List ℕ)
 sample_words = codes "sample" ∷ []
 
-abbrev pub sample_bound : ℕ
-sample_bound = 10000000
-
 abbrev pub run_of : Program → ℕ → Outcome
 run_of p steps = RunCil (p ∷ []) (mode_of p) sample_words [] steps
 
 -- the run exits with that status and so many bytes of output, and that is the least bound at which it does
 pub record ExitsSo (p : Program) (output status steps : ℕ) : Type 0 where
   pub text : List ℕ
-  pub exit : run_of p sample_bound ≡ Exit status text
+  pub exit : run_of p run_steps ≡ Exit status text
   pub size : output ≡ length text
-  pub least : IsLeastBound (run_of p) sample_bound steps
+  pub least : IsLeastBound (run_of p) run_steps steps
 
 -- the text is the summary of a program that is made of so many units
 pub record IsSummary (units : ℕ) (p : Program) (text : List ℕ) : Type 0 where
@@ -45,6 +43,6 @@ pub record IsSummary (units : ℕ) (p : Program) (text : List ℕ) : Type 0 wher
 
 -- why a program has no summary: at the bound its run goes on, or is undefined; want of memory says nothing
 abbrev pub StopsSo : Program → SampleStop → Type 0
-StopsSo p StillRunning = (text : List ℕ) × (run_of p sample_bound ≡ Running text)
-StopsSo p Undefined = (text : List ℕ) × (run_of p sample_bound ≡ WentUndefined text)
+StopsSo p StillRunning = (text : List ℕ) × (run_of p run_steps ≡ Running text)
+StopsSo p Undefined = (text : List ℕ) × (run_of p run_steps ≡ WentUndefined text)
 StopsSo p Memory = Unit {0}

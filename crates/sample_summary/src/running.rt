@@ -5,17 +5,15 @@ ghost use Rattle.cil_tree.specs.View.{program_of};
 ghost use Rattle.cil_tree.specs.Programs.{IsProgram};
 ghost use Rattle.cil_semantics.specs.Modes.{mode_of};
 ghost use Rattle.cil_runner.specs.Machine.{RunsAs};
-ghost use Rattle.sample_summary.specs.Summary.{ExitsSo, StopsSo, sample_words as the_words, sample_bound};
+ghost use Rattle.sample_summary.specs.Summary.{ExitsSo, StopsSo, sample_words as the_words};
+ghost use Rattle.cil_base.specs.Limits.{run_steps};
 
 use crate::stop::SampleStop;
-use cil_base::NamePool;
+use cil_base::{NamePool, RUN_STEPS};
 use cil_runner::{Machine, RunEnd};
 use cil_tree::CilUnit;
 use outside::{MemSink, MemSource};
 use std::alloc::{AllocError, Global};
-
-/// The bound on the steps of the run.
-const BOUND: u64 = 10_000_000;
 
 /// The most bytes that a read or a write moves.
 const PIECE: usize = 4096;
@@ -45,7 +43,7 @@ fn sample_words(alloc: Global) -> Result<Vec<String>, AllocError>
 /// The exit that an answer of the machine tells.
 
 fn exit_of(end: RunEnd, output: usize, steps: u64) -> Result<RunExit, SampleStop>
-    ensures { (p : Program) (left : Option (List ℕ)) (taken : List ℕ) → RunsAs end (p ∷ []) (mode_of p) the_words sample_bound steps (Some []) left (Some []) (Some taken) → output ≡ length taken
+    ensures { (p : Program) (left : Option (List ℕ)) (taken : List ℕ) → RunsAs end (p ∷ []) (mode_of p) the_words run_steps steps (Some []) left (Some []) (Some taken) → output ≡ length taken
         → MatchResult result (λ e. ExitsSo p e.output e.status e.steps) (StopsSo p) }
 {
     match end {
@@ -73,6 +71,6 @@ pub(crate) fn program_run(
     let mut machine = Machine::load(alloc, program, names, &words)?;
     let mut input = MemSource::new(Vec::new(alloc), PIECE, Vec::new(alloc));
     let mut out = MemSink::new(alloc, PIECE, ROOM, Vec::new(alloc))?;
-    let end = machine.run(BOUND, &mut input, &mut out);
+    let end = machine.run(RUN_STEPS, &mut input, &mut out);
     exit_of(end, out.taken().len(), machine.used())
 }

@@ -1,5 +1,6 @@
 -- Definition: what a translation unit is refused for on its way to a CIL program, as the layer that finds it says, and where.
 use Rattle.std.specs.Prelude.{◌≡◌, ℕ, ◌<◌, ◌≤◌, List, length, Some, None, IfSome, slice_get}
+use Rattle.cil_base.specs.Limits.{unit_bytes}
 use Rattle.cil_base.specs.declared.numbers.UnitNo.{UnitNo}
 use Rattle.cil_base.specs.declared.numbers.NameId.{NameId}
 use Rattle.cil_base.specs.declared.faults.Fault.{Fault}
@@ -23,7 +24,7 @@ pub record Source : Type 0 where
 
 -- the tokens of a unit, which has at most 4,194,304 bytes (own)
 pub record HasTokens (s : Source) (t : Lexed) : Type 0 where
-  pub small : length s.bytes ≤ 4194304
+  pub small : length s.bytes ≤ unit_bytes
   pub source : t.source ≡ s.bytes
   pub unit : t.unit ≡ s.unit
   pub names : List (List ℕ)
@@ -59,8 +60,8 @@ pub record KeepsFiles (names pool : List (List ℕ)) (refusal : Refusal) : Type 
 
 -- why a unit is refused, with the pool that the files of the places are numbers in then: it has too many bytes (own), a token of it is refused, or for its tokens
 pub data IsFrontRefusal (s : Source) (pool : List (List ℕ)) : Refusal → Type 0 where
-  Large : 4194304 < length s.bytes → KeepsFiles s.names pool (too_large s.unit s.file) → IsFrontRefusal s pool (too_large s.unit s.file)
-  OfToken : (refusal : Refusal) (names : List (List ℕ)) → length s.bytes ≤ 4194304 → IsAnswer s.unit s.file s.names s.bytes (Refused refusal names) → KeepsFiles names pool refusal → IsFrontRefusal s pool refusal
+  Large : unit_bytes < length s.bytes → KeepsFiles s.names pool (too_large s.unit s.file) → IsFrontRefusal s pool (too_large s.unit s.file)
+  OfToken : (refusal : Refusal) (names : List (List ℕ)) → length s.bytes ≤ unit_bytes → IsAnswer s.unit s.file s.names s.bytes (Refused refusal names) → KeepsFiles names pool refusal → IsFrontRefusal s pool refusal
   OfTokens : (refusal : Refusal) (t : Lexed) (are : HasTokens s t) → IsTokensRefusal t refusal → KeepsFiles are.names pool refusal → IsFrontRefusal s pool refusal
 
 -- the faults of one unit: of its bytes, of its tokens, of its grammar, and behind that

@@ -11,13 +11,10 @@ use c_lexer::{Tokens, lex};
 use c_parser::parse;
 use c_tree::Unit;
 use cast_insert::check_unit;
-use cil_base::{Abi, Fault, NameId, NamePool, Place, Refusal, Stop, UnitNo, What};
+use cil_base::{Abi, Fault, NameId, NamePool, Place, Refusal, Stop, UNIT_BYTES, UnitNo, What};
 use link_names::Fronted;
 use std::alloc::Global;
 use unit_lower::lower_unit;
-
-/// The greatest number of bytes in a translation unit.
-const UNIT_BYTES: usize = 4_194_304;
 
 /// The CIL program that a translation unit becomes under a data model, with what linking it with others asks for. The unit has that
 /// number and file.

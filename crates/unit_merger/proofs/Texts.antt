@@ -1,5 +1,6 @@
 -- Device: what is printed is the text of the program that units become, and it is too long where that is.
 use Rattle.std.proofs.Common.{◌≡◌, ◌<◌, ◌≤◌, ◌∷◌, [], ℕ, Bool, false, None, List, length, Result, Ok, Err, IfOk, subst}
+use Rattle.cil_base.specs.Limits.{text_bytes}
 use Rattle.cil_base.specs.NamePool.{Stays}
 use Rattle.cil_base.proofs.PoolLemmas.{stays_then}
 use Rattle.cil_base.specs.declared.faults.Stop.{Stop}
@@ -10,7 +11,7 @@ use Rattle.cil_tree.specs.declared.globals.CilUnit.{CilUnit}
 use Rattle.cil_tree.specs.View.{program_of}
 use Rattle.cil_tree.specs.Text.{Text}
 use Rattle.cil_tree.specs.Tree.{Program}
-use Rattle.cil_tree.specs.Programs.{IsProgram, IsTextOf, text_limit}
+use Rattle.cil_tree.specs.Programs.{IsProgram, IsTextOf}
 use Rattle.link_names.specs.declared.units.Fronted.{Fronted}
 use Rattle.link_names.specs.Linking.{first_twice}
 use Rattle.unit_lower.specs.Externals.{HasExternals}
@@ -33,8 +34,8 @@ text_alone (Err stop) t before pool u text of = tt
 
 -- several
 
-pub short_text : (bytes : List ℕ) (p : Program) → IsTextOf bytes p → length (Text p) ≤ text_limit
-short_text bytes p is = subst (λ (text : List ℕ). length text ≤ text_limit) is.text is.short
+pub short_text : (bytes : List ℕ) (p : Program) → IsTextOf bytes p → length (Text p) ≤ text_bytes
+short_text bytes p is = subst (λ (text : List ℕ). length text ≤ text_bytes) is.text is.short
 
 pub made : (common : Bool) (units files : List (List ℕ)) (fs : List Fronted) (names pool : List (List ℕ)) (u : CilUnit) → AreFronted units files names (length units) fs → Stays names pool → first_twice common (names_in fs) ≡ None → Correspond names (graphs_of fs) (names_in fs)
     → IsMerged common names pool fs u → u.graph.abi ≡ Lp64 → IsProgramOf common units files pool u
@@ -56,7 +57,7 @@ pub text_of_units : (r : Result (List ℕ) Stop) (common : Bool) (units files p 
 text_of_units (Ok b) common units files p q u text of stays = record { program = u; of = made_later common units files p q u stays of; text = text }
 text_of_units (Err stop) common units files p q u text of stays = tt
 
-pub are_long : (A : Type 0) (stop : Stop) (common : Bool) (units files p q : List (List ℕ)) (u : CilUnit) → IsProgramOf common units files p u → Stays p q → IsProgram (program_of p u) → text_limit < length (Text (program_of p u))
+pub are_long : (A : Type 0) (stop : Stop) (common : Bool) (units files p q : List (List ℕ)) (u : CilUnit) → IsProgramOf common units files p u → Stays p q → IsProgram (program_of p u) → text_bytes < length (Text (program_of p u))
     → IfRefused (stopped A stop) (λ r. AreLong common units files q)
 are_long A (stops.Refused refusal) common units files p q u of stays formed long = record { names = p; stays = stays; program = u; of = of; formed = formed; long = long }
 are_long A stops.Memory common units files p q u of stays formed long = tt

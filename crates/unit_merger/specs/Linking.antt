@@ -1,5 +1,6 @@
 -- Definition: the program that units become, what is said of their links, and of their refusals behind all units (C11 5.1.1.1, 6.2.2p2, 6.2.7p2, 6.9p5).
 use Rattle.std.specs.Prelude.{◌≡◌, ◌<◌, ℕ, Bool, List, length, Some, None, IfSome, Result, Ok, Err, slice_get}
+use Rattle.cil_base.specs.Limits.{text_bytes}
 use Rattle.cil_base.specs.NamePool.{Stays}
 use Rattle.cil_base.specs.declared.numbers.NameId.{NameId}
 use Rattle.cil_base.specs.declared.kinds.Abi.TheVariants.{Lp64}
@@ -13,7 +14,7 @@ use Rattle.cil_base.specs.declared.faults.Stop.TheVariants.{Refused, Memory}
 use Rattle.cil_tree.specs.declared.globals.CilUnit.{CilUnit}
 use Rattle.cil_tree.specs.View.{program_of}
 use Rattle.cil_tree.specs.Text.{Text}
-use Rattle.cil_tree.specs.Programs.{IsProgram, IsTextOf, text_limit}
+use Rattle.cil_tree.specs.Programs.{IsProgram, IsTextOf}
 use Rattle.link_names.specs.declared.units.Fronted.{Fronted}
 use Rattle.link_names.specs.Linking.{Linked, declared_from, grouped, first_twice}
 use Rattle.unit_lower.specs.Externals.{HasExternals}
@@ -84,7 +85,7 @@ pub record AreLong (common : Bool) (units files pool : List (List ℕ)) : Type 0
   pub program : CilUnit
   pub of : IsProgramOf common units files names program
   pub formed : IsProgram (program_of names program)
-  pub long : text_limit < length (Text (program_of names program))
+  pub long : text_bytes < length (Text (program_of names program))
 
 -- such a text is too long, and the place is that of the first token of the first unit
 pub record AreLongAt (common : Bool) (units files pool : List (List ℕ)) (at : Place) : Type 0 where

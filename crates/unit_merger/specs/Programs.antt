@@ -1,12 +1,13 @@
 -- Definition: the program that a translation unit becomes which is merged alone, and its text (C11 5.1.1.1, 5.1.1.2p1).
 use Rattle.std.specs.Prelude.{◌≡◌, ◌<◌, ◌∷◌, [], ℕ, false, List, length}
+use Rattle.cil_base.specs.Limits.{text_bytes}
 use Rattle.cil_base.specs.NamePool.{Stays}
 use Rattle.cil_base.specs.declared.kinds.Abi.TheVariants.{Lp64}
 use Rattle.c_lexer.specs.Lexed.{Lexed}
 use Rattle.cil_tree.specs.declared.globals.CilUnit.{CilUnit}
 use Rattle.cil_tree.specs.View.{program_of}
 use Rattle.cil_tree.specs.Text.{Text}
-use Rattle.cil_tree.specs.Programs.{IsProgram, IsTextOf, text_limit}
+use Rattle.cil_tree.specs.Programs.{IsProgram, IsTextOf}
 use Rattle.link_names.specs.declared.units.Fronted.{Fronted}
 use Rattle.unit_lower.specs.Externals.{HasExternals}
 use Rattle.unit_front.specs.Identifiers.{AreDeclared}
@@ -36,4 +37,4 @@ pub record IsUnitLong (t : Lexed) (before : List (List ℕ)) : Type 0 where
   pub program : CilUnit
   pub of : IsProgramOfUnit t before pool program
   pub formed : IsProgram (program_of pool program)
-  pub long : text_limit < length (Text (program_of pool program))
+  pub long : text_bytes < length (Text (program_of pool program))

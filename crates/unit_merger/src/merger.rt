@@ -3,7 +3,7 @@ ghost use Rattle.std.specs.String.{string_bytes};
 ghost use Rattle.c_lexer.specs.Lexed.{IfRefused};
 ghost use Rattle.cil_tree.specs.View.{program_of};
 ghost use Rattle.cil_tree.specs.Text.{Text};
-ghost use Rattle.cil_tree.specs.Programs.{IsProgram, text_limit};
+ghost use Rattle.cil_tree.specs.Programs.{IsProgram};
 ghost use Rattle.cil_base.specs.NamePool.{Stays};
 ghost use Rattle.cil_base.specs.declared.kinds.Abi.TheVariants.{Lp64};
 ghost use Rattle.merge_refusals.specs.Refusals.{IsUnitRefusal, IsMergeRefusal, PrintedIfLong, IfRefusal};
@@ -11,6 +11,7 @@ ghost use Rattle.unit_merger.specs.Units.{AreGrammatical, AreMerged, IsRefusedAm
 ghost use Rattle.unit_front.specs.Refusals.{IsFrontFault};
 ghost use Rattle.unit_merger.specs.Linking.{AreFronted, IsProgramOf, IsTextOfUnits, SaysFirst, SaysOfLinks};
 ghost use Rattle.unit_merger.specs.Programs.{IsProgramOfUnit, IsTextOfUnit};
+ghost use Rattle.cil_base.specs.Limits.{text_bytes};
 
 use crate::naming::named;
 use crate::printing::{unit_printed, units_printed};
@@ -84,7 +85,7 @@ pub fn units_program(
     names: &mut NamePool,
 ) -> Result<CilUnit, Stop>
     ensures program { IfOk result (λ u. IsProgram (program_of names.new u)) }
-    ensures short { IfOk result (λ u. length (Text (program_of names.new u)) ≤ text_limit) }
+    ensures short { IfOk result (λ u. length (Text (program_of names.new u)) ≤ text_bytes) }
     ensures of { IfOk result (IsProgramOf false units.now (map string_bytes files.now) names.new) }
     ensures model { IfOk result (λ u. u.graph.abi ≡ Lp64) }
     ensures refused { IfRefused result (IsMergeRefusal (length files.now) (length names.new)) }

@@ -7,28 +7,26 @@ ghost use Rattle.cil_base.specs.declared.faults.What.TheVariants.{PrintedBytes};
 ghost use Rattle.c_lexer.specs.Lexed.{IfRefused, place_at};
 ghost use Rattle.cil_tree.specs.Text.{Text};
 ghost use Rattle.cil_tree.specs.View.{program_of};
-ghost use Rattle.cil_tree.specs.Programs.{IsProgram, IsTextOf, text_limit};
+ghost use Rattle.cil_tree.specs.Programs.{IsProgram, IsTextOf};
 ghost use Rattle.unit_merger.specs.Linking.{IsProgramOf, AreLong};
 ghost use Rattle.unit_merger.specs.Programs.{IsProgramOfUnit};
 ghost use Rattle.unit_merger.specs.Units.{IsPlaceAmong, IsUnitCause};
 ghost use Rattle.merge_refusals.specs.Refusals.{IsLateFault, IsUnitRefusal, IsMergeRefusal, PrintedIfLong};
+ghost use Rattle.cil_base.specs.Limits.{text_bytes};
 
 use crate::naming::named;
 use c_lexer::{Tokens, lex};
-use cil_base::{Bytes, NamePool, Place, Stop, UnitNo};
+use cil_base::{Bytes, NamePool, Place, Stop, UNIT_BYTES, UnitNo};
 use cil_check::check;
 use cil_printer::{PrintStop, print};
 use cil_tree::CilUnit;
 use merge_refusals::{impossible, too_long};
 use std::alloc::Global;
 
-/// The greatest number of bytes in a translation unit.
-const UNIT_BYTES: usize = 4_194_304;
-
 /// The text of a program, which is looked at before it is printed; none where the text is too long.
 fn printed(program: &CilUnit, names: &NamePool) -> Result<Option<Bytes>, Stop>
     ensures program { OnOk result (IsProgram (program_of names.now program.now)) }
-    ensures text { IfOk result (λ found. MatchOption found (text_limit < length (Text (program_of names.now program.now))) (λ b. IsTextOf b (program_of names.now program.now))) }
+    ensures text { IfOk result (λ found. MatchOption found (text_bytes < length (Text (program_of names.now program.now))) (λ b. IsTextOf b (program_of names.now program.now))) }
     ensures refused { IfRefused result (λ refusal. ⊥) }
 {
     if !check(program, names)? {
@@ -115,7 +113,7 @@ pub(crate) fn units_printed(
     requires { program.now.graph.abi ≡ Lp64 }
     ensures text { IfOk result (λ b. IsTextOf b (program_of names.new program.now)) }
     ensures program { OnOk result (IsProgram (program_of names.new program.now)) }
-    ensures short { OnOk result (length (Text (program_of names.new program.now)) ≤ text_limit) }
+    ensures short { OnOk result (length (Text (program_of names.new program.now)) ≤ text_bytes) }
     ensures refused { IfRefused result (IsMergeRefusal (length files.now) (length names.new)) }
     ensures late { IfRefused result (λ r. IsLateFault r.fault) }
     ensures long { IfRefused result (λ r. r.fault ≡ Limit PrintedBytes) }
