@@ -20,6 +20,7 @@ impl<'a> Model for Tokens<'a> {
     ghost use Rattle.std.specs.Prelude.{◌≤◌, length, All};
     ghost use Rattle.c_lexer.specs.Lexed.{Lexed};
     ghost use Rattle.c_lexer.specs.Entries.{IsWithin};
+    ghost use Rattle.cil_base.specs.Limits.{unit_bytes};
 
     ghost Value = { Lexed };
 
