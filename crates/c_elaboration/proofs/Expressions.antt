@@ -20,14 +20,14 @@ use Rattle.c_tree.specs.declared.words.UnaryOp.{UnaryOp}
 use Rattle.c_tree.specs.declared.words.UnaryOp.TheVariants.{Address, Indirection, Plus, Minus, Complement, Not as Negation}
 use Rattle.c_tree.specs.Syntax.{ExprTree, Name, Integer, Character, Literals, Parentheses, Index, Call, Member, Arrow, Postfix, CompoundLiteral, Prefix, Unary, SizeofExpr, SizeofType, AlignofType, Cast, Binary, Logical, Conditional, Assign, Comma, ExprTrees, NoExprs, MoreExprs, InitTree, Single as Lone, Braces, Item, ItemTrees, NoItems, MoreItems, DesignatorTrees, NoDesignators}
 use Rattle.c_tree.specs.Places.{first_expr, first_type_name, first_item}
-use Rattle.c_typing.specs.Types.{CType, Types, Hop, is_void, pointee, kind_in, member_path, size_in, alignment_in}
-use Rattle.c_typing.specs.Conversions.{Operand, operand, shape_of, kind_of, value_shape, promoted_shape, value_of as value_node, value_as}
-use Rattle.c_typing.specs.Constants.{integer_constant, character_constant, string_literal}
-use Rattle.c_typing.specs.Constraints.{takes_so_many, first_violated}
-use Rattle.c_typing.specs.Operators.{binary_sides, subscript_sides, compound_sides, step_shape, branch_shape}
+use Rattle.c_rules.specs.Types.{CType, Types, Hop, is_void, pointee, kind_in, member_path, size_in, alignment_in}
+use Rattle.c_rules.specs.Conversions.{Operand, operand, shape_of, kind_of, value_shape, promoted_shape, value_of as value_node, value_as}
+use Rattle.c_rules.specs.Constants.{integer_constant, character_constant, string_literal}
+use Rattle.c_rules.specs.Constraints.{takes_so_many, first_violated}
+use Rattle.c_rules.specs.Operators.{binary_sides, subscript_sides, compound_sides, step_shape, branch_shape}
 use Rattle.c_typing.specs.Scopes.{Env, Denotes, TypedefName, EnumerationConstant, Automatic, Static, Walk, Found, Good, ◌>>=◌, following, pure, unevaluated, visible_name, refuses_if, excludes_if, with_entity}
-use Rattle.c_typing.specs.Nodes.{Node, NameNode, ConstantNode, IndexNode, CallNode, StepNode, BinaryNode, LogicalNode, ConditionalNode, CommaNode, CastNode, SizeofNode, AlignofNode, Callee, callee_of, given, place, along as along_node, indirect as indirect_node, passed, constant_operand, integer_operand, size_shape, typed_node}
-use Rattle.c_typing.specs.Nodes as node
+use Rattle.c_rules.specs.Nodes.{Node, NameNode, ConstantNode, IndexNode, CallNode, StepNode, BinaryNode, LogicalNode, ConditionalNode, CommaNode, CastNode, SizeofNode, AlignofNode, Callee, callee_of, given, place, along as along_node, indirect as indirect_node, passed, constant_operand, integer_operand, size_shape, typed_node}
+use Rattle.c_rules.specs.Nodes as node
 use Rattle.c_typing.specs.Declarators.{at_first}
 use Rattle.c_typing.specs.Initialisers.{Part, Frame, Filling, AValue, ALiteral, is_character_array, inits, beginning, whole_part}
 use Rattle.c_typing.specs.Statements.{Place}

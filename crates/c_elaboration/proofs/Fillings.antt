@@ -9,11 +9,11 @@ use Rattle.cil_base.specs.declared.faults.Feature.TheVariants as feature
 use Rattle.typed_tree.specs.Tree.{Init, Zero, Scalar, Aggregate, Bytes}
 use Rattle.c_tree.specs.Syntax.{DesignatorTrees, NoDesignators, MoreDesignators, AtIndex, AtMember}
 use Rattle.c_tree.specs.Places.{first_expr}
-use Rattle.c_typing.specs.Types.{Types, is_scalar}
-use Rattle.c_typing.specs.Conversions.{Operand, value_of as value_node, value_as}
-use Rattle.c_typing.specs.Evaluation.{integer_value}
+use Rattle.c_rules.specs.Types.{Types, is_scalar}
+use Rattle.c_rules.specs.Conversions.{Operand, value_of as value_node, value_as}
+use Rattle.c_rules.specs.Evaluation.{integer_value}
 use Rattle.c_typing.specs.Initialisers.{Path, Part, Frame, Filling, Given, takes_whole, AValue, next_part, down_to, nesting_of, with_whole, with_zero, with_bytes, fitting, has_room, bound_of_array}
-use Rattle.c_typing.specs.Nodes.{ConvertNode}
+use Rattle.c_rules.specs.Nodes.{ConvertNode}
 use Rattle.c_typing.specs.Scopes.{Env, ◌>>=◌, pure, Found, Good, following, faults_if, excludes_if, refuses_if, required}
 use Rattle.c_typing.specs.Steps.{at_node, by_node, known_integer, init_step, scalar_step, with_value, with_literal, in_flexible}
 use Rattle.c_typing.specs.Walk.{designated_index, designated_member, outermost, part_for, fitted, with_brace, expr, designation, designators, designator}

@@ -17,11 +17,11 @@ use Rattle.typed_tree.specs.declared.expressions.StepForm.TheVariants.{PreIncrem
 use Rattle.type_graph.specs.declared.nodes.Quals.{Quals}
 use Rattle.typed_tree.specs.Tree.{Typed, Form, Has, Integer, Local, Literal, Entity, Load, Decay, Address, Indirect, Subscript, Member, Convert, Unary, Binary, Logical, Conditional, Comma, Assign, Compute, Step, Call, shape_in}
 use Rattle.typed_tree.specs.Places.{is_place}
-use Rattle.c_typing.specs.Types.{Hop, is_void, is_array, is_function}
-use Rattle.c_typing.specs.Conversions.{Operand, same_effect, value_shape, is_lvalue, decays, alike, value_of as value_node, value_as}
-use Rattle.c_typing.specs.Evaluation.{decided_by}
-use Rattle.c_typing.specs.Nodes.{int_shape}
-use Rattle.c_typing.specs.Operators.{sides}
+use Rattle.c_rules.specs.Types.{Hop, is_void, is_array, is_function}
+use Rattle.c_rules.specs.Conversions.{Operand, same_effect, value_shape, is_lvalue, decays, alike, value_of as value_node, value_as}
+use Rattle.c_rules.specs.Evaluation.{decided_by}
+use Rattle.c_rules.specs.Nodes.{int_shape}
+use Rattle.c_rules.specs.Operators.{sides}
 use Rattle.c_semantics.specs.Values.{kind_of, cast_value, as_type, unary_value, value_at, stored, member_at, member_value, around_member, object_pointer}
 use Rattle.c_semantics.specs.Places.{Activation, outer_of, local_of, literal_number, array_number, arrays_in}
 use Rattle.c_semantics.specs.Operations.{Action, ◌>>=◌, gives, known, seen, changes, Seen, At, Is, is_value, is_told, valued, placed, single, indirect, operated, computed, subscripted, decided, chosen, member, member_of_value, array_object, assigned, compound, operator_of, stepped, result_of, called, local_object, Object, literal_object, initialised}

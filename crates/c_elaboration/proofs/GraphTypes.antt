@@ -15,7 +15,7 @@ use Rattle.type_graph.proofs.ArenaLaws.{count_within}
 use Rattle.type_graph.proofs.LayoutLaws.{step_same, agg_layout_is, agg_layout_there}
 use Rattle.cil_tree.specs.Typing.{is_enum, names_enum}
 use Rattle.cil_semantics.specs.Values.{size_in}
-use Rattle.c_typing.specs.Types as typed
+use Rattle.c_rules.specs.Types as typed
 use Rattle.typed_semantics.specs.Units.{member_of, aggregate_of, types_of}
 use Rattle.c_elaboration.specs.GraphTypes.{TypesAreOfGraph}
 

@@ -6,10 +6,10 @@ use Rattle.execution.specs.Calls.{Enter}
 use Rattle.typed_tree.specs.Tree.{Typed}
 use Rattle.c_tree.specs.Syntax.{ExprTree, InitTree}
 use Rattle.c_tree.specs.Places.{first_expr}
-use Rattle.c_typing.specs.Types.{CType}
-use Rattle.c_typing.specs.Conversions.{Operand, shape_of, promoted_shape, value_as}
+use Rattle.c_rules.specs.Types.{CType}
+use Rattle.c_rules.specs.Conversions.{Operand, shape_of, promoted_shape, value_as}
 use Rattle.c_typing.specs.Initialisers.{Filling, inits, beginning, whole_part}
-use Rattle.c_typing.specs.Nodes.{Node, TestNode, SwitchNode, ValueNode, typed_node}
+use Rattle.c_rules.specs.Nodes.{Node, TestNode, SwitchNode, ValueNode, typed_node}
 use Rattle.c_typing.specs.Scopes.{Env, Good, ◌>>=◌, pure}
 use Rattle.c_typing.specs.Statements.{effect, test, selector}
 use Rattle.c_typing.specs.Steps.{at_node, by_node}

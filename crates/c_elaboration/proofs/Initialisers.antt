@@ -6,8 +6,8 @@ use Rattle.typed_tree.specs.Tree.{Typed, Init, Zero, Scalar, Constant', Aggregat
 use Rattle.execution.specs.States.{Undefined}
 use Rattle.execution.specs.Data.{Datum, Single}
 use Rattle.execution.specs.Calls.{Enter}
-use Rattle.c_typing.specs.Types.{Types}
-use Rattle.c_typing.specs.Conversions.{Operand, same_effect, shape_of, alike, value_of as value_node, value_as}
+use Rattle.c_rules.specs.Types.{Types}
+use Rattle.c_rules.specs.Conversions.{Operand, same_effect, shape_of, alike, value_of as value_node, value_as}
 use Rattle.c_typing.specs.Initialisers.{Path, Part, Filling, inits, is_other, member_of, unions_along, forgotten, with_step, at_union, at_unions, reached, with_whole}
 use Rattle.c_typing.specs.Scopes.{Env}
 use Rattle.c_semantics.specs.Values.{cast_value, as_type}

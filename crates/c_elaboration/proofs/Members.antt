@@ -7,10 +7,9 @@ use Rattle.execution.specs.Data.{Datum}
 use Rattle.execution.specs.Calls.{Enter}
 use Rattle.typed_tree.specs.Tree.{Typed, shape_in, quals_in}
 use Rattle.typed_tree.specs.Places.{is_place}
-use Rattle.c_typing.specs.Types.{CType, Types, Hop, Member, unqualified, is_aggregate, is_array, is_integer, members_of, hop_to, within_shape, from_member, from_members, path_within, member_path, same_name}
-use Rattle.c_typing.specs.Specifiers.{qualified}
-use Rattle.c_typing.specs.Conversions.{decays}
-use Rattle.c_typing.specs.Nodes.{member_type, one_member, along as along_node}
+use Rattle.c_rules.specs.Types.{CType, Types, Hop, Member, unqualified, is_aggregate, is_array, is_integer, members_of, hop_to, within_shape, from_member, from_members, path_within, member_path, same_name, qualified}
+use Rattle.c_rules.specs.Conversions.{decays}
+use Rattle.c_rules.specs.Nodes.{member_type, one_member, along as along_node}
 use Rattle.c_semantics.specs.Places.{Activation, whole, part_of, outer_of, array_number, arrays_in, one_if}
 use Rattle.c_semantics.specs.Operations.{Action, ◌>>=◌, Seen, Is, member, along}
 use Rattle.typed_semantics.specs.Expressions.{hop, t_exp}

@@ -6,7 +6,7 @@ use Rattle.type_graph.specs.Shapes.{Shape, VoidType, IntType, PtrType, ArrayType
 use Rattle.execution.specs.Data.{Datum, Single}
 use Rattle.execution.specs.Calls.{Enter}
 use Rattle.typed_tree.specs.Tree.{Typed, Load, Decay, Convert, shape_in}
-use Rattle.c_typing.specs.Conversions.{Operand, same_effect, shape_of, value_shape, is_lvalue, decays, alike, value_of as value_node, value_as}
+use Rattle.c_rules.specs.Conversions.{Operand, same_effect, shape_of, value_shape, is_lvalue, decays, alike, value_of as value_node, value_as}
 use Rattle.c_semantics.specs.Values.{cast_value, as_type}
 use Rattle.c_semantics.specs.Places.{Activation, arrays_in}
 use Rattle.c_semantics.specs.Operations.{Action, ◌>>=◌, gives, known, Is, is_value, valued, used, taken}

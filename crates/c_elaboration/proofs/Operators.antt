@@ -11,10 +11,10 @@ use Rattle.type_graph.specs.Shapes.{Shape, VoidType, IntType, PtrType, ArrayType
 use Rattle.execution.specs.Data.{Kind, Datum, Single, Argument}
 use Rattle.execution.specs.Calls.{Enter}
 use Rattle.typed_tree.specs.Tree.{Typed, Convert, shape_in}
-use Rattle.c_typing.specs.Types.{Types, Hop, is_void}
-use Rattle.c_typing.specs.Conversions.{Operand, shape_of, value_shape, promoted_shape, same_shape, same_effect, value_of as value_node, value_as}
-use Rattle.c_typing.specs.Nodes.{cast_to as cast_node, along as along_node}
-use Rattle.c_typing.specs.Operators.{Sides, sides, binary_sides, subscript_sides, compound_sides, branch_shape}
+use Rattle.c_rules.specs.Types.{Types, Hop, is_void}
+use Rattle.c_rules.specs.Conversions.{Operand, shape_of, value_shape, promoted_shape, same_shape, same_effect, value_of as value_node, value_as}
+use Rattle.c_rules.specs.Nodes.{cast_to as cast_node, along as along_node}
+use Rattle.c_rules.specs.Operators.{Sides, sides, binary_sides, subscript_sides, compound_sides, branch_shape}
 use Rattle.c_tree.specs.declared.words.UnaryOp.TheVariants.{Plus, Not as Negation}
 use Rattle.c_semantics.specs.Values.{cast_value, as_type, value_at, holds_of, kind_of}
 use Rattle.c_semantics.specs.Places.{Activation, outer_of, array_number, arrays_in}

@@ -13,14 +13,14 @@ use Rattle.c_tree.specs.declared.words.UnaryOp.{UnaryOp}
 use Rattle.c_tree.specs.declared.words.UnaryOp.TheVariants.{Address, Indirection, Plus, Minus, Complement, Not as Negation}
 use Rattle.c_tree.specs.Syntax.{ExprTree, Name, Integer, Character, Literals, Parentheses, Index, Call, Member, Arrow, Postfix, CompoundLiteral, Prefix, Unary, SizeofExpr, SizeofType, AlignofType, Cast, Binary, Logical, Conditional, Assign, Comma}
 use Rattle.c_tree.specs.Places.{first_expr, first_type_name}
-use Rattle.c_typing.specs.Types.{CType, Types, Hop, is_void, pointee, member_path, size_in, alignment_in}
-use Rattle.c_typing.specs.Conversions.{Operand, operand, same_shape, same_effect, shape_of, promoted_shape, value_of as value_node}
-use Rattle.c_typing.specs.Constants.{integer_constant, character_constant, string_literal}
+use Rattle.c_rules.specs.Types.{CType, Types, Hop, is_void, pointee, member_path, size_in, alignment_in}
+use Rattle.c_rules.specs.Conversions.{Operand, operand, same_shape, same_effect, shape_of, promoted_shape, value_of as value_node}
+use Rattle.c_rules.specs.Constants.{integer_constant, character_constant, string_literal}
 use Rattle.c_typing.specs.Scopes.{Env, Denotes, TypedefName, EnumerationConstant, Automatic, Static, Good, ◌>>=◌, pure, unevaluated, refuses_if, visible_name}
-use Rattle.c_typing.specs.Nodes as node
-use Rattle.c_typing.specs.Operators.{binary_sides, subscript_sides, compound_sides, step_shape, branch_shape}
-use Rattle.c_typing.specs.Constraints.{wrong_argument}
-use Rattle.c_typing.specs.Nodes.{Node, NameNode, ConstantNode, IndexNode, CallNode, StepNode, BinaryNode, LogicalNode, ConditionalNode, CommaNode, CastNode, SizeofNode, AlignofNode, given, place, along, indirect, callee_of, constant_operand, integer_operand, size_shape, typed_node, cast_to}
+use Rattle.c_rules.specs.Nodes as node
+use Rattle.c_rules.specs.Operators.{binary_sides, subscript_sides, compound_sides, step_shape, branch_shape}
+use Rattle.c_rules.specs.Constraints.{wrong_argument}
+use Rattle.c_rules.specs.Nodes.{Node, NameNode, ConstantNode, IndexNode, CallNode, StepNode, BinaryNode, LogicalNode, ConditionalNode, CommaNode, CastNode, SizeofNode, AlignofNode, given, place, along, indirect, callee_of, constant_operand, integer_operand, size_shape, typed_node, cast_to}
 use Rattle.c_typing.specs.Declarators.{at_first}
 use Rattle.c_typing.specs.Initialisers.{Filling, inits, beginning, whole_part}
 use Rattle.c_typing.specs.Steps.{at_node, by_node, by_operand, by_sized, by_argument, number_at, at_call, uses_name, designates, made_entity, nameless, literal_type, literal_of, logic_of, postfix_form, prefix_form, unary_node, assign_node, member_node, arrow_node, ats_of}

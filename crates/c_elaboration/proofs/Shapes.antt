@@ -5,7 +5,7 @@ use Rattle.cil_base.proofs.KindLaws.{kind_told, kind_itself}
 use Rattle.type_graph.specs.declared.nodes.Quals.{Quals}
 use Rattle.type_graph.specs.Shapes.{Shape, Shapes, VoidType, IntType, PtrType, ArrayType, FuncType, AggType, NoTypes, MoreTypes}
 use Rattle.type_compat.specs.Compatible.{same_quals}
-use Rattle.c_typing.specs.Conversions.{same_bound, same_shape, same_shapes, alike}
+use Rattle.c_rules.specs.Conversions.{same_bound, same_shape, same_shapes, alike}
 
 both : (p q : Bool) → p && q ≡ true → (p ≡ true) × (q ≡ true)
 both true q e = (refl, e)

@@ -2,10 +2,10 @@
 use Rattle.std.proofs.Common.{◌≡◌, ℕ, zero, suc, Bool, true, false, not, ◌&&◌, List, [], ◌∷◌, Option, Some, None, is_some, refl, sym, ap, ◌∙◌}
 use Rattle.cil_base.specs.declared.faults.Code.{Code}
 use Rattle.cil_base.specs.declared.faults.Code.TheVariants.{IntegerRange, Undeclared, Operand as OperandCode, Member as MemberCode, Call}
-use Rattle.c_typing.specs.Types.{Types}
-use Rattle.c_typing.specs.Conversions.{Operand}
-use Rattle.c_typing.specs.Constraints.{violates, all_codes, first_where, first_violated}
-use Rattle.c_typing.specs.Nodes.{Node, typed_node}
+use Rattle.c_rules.specs.Types.{Types}
+use Rattle.c_rules.specs.Conversions.{Operand}
+use Rattle.c_rules.specs.Constraints.{violates, all_codes, first_where, first_violated}
+use Rattle.c_rules.specs.Nodes.{Node, typed_node}
 use Rattle.c_typing.specs.Scopes.{Env, Walk, Found, Good, Bad, following}
 use Rattle.c_typing.specs.Steps.{node_or, at_node}
 

@@ -9,7 +9,7 @@ use Rattle.byte_mem.specs.Memory.{Memory}
 use Rattle.type_graph.specs.declared.nodes.Quals.{Quals}
 use Rattle.type_graph.specs.Shapes.{Shape, VoidType, IntType, PtrType, ArrayType, FuncType, AggType}
 use Rattle.execution.specs.Data.{Datum, Single}
-use Rattle.c_typing.specs.Types.{Types}
+use Rattle.c_rules.specs.Types.{Types}
 use Rattle.typed_values.specs.Values.{single_in}
 use Rattle.c_semantics.specs.Values.{kind_of, binary_value}
 use Rattle.c_semantics.specs.Places.{Activation}

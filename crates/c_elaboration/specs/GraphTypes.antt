@@ -4,7 +4,7 @@ use Rattle.type_graph.specs.Arena.{Graph, IsArena}
 use Rattle.type_graph.specs.Layouts.{offset}
 use Rattle.cil_tree.specs.Typing.{names_enum}
 use Rattle.cil_semantics.specs.Values.{sizes_of as graph_sizes}
-use Rattle.c_typing.specs.Types.{offset_in}
+use Rattle.c_rules.specs.Types.{offset_in}
 use Rattle.c_semantics.specs.Values.{sizes_of}
 use Rattle.typed_semantics.specs.Units.{types_of}
 

@@ -4,8 +4,8 @@ use Rattle.execution.specs.States.{State, Result}
 use Rattle.execution.specs.Calls.{Enter}
 use Rattle.typed_tree.specs.Tree.{Typed}
 use Rattle.c_tree.specs.Syntax.{ExprTree, InitTree}
-use Rattle.c_typing.specs.Types.{CType}
-use Rattle.c_typing.specs.Conversions.{Operand, value_as}
+use Rattle.c_rules.specs.Types.{CType}
+use Rattle.c_rules.specs.Conversions.{Operand, value_as}
 use Rattle.c_typing.specs.Initialisers.{Filling, inits, beginning, whole_part}
 use Rattle.c_typing.specs.Scopes.{Env, Walk, Good}
 use Rattle.c_typing.specs.Statements.{effect, test, selector}

@@ -11,7 +11,7 @@ use Rattle.type_things.specs.Units.{things, aggregate_count, firsts_from}
 use Rattle.type_links.specs.declared.linking.Side.{Side}
 use Rattle.type_links.specs.Links.{FailsFirst}
 use Rattle.c_lexer.specs.Lexed.{place_at}
-use Rattle.c_typing.specs.Types.{same_name, any_of}
+use Rattle.c_rules.specs.Types.{same_name, any_of}
 use Rattle.c_faults.specs.Reading.{Source, Read}
 use Rattle.c_faults.specs.Acceptance.{Clashes, FaultAt, Accepted, names_behind}
 use Rattle.c_faults.specs.UnitTypes.{Declared, UnitTypes, types_of}

@@ -6,7 +6,7 @@ use Rattle.cil_base.specs.declared.faults.Place.{Place}
 use Rattle.cil_base.specs.declared.faults.Refusal.{Refusal}
 use Rattle.cil_base.specs.declared.numbers.NameId.{NameId}
 use Rattle.c_lexer.specs.Lexed.{Lexed, place_at}
-use Rattle.c_typing.specs.Types.{same_name}
+use Rattle.c_rules.specs.Types.{same_name}
 use Rattle.c_typing.specs.Scopes.{Linkage, External, Internal, NoLinkage, Entity}
 use Rattle.c_faults.specs.Reading.{Read}
 

@@ -12,7 +12,7 @@ use Rattle.type_graph.specs.declared.nodes.QualType.{QualType}
 use Rattle.type_graph.specs.declared.nodes.Quals.{Quals}
 use Rattle.type_graph.specs.Arena.{Graph}
 use Rattle.type_graph.specs.Shapes.{Shape, Shapes, VoidType, IntType, PtrType, ArrayType, FuncType, AggType, NoTypes, MoreTypes}
-use Rattle.c_typing.specs.Types.{Types, Member as UnitMember, Aggregate as UnitAggregate, same_name, any_of}
+use Rattle.c_rules.specs.Types.{Types, Member as UnitMember, Aggregate as UnitAggregate, same_name, any_of}
 use Rattle.c_typing.specs.Scopes.{Linkage, External, Internal, NoLinkage, Entity, Env}
 use Rattle.c_typing.specs.Faults.{place_of_text}
 

@@ -8,9 +8,9 @@ use Rattle.execution.specs.Calls.{Enter}
 use Rattle.typed_tree.specs.Tree.{Typed, shape_in}
 use Rattle.typed_tree.specs.Statements.{Stmt}
 use Rattle.c_tree.specs.Syntax.{ExprTree, Name, Integer, Character, Literals, Parentheses, Index, Call, Member, Arrow, Postfix, CompoundLiteral, Prefix, Unary, SizeofExpr, SizeofType, AlignofType, Cast, Binary, Logical, Conditional, Assign, Comma, ExprTrees, NoExprs, MoreExprs, InitTree, Single, Braces, Item, ItemTrees, NoItems, MoreItems}
-use Rattle.c_typing.specs.Types.{Types, size_in, alignment_in}
-use Rattle.c_typing.specs.Conversions.{Operand}
-use Rattle.c_typing.specs.Constants.{integer_constant, character_constant}
+use Rattle.c_rules.specs.Types.{Types, size_in, alignment_in}
+use Rattle.c_rules.specs.Conversions.{Operand}
+use Rattle.c_rules.specs.Constants.{integer_constant, character_constant}
 use Rattle.c_typing.specs.Scopes.{Env, Found, Good, Bad, Walk, unevaluated, visible_name}
 use Rattle.c_typing.specs.Steps.{logic_of, postfix_form, prefix_form}
 use Rattle.c_typing.specs.Walk.{expr, exprs, named_type}

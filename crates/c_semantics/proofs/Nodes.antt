@@ -17,12 +17,12 @@ use Rattle.typed_tree.specs.declared.expressions.StepForm.{StepForm}
 use Rattle.typed_tree.specs.Tree.{Typed, Has, Integer, Local, Literal, Entity, Load, Decay, Address as Addressed, Indirect, Subscript, Member, Convert, Unary, Binary, Logical, Conditional, Comma, Assign, Compute, Step, Call, Inits, NoInits, MoreInits, Zero, Scalar, Constant', Aggregate, Bytes}
 use Rattle.c_tree.specs.declared.words.UnaryOp.{UnaryOp}
 use Rattle.c_tree.specs.declared.words.UnaryOp.TheVariants.{Address, Indirection, Plus, Minus, Complement, Not as Negation}
-use Rattle.c_typing.specs.Types.{Types, Hop, is_array}
-use Rattle.c_typing.specs.Conversions.{Operand, shape_of, promoted_shape}
-use Rattle.c_typing.specs.Nodes.{int_shape}
+use Rattle.c_rules.specs.Types.{Types, Hop, is_array}
+use Rattle.c_rules.specs.Conversions.{Operand, shape_of, promoted_shape}
+use Rattle.c_rules.specs.Nodes.{int_shape}
 use Rattle.c_typing.specs.Initialisers.{Path}
 use Rattle.std.specs.Prelude.{ℤ, pos}
-use Rattle.c_typing.specs.Operators.{Sides}
+use Rattle.c_rules.specs.Operators.{Sides}
 use Rattle.c_typing.specs.Scopes.{Denotes, TypedefName, EnumerationConstant, Automatic, Static}
 use Rattle.typed_values.specs.Values.{single_in}
 use Rattle.c_semantics.specs.Values.{as_type, unary_value, binary_value, value_at, stored, zeroed, filled, part_from, object_pointer, is_const}

@@ -19,7 +19,7 @@ use Rattle.execution.proofs.CallLaws.{returns_tied, calls_tied}
 use Rattle.execution.proofs.LinkLaws.{linked_tame}
 use Rattle.typed_tree.specs.Units.{Definition, Declared, Zero, Initialised, Body, Function, Local}
 use Rattle.c_tree.specs.Units.{Compound, UnitTree}
-use Rattle.c_typing.specs.Types.{Types}
+use Rattle.c_rules.specs.Types.{Types}
 use Rattle.c_typing.specs.Scopes.{Entity, Env, Found, Good, Bad}
 use Rattle.c_typing.specs.Faults.{walked, start_env}
 use Rattle.c_semantics.specs.Places.{Activation}

@@ -14,11 +14,11 @@ use Rattle.typed_tree.specs.Tree.{Typed, Has, Literal, Entity, Integer as Intege
 use Rattle.c_tree.specs.declared.words.UnaryOp.{UnaryOp}
 use Rattle.c_tree.specs.declared.words.UnaryOp.TheVariants.{Address, Indirection, Plus, Minus, Complement, Not as Negation}
 use Rattle.c_tree.specs.Syntax.{ExprTree, Name, Integer, Character, Literals, Parentheses, Index, Call, Member, Arrow, Postfix, CompoundLiteral, Prefix, Unary, SizeofExpr, SizeofType, AlignofType, Cast, Binary, Logical, Conditional, Assign, Comma, ExprTrees, NoExprs, MoreExprs, InitTree, Single as Lone, Braces, Item, ItemTrees, NoItems, MoreItems}
-use Rattle.c_typing.specs.Types.{CType, Hop, Types, pointee, is_void, member_path, size_in, alignment_in}
-use Rattle.c_typing.specs.Conversions.{Operand, shape_of, promoted_shape, same_shape}
-use Rattle.c_typing.specs.Constants.{integer_constant, character_constant}
-use Rattle.c_typing.specs.Operators.{binary_sides, subscript_sides, compound_sides, step_shape, branch_shape}
-use Rattle.c_typing.specs.Nodes.{callee_of}
+use Rattle.c_rules.specs.Types.{CType, Hop, Types, pointee, is_void, member_path, size_in, alignment_in}
+use Rattle.c_rules.specs.Conversions.{Operand, shape_of, promoted_shape, same_shape}
+use Rattle.c_rules.specs.Constants.{integer_constant, character_constant}
+use Rattle.c_rules.specs.Operators.{binary_sides, subscript_sides, compound_sides, step_shape, branch_shape}
+use Rattle.c_rules.specs.Nodes.{callee_of}
 use Rattle.c_typing.specs.Scopes.{Denotes, TypedefName, EnumerationConstant, Automatic, Static, unevaluated, visible_name}
 use Rattle.c_typing.specs.Steps.{logic_of, postfix_form, prefix_form}
 use Rattle.c_typing.specs.Walk.{expr, exprs, named_type}

@@ -20,12 +20,12 @@ use Rattle.typed_tree.specs.declared.expressions.Logic.{Logic}
 use Rattle.typed_tree.specs.declared.expressions.StepForm.{StepForm}
 use Rattle.typed_tree.specs.declared.expressions.StepForm.TheVariants.{PreIncrement, PreDecrement, PostIncrement, PostDecrement}
 use Rattle.typed_tree.specs.Tree.{Inits, NoInits, MoreInits, Zero, Scalar, Constant', Aggregate, Bytes, shape_in}
-use Rattle.c_typing.specs.Types.{CType, Hop, is_array}
-use Rattle.c_typing.specs.Conversions.{Operand, shape_of}
-use Rattle.c_typing.specs.Evaluation.{decided_by}
+use Rattle.c_rules.specs.Types.{CType, Hop, is_array}
+use Rattle.c_rules.specs.Conversions.{Operand, shape_of}
+use Rattle.c_rules.specs.Evaluation.{decided_by}
 use Rattle.c_typing.specs.Initialisers.{Path}
-use Rattle.c_typing.specs.Nodes.{int_shape}
-use Rattle.c_typing.specs.Operators.{Sides}
+use Rattle.c_rules.specs.Nodes.{int_shape}
+use Rattle.c_rules.specs.Operators.{Sides}
 use Rattle.typed_values.specs.Values.{single_in}
 use Rattle.c_semantics.specs.Values.{kind_of, as_type, unary_value, binary_value, holds_of, value_at, member_at, member_value, around_member, part_from, is_const, stored, zeroed, filled, object_pointer}
 use Rattle.c_semantics.specs.Places.{Activation, Here, part_of, local_of, literal_number}

@@ -10,8 +10,8 @@ use Rattle.typed_tree.specs.Tree.{Typed, Form, Has, Integer, Local, Literal, Ent
 use Rattle.typed_tree.specs.Places.{is_place}
 use Rattle.typed_tree.specs.Statements.{Stmt, Expr, Declare, Block, If, Switch, While, Do, For, Label, Case, Default, Goto, Break, Continue, Return, Stmts, Done, Seq}
 use Rattle.typed_tree.specs.Units.{Local as LocalObject, Literal as LiteralObject}
-use Rattle.c_typing.specs.Types.{Types, is_array, size_in, offset_in}
-use Rattle.c_typing.specs.Conversions.{Operand}
+use Rattle.c_rules.specs.Types.{Types, is_array, size_in, offset_in}
+use Rattle.c_rules.specs.Conversions.{Operand}
 use Rattle.c_typing.specs.Scopes.{Env, Found, Good, Bad, Walk, empty_scope}
 use Rattle.c_typing.specs.Statements.{Place}
 

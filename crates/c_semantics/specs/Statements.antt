@@ -15,8 +15,8 @@ use Rattle.typed_tree.specs.Statements.{Stmt, Declare, Case as When, Expr as AnE
 use Rattle.typed_tree.specs.Units.{Local as LocalObject}
 use Rattle.c_tree.specs.Syntax.{ExprTree, SpecifierTrees, DeclaratorTree, InitTree}
 use Rattle.c_tree.specs.Units.{DeclarationTree, Declares, Asserts, ForStart, StartExpr, StartDeclaration, StmtTree, Labelled, Case, Default, Compound, Expression, If, IfElse, Switch, While, Do, For, Goto, Continue, Break, Return, BlockItem, Declaring, Doing, BlockItems, NoItems, MoreItems}
-use Rattle.c_typing.specs.Types.{any_of, size_in}
-use Rattle.c_typing.specs.Conversions.{promoted_shape, shape_of}
+use Rattle.c_rules.specs.Types.{any_of, size_in}
+use Rattle.c_rules.specs.Conversions.{promoted_shape, shape_of}
 use Rattle.c_typing.specs.Specifiers.{Position, InBlock, InFor}
 use Rattle.c_typing.specs.Steps.{Base, base_with}
 use Rattle.c_typing.specs.Walk.{expr, named}

@@ -12,7 +12,7 @@ use Rattle.c_cursor.specs.Lexemes.{lexeme_of}
 use Rattle.c_cursor.specs.Readers.{input}
 use Rattle.c_exprs.specs.Reading.{below}
 use Rattle.c_parser.specs.UnitReading.{lower, unit}
-use Rattle.c_typing.specs.Text.{tree_of}
+use Rattle.c_typing_rows.specs.Text.{tree_of}
 use Rattle.c_semantics.specs.Units.{RunC}
 
 -- a unit, and the texts of names behind it

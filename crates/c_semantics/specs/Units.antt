@@ -22,7 +22,7 @@ use Rattle.execution.specs.Runs.{run, units_spent, finds_end}
 use Rattle.typed_tree.specs.Tree.{Inits, NoInits, MoreInits, Zero, Scalar, Constant', Aggregate, Bytes}
 use Rattle.typed_tree.specs.Units.{Definition, Declared, Zero as ZeroBytes, Initialised, Body, Function as TypedFunction, Local}
 use Rattle.c_tree.specs.Units.{BlockItems, Compound, ExternalTree, Definition as FunctionDefinition, External as ExternalDeclaration, UnitTree}
-use Rattle.c_typing.specs.Types.{Types, is_function, size_in, any_of}
+use Rattle.c_rules.specs.Types.{Types, is_function, size_in, any_of}
 use Rattle.c_typing.specs.Initialisers.{Path}
 use Rattle.c_typing.specs.Scopes.{Linkage, External, Internal, NoLinkage, Entity, Env, Found, Good, Bad}
 use Rattle.c_typing.specs.Statements.{labels_in_items}

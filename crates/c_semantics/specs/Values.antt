@@ -20,8 +20,8 @@ use Rattle.typed_values.specs.Values as typed
 use Rattle.typed_values.specs.Values.{TypeSizes}
 use Rattle.typed_tree.specs.declared.initialisers.Step.{Step as PathStep}
 use Rattle.typed_tree.specs.declared.initialisers.Step.TheVariants.{Field, Index}
-use Rattle.c_typing.specs.Types.{CType, Types, is_integer, size_in, offset_in, has_constant}
-use Rattle.c_typing.specs.Conversions.{alike, decays}
+use Rattle.c_rules.specs.Types.{CType, Types, is_integer, size_in, offset_in, has_constant}
+use Rattle.c_rules.specs.Conversions.{alike, decays}
 use Rattle.c_typing.specs.Initialisers.{Path, part_of}
 
 -- what operators ask of a unit's types

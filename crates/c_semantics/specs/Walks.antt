@@ -6,7 +6,7 @@ use Rattle.typed_tree.specs.Statements.{Stmt}
 use Rattle.c_tree.specs.Syntax.{ExprTree, SpecifierTrees, DeclaratorTree, DesignatorTrees, NoDesignators, MoreDesignators, AtIndex, AtMember}
 use Rattle.c_tree.specs.Units.{StmtTree, BlockItem, Declaring, Doing}
 use Rattle.c_tree.specs.Places.{first_expr}
-use Rattle.c_typing.specs.Types.{CType}
+use Rattle.c_rules.specs.Types.{CType}
 use Rattle.c_typing.specs.Specifiers.{InBlock, Defining, class_of, is_inline}
 use Rattle.c_typing.specs.Scopes.{Env, Walk, ◌>>=◌, pure, asks, scoped}
 use Rattle.c_typing.specs.Declarators.{Derivation, declared_in, place_in, built, last_of}

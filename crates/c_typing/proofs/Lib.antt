@@ -1,4 +1,1 @@
-mod Accepted
-mod Rows
-mod Limits
-mod Completed
+mod Order

@@ -12,8 +12,8 @@ use Rattle.typed_tree.specs.Tree.{Typed, shape_in}
 use Rattle.typed_tree.specs.Units.{Local}
 use Rattle.c_tree.specs.Syntax.{SpecifierTrees, DeclaratorTree, Declared, Absent, Grouped, Pointer, Array, Function, Unprototyped}
 use Rattle.c_tree.specs.Places.{first_specifiers}
-use Rattle.c_typing.specs.Types.{CType, Types, plain, unqualified, pointer_to, is_void, is_array, is_function, is_object, is_too_big, lacks_type, kind_in}
-use Rattle.c_typing.specs.Evaluation.{integer_value, has_constant_form}
+use Rattle.c_rules.specs.Types.{CType, Types, plain, unqualified, pointer_to, is_void, is_array, is_function, is_object, is_too_big, lacks_type, kind_in}
+use Rattle.c_rules.specs.Evaluation.{integer_value, has_constant_form}
 use Rattle.c_typing.specs.Scopes.{Scope, Walk, ◌>>=◌, pure, faults, refuses_if, exceeds_if, types_of}
 
 -- the first token of what begins with specifiers: there is at least one (6.7p1, 6.7.2.1p1, 6.7.6p1)

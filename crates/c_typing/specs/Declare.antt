@@ -16,9 +16,9 @@ use Rattle.c_tree.specs.declared.words.StorageClass.{StorageClass}
 use Rattle.c_tree.specs.declared.words.StorageClass.TheVariants as class
 use Rattle.c_tree.specs.Syntax.{SpecifierTrees, InitTree}
 use Rattle.c_tree.specs.Places.{first_specifiers, first_init}
-use Rattle.c_typing.specs.Types.{CType, Types, is_void, is_function, lacks_type, complete}
-use Rattle.c_typing.specs.Conversions.{compatible, same_shape}
-use Rattle.c_typing.specs.Constraints.{is_declared}
+use Rattle.c_rules.specs.Types.{CType, Types, is_void, is_function, lacks_type, complete}
+use Rattle.c_rules.specs.Conversions.{compatible, same_shape}
+use Rattle.c_rules.specs.Constraints.{is_declared}
 use Rattle.c_typing.specs.Specifiers.{class_of, is_inline}
 use Rattle.c_typing.specs.Scopes.{Linkage, External, Internal, NoLinkage, Denotes, TypedefName, EnumerationConstant, Automatic, Static, Entity, Env, Walk, ◌>>=◌, pure, asks, changes, refuses_if, excludes_if, types_of, visible_name, own_name, is_file_scope, with_name, new_entity, changes_entity, changed_at, entity_named}
 use Rattle.c_typing.specs.Declarators.{Derivation, PointerTo, ArrayOf, FunctionOf, BareFunctionOf, at_first}

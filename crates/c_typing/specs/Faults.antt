@@ -15,7 +15,7 @@ use Rattle.typed_tree.specs.Statements.{Stmt}
 use Rattle.typed_tree.specs.Units.{Function as TypedFunction, Local, Declared as DeclaredAlone, Zero as ZeroBytes, Body}
 use Rattle.c_tree.specs.Syntax.{SpecifierTrees, DeclaratorTree, Declared, Absent, Grouped, Pointer, Array, Function, Unprototyped, Parameter, ParameterTrees, NoParameters, MoreParameters}
 use Rattle.c_tree.specs.Units.{BlockItems, ExternalTree, Definition as FunctionDefinition, External as ExternalDeclaration, UnitTree}
-use Rattle.c_typing.specs.Types.{CType, Types, plain, unqualified, is_function, lacks_type}
+use Rattle.c_rules.specs.Types.{CType, Types, plain, unqualified, is_function, lacks_type}
 use Rattle.c_typing.specs.Specifiers.{AtFile, Defining, class_of, is_inline}
 use Rattle.c_typing.specs.Scopes.{External, Internal, Static, Entity, Scope, Env, Found, Good, Bad, Walk, ◌>>=◌, pure, asks, changes, refuses_if, exceeds_if, types_of, left, changes_entity, empty_scope}
 use Rattle.c_typing.specs.Declarators.{Derivation, FunctionOf, declared_in, place_in, is_bare, built, last_of}

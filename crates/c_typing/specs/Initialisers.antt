@@ -8,8 +8,8 @@ use Rattle.type_graph.specs.Shapes.{Shape, ArrayType, AggType}
 use Rattle.typed_tree.specs.declared.initialisers.Step.{Step as PathStep}
 use Rattle.typed_tree.specs.declared.initialisers.Step.TheVariants.{Field, Index}
 use Rattle.typed_tree.specs.Tree.{Init, Zero, Bytes, Inits, NoInits, MoreInits}
-use Rattle.c_typing.specs.Types.{CType, Member, Types, Hop, members_of, aggregate_kind, kind_in, is_record, is_scalar}
-use Rattle.c_typing.specs.Conversions.{Operand, shape_of, compatible}
+use Rattle.c_rules.specs.Types.{CType, Member, Types, Hop, members_of, aggregate_kind, kind_in, is_record, is_scalar}
+use Rattle.c_rules.specs.Conversions.{Operand, shape_of, compatible}
 
 abbrev pub Path : Type 0
 Path = List PathStep

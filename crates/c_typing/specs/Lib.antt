@@ -1,12 +1,5 @@
-pub mod Types
-pub mod Conversions
-pub mod Operators
-pub mod Constants
-pub mod Evaluation
 pub mod Scopes
 pub mod Specifiers
-pub mod Nodes
-pub mod Constraints
 pub mod Declarators
 pub mod Initialisers
 pub mod Steps
@@ -14,4 +7,3 @@ pub mod Walk
 pub mod Declare
 pub mod Statements
 pub mod Faults
-pub mod Text

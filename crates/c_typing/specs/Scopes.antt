@@ -8,7 +8,7 @@ use Rattle.cil_base.specs.declared.faults.Code.{Code}
 use Rattle.cil_base.specs.declared.faults.Feature.{Feature}
 use Rattle.cil_base.specs.declared.faults.What.{What}
 use Rattle.typed_tree.specs.Units.{Definition, Local, Literal}
-use Rattle.c_typing.specs.Types.{CType, Aggregate, Types, same_name}
+use Rattle.c_rules.specs.Types.{CType, Aggregate, Types, same_name}
 
 infixl 10 ◌>>=◌
 -- linkage (6.2.2p1)

@@ -15,7 +15,7 @@ use Rattle.c_tree.specs.declared.words.Qualifier.{Qualifier}
 use Rattle.c_tree.specs.declared.words.Qualifier.TheVariants as qualifier
 use Rattle.c_tree.specs.declared.words.FunctionSpecifier.TheVariants as functional
 use Rattle.c_tree.specs.Syntax.{SpecifierTree, Storage, Basic, Qualified, Functional, TypedefName, Tag, StructBody, EnumBody, SpecifierTrees, NoSpecifiers, MoreSpecifiers}
-use Rattle.c_typing.specs.Types.{CType, plain, joined, is_object}
+use Rattle.c_rules.specs.Types.{CType, plain, joined, is_object}
 
 -- one word
 abbrev pub same_word : BasicType → BasicType → Bool
@@ -182,18 +182,6 @@ abbrev pub class_of : SpecifierTrees → Option StorageClass
 class_of ss = elim (classes_in ss) [ [] ↦ None | c ∷ cs ↦ Some c ]
 
 -- qualified types (6.7.3)
-
--- the qualifiers of an array go to its element, those of a function type are dropped (6.7.3p9; the latter own)
-abbrev pub with_quals : Quals → Quals → Shape → CType
-with_quals q p (ArrayType r s bound) = array_of (with_quals q r s) bound
-  where
-    array_of : CType → Option ℕ → CType
-    array_of c bound = record { quals = plain; shape = ArrayType c.quals c.shape bound }
-with_quals q p (FuncType ret params proto variadic) = record { quals = plain; shape = FuncType ret params proto variadic }
-with_quals q p s = record { quals = joined q p; shape = s }
-
-abbrev pub qualified : Quals → CType → CType
-qualified q c = with_quals q c.quals c.shape
 
 -- `restrict` stands on a pointer to an object type (6.7.3p2), and on no array of such (own, where p9 would give it to the elements)
 abbrev pub takes_restrict : Shape → Bool

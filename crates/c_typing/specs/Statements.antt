@@ -12,11 +12,11 @@ use Rattle.typed_tree.specs.Statements.{Stmt, Stmts, Done, Seq, Expr, Block, Lab
 use Rattle.c_tree.specs.Syntax.{ExprTree, SpecifierTrees, DeclaratorTree, InitTree}
 use Rattle.c_tree.specs.Units.{DeclarationTree, Declares, Asserts, ForStart, StartExpr, StartDeclaration, StmtTree, Labelled, Case, Default, Compound, Expression, If, IfElse, Switch, While, Do, For, Goto, Continue, Break, Return, BlockItem, Declaring, Doing, BlockItems, NoItems, MoreItems}
 use Rattle.c_tree.specs.Places.{first_expr}
-use Rattle.c_typing.specs.Types.{Types, any_of, is_void, kind_in, same_name}
-use Rattle.c_typing.specs.Conversions.{Operand, value_of}
-use Rattle.c_typing.specs.Evaluation.{integer_value}
+use Rattle.c_rules.specs.Types.{Types, any_of, is_void, kind_in, same_name}
+use Rattle.c_rules.specs.Conversions.{Operand, value_of}
+use Rattle.c_rules.specs.Evaluation.{integer_value}
 use Rattle.c_typing.specs.Specifiers.{Position, InBlock, InFor, count_specifiers}
-use Rattle.c_typing.specs.Nodes.{TestNode, SwitchNode, ValueNode, ConvertNode}
+use Rattle.c_rules.specs.Nodes.{TestNode, SwitchNode, ValueNode, ConvertNode}
 use Rattle.c_typing.specs.Scopes.{Env, Cases, Walk, ◌>>=◌, pure, asks, changes, refuses_if, required, types_of, scoped}
 use Rattle.c_typing.specs.Declarators.{declared_in, place_in, built}
 use Rattle.c_typing.specs.Steps.{at_node, by_node, base_with, asserted, refuses_reserved, Base}

@@ -38,14 +38,14 @@ use Rattle.c_tree.specs.declared.words.LogicalOp.{LogicalOp}
 use Rattle.c_tree.specs.declared.words.LogicalOp.TheVariants.{And, Or}
 use Rattle.c_tree.specs.Syntax.{ExprTrees, NoExprs, MoreExprs, Qualified, SpecifierTrees, NoSpecifiers, MoreSpecifiers, MemberLine, MemberAssert, MemberTrees, NoMembers, MoreMembers, MemberDeclaratorTrees, NoMemberDeclarators, MoreMemberDeclarators, DeclaratorTree, ParameterTrees, NoParameters, MoreParameters}
 use Rattle.c_tree.specs.Places.{first_expr, first_specifiers}
-use Rattle.c_typing.specs.Types.{CType, Types, Member as MemberType, Aggregate, plain, unqualified, same_name, pointee, is_void, is_function, is_object, is_array, is_too_big, lacks_type, any_of, aggregate_at, member_path}
-use Rattle.c_typing.specs.Conversions.{Operand, operand, value_of, shape_of}
-use Rattle.c_typing.specs.Constants.{string_literal}
-use Rattle.c_typing.specs.Evaluation.{integer_value, constant_in}
-use Rattle.c_typing.specs.Specifiers.{Position, are_specifiers, qualifiers, qualifiers_in, words_in, basic_shape, class_of, has_tagless_body, qualified, is_wrong_restrict}
+use Rattle.c_rules.specs.Types.{CType, Types, Member as MemberType, Aggregate, plain, unqualified, same_name, pointee, is_void, is_function, is_object, is_array, is_too_big, lacks_type, any_of, aggregate_at, member_path, qualified}
+use Rattle.c_rules.specs.Conversions.{Operand, operand, value_of, shape_of}
+use Rattle.c_rules.specs.Constants.{string_literal}
+use Rattle.c_rules.specs.Evaluation.{integer_value, constant_in}
+use Rattle.c_typing.specs.Specifiers.{Position, are_specifiers, qualifiers, qualifiers_in, words_in, basic_shape, class_of, has_tagless_body, is_wrong_restrict}
 use Rattle.c_typing.specs.Scopes.{Env, Scope, Entity, Denotes, TypedefName as ATypedefName, EnumerationConstant, Automatic, Static, NoLinkage, Walk, ◌>>=◌, pure, asks, changes, faults, refuses_if, exceeds_if, required, visible_name, visible_tag, own_name, own_tag, with_name, with_tag, empty_scope, enter, leave, types_of, new_aggregate, with_changed_aggregate, new_entity, uses}
-use Rattle.c_typing.specs.Nodes.{Node, NameNode, ConstantNode, CallNode, MemberNode, ArrowNode, AddressNode, IndirectNode, PlusNode, UnaryNode, AssignNode, ComputeNode, ConvertNode, constant_operand, place, typed_node}
-use Rattle.c_typing.specs.Constraints.{has_wrong_escape, is_declared, first_violated, wrong_argument}
+use Rattle.c_rules.specs.Nodes.{Node, NameNode, ConstantNode, CallNode, MemberNode, ArrowNode, AddressNode, IndirectNode, PlusNode, UnaryNode, AssignNode, ComputeNode, ConvertNode, constant_operand, place, typed_node}
+use Rattle.c_rules.specs.Constraints.{has_wrong_escape, is_declared, first_violated, wrong_argument}
 use Rattle.c_typing.specs.Declarators.{at_first, declared_in, place_in, Derivation, ArrayOf, FunctionOf, bound_of, built, last_of, adjusted, bracket_quals, is_lone_void}
 use Rattle.c_typing.specs.Initialisers.{Path, Part, Frame, Filling, AValue, takes_whole, with_whole, with_bytes, fitting, has_room, bound_of_array, inits}
 

@@ -13,13 +13,13 @@ use Rattle.type_graph.specs.declared.aggregates.AggKind.TheVariants as aggregate
 use Rattle.typed_tree.specs.Tree.{Literal as LiteralObject, Entity as StaticObject, shape_in}
 use Rattle.c_tree.specs.Syntax.{ExprTree, Name, Integer, Character, Literals, Parentheses, Index, Call, Member, Arrow, Postfix, CompoundLiteral, Prefix, Unary, SizeofExpr, SizeofType, AlignofType, Cast, Binary, Logical, Conditional, Assign, Comma, TypeNameTree, TypeName, ExprTrees, NoExprs, MoreExprs, SpecifierTree, Storage, Basic, Qualified, Functional, TypedefName, Tag, StructBody, EnumBody, SpecifierTrees, NoSpecifiers, MoreSpecifiers, MemberTree, MemberLine, MemberAssert, MemberTrees, NoMembers, MoreMembers, MemberDeclaratorTree, Plain, BitField, MemberDeclaratorTrees, NoMemberDeclarators, MoreMemberDeclarators, Enumerates, EnumeratorTrees, NoEnumerators, MoreEnumerators, MaybeExpr, NoExpr, SomeExpr, DeclaratorTree, Declared, Absent, Grouped, Pointer, Array, Function, Unprototyped, BoundTree, Unspecified, Star, Size, StaticSize, SizeStatic, Parameter, ParameterTrees, NoParameters, MoreParameters, InitTree, Single, Braces, Item, ItemTrees, NoItems, MoreItems, DesignatorTree, AtIndex, AtMember, DesignatorTrees, NoDesignators, MoreDesignators}
 use Rattle.c_tree.specs.Places.{first_expr, first_type_name, first_specifiers, first_item}
-use Rattle.c_typing.specs.Types.{CType, Types, Member as MemberType, is_array, is_too_big, is_scalar, is_flexible, complete, member_path}
-use Rattle.c_typing.specs.Conversions.{Operand, operand}
-use Rattle.c_typing.specs.Constants.{integer_constant, character_constant, string_literal}
-use Rattle.c_typing.specs.Constraints.{has_wrong_escape}
+use Rattle.c_rules.specs.Types.{CType, Types, Member as MemberType, is_array, is_too_big, is_scalar, is_flexible, complete, member_path}
+use Rattle.c_rules.specs.Conversions.{Operand, operand}
+use Rattle.c_rules.specs.Constants.{integer_constant, character_constant, string_literal}
+use Rattle.c_rules.specs.Constraints.{has_wrong_escape}
 use Rattle.c_typing.specs.Specifiers.{InParameter, NoStorage, qualifiers}
 use Rattle.c_typing.specs.Scopes.{Env, Walk, ◌>>=◌, pure, asks, changes, faults, refuses_if, excludes_if, exceeds_if, required, unevaluated, types_of}
-use Rattle.c_typing.specs.Nodes.{IndexNode, StepNode, BinaryNode, LogicalNode, ConditionalNode, CommaNode, CastNode, SizeofNode, AlignofNode, place}
+use Rattle.c_rules.specs.Nodes.{IndexNode, StepNode, BinaryNode, LogicalNode, ConditionalNode, CommaNode, CastNode, SizeofNode, AlignofNode, place}
 use Rattle.c_typing.specs.Declarators.{at_first, declared_in, place_in, is_bare, Derivation, PointerTo, ArrayOf, BareFunctionOf, built}
 use Rattle.c_typing.specs.Initialisers.{Part, Frame, Filling, Given, ALiteral, AValue, next_part, designated, designated_along, down_to, nesting_of, with_zero, inits, beginning, whole_part, completed, is_character_array}
 use Rattle.c_typing.specs.Steps.{at_node, by_node, by_operand, by_sized, at_call, identifier, constant, nameless, made_entity, literal_of, logic_of, postfix_form, prefix_form, unary_node, assign_node, member_node, arrow_node, ats_of, base_with, typedef_named, kind_of_tag, kind_of_structure, tagged, opened, names_member, is_misspelled_line, anonymous_member, is_no_line, is_end, known_integer, asserted, closes_body, enumerates, closes_enum, refuses_words, has_words, sized, count_locals, no_parameters, one_parameter, is_last, prototyped, type_with, with_value, with_literal, in_flexible, Base, Body, Parameters}

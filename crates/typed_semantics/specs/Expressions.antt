@@ -10,8 +10,8 @@ use Rattle.execution.specs.States.{State, Result, Goes, Undefined}
 use Rattle.execution.specs.Data.{Datum, Argument}
 use Rattle.execution.specs.Calls.{Enter}
 use Rattle.typed_tree.specs.Tree.{Typed, Form, Has, Integer, Local, Literal, Entity, Load, Decay, Address, Indirect, Subscript, Member, Convert, Unary, Binary, Logical, Conditional, Comma, Assign, Compute, Step, Call, Arguments, NoArguments, MoreArguments, Inits, NoInits, MoreInits, Zero, Scalar, Constant', Aggregate, Bytes, shape_in}
-use Rattle.c_typing.specs.Types.{CType, Hop}
-use Rattle.c_typing.specs.Operators.{sides}
+use Rattle.c_rules.specs.Types.{CType, Hop}
+use Rattle.c_rules.specs.Operators.{sides}
 use Rattle.c_semantics.specs.Values.{kind_of, cast_value, holds_of}
 use Rattle.c_semantics.specs.Places.{Activation, outer_of, literal_number, array_number, arrays_in}
 use Rattle.c_semantics.specs.Operations.{Action, ◌>>=◌, gives, known, seen, Seen, Is, is_value, is_number, single, valued, placed, indirect, operated, computed, subscripted, logical, chosen, member, assigned, compound, stepped, called, unit_object, local_object, Object, literal_object, zero_part, fill_part, store_part, initialised}

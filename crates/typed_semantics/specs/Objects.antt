@@ -4,7 +4,7 @@ use Rattle.execution.specs.Data.{Automatic}
 use Rattle.typed_tree.specs.Tree.{Typed}
 use Rattle.typed_tree.specs.Statements.{Stmt, Declare, Stmts, Done, Seq}
 use Rattle.typed_tree.specs.Units.{Function, Local as LocalObject}
-use Rattle.c_typing.specs.Types.{size_in}
+use Rattle.c_rules.specs.Types.{size_in}
 use Rattle.c_semantics.specs.Places.{Activation, sized, literal_objects, literals_in, literals_in_maybe, own_literals}
 
 -- an object with its size

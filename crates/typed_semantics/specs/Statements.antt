@@ -12,7 +12,7 @@ use Rattle.execution.specs.Calls.{Enter}
 use Rattle.typed_tree.specs.Tree.{Typed, Inits}
 use Rattle.typed_tree.specs.Statements.{Stmt, Expr, Declare, Block, If, Switch, While, Do, For, Label, Case, Default, Goto, Break, Continue, Return, Stmts, Done, Seq}
 use Rattle.typed_tree.specs.Units.{Function, Local as LocalObject}
-use Rattle.c_typing.specs.Types.{size_in}
+use Rattle.c_rules.specs.Types.{size_in}
 use Rattle.c_semantics.specs.Places.{Activation, local_of, array_number, numbers_from, in_block, arrays_in, arrays_in_maybe, arrays_in_stmt, arrays_in_stmts}
 use Rattle.c_semantics.specs.Operations.{Action, ◌>>=◌, gives, known, changes, single, Object, initialised}
 use Rattle.c_semantics.specs.Statements.{is_label, labelled, defaulted, ended}

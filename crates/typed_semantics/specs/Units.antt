@@ -19,7 +19,7 @@ use Rattle.execution.specs.Runs.{run}
 use Rattle.typed_tree.specs.declared.units.EntityKind.{EntityKind}
 use Rattle.typed_tree.specs.declared.units.EntityKind.TheVariants.{External, Internal, StaticLocal, Literal}
 use Rattle.typed_tree.specs.Units.{Unit as TypedTree, Entity as TreeEntity, Definition, Declared, Zero, Initialised, Body, Function}
-use Rattle.c_typing.specs.Types.{Aggregate, Member, Types, is_function}
+use Rattle.c_rules.specs.Types.{Aggregate, Member, Types, is_function}
 use Rattle.typed_values.specs.Units.{start_of}
 use Rattle.c_semantics.specs.Values.{kind_of, kinds_of}
 use Rattle.c_semantics.specs.Places.{Activation, array_number, numbers_from, arrays_in_stmts}

@@ -17,7 +17,7 @@ use Rattle.type_graph.specs.Shapes.{Shape, FuncType}
 use Rattle.typed_tree.specs.declared.expressions.Logic.{Logic}
 use Rattle.typed_tree.specs.declared.expressions.Logic.TheVariants.{And as both, Or as either}
 use Rattle.typed_tree.specs.Tree.{Typed, Form, Has, Integer, Local, Literal, Entity, Load, Decay, Address, Indirect, Subscript, Member, Convert, Unary, Binary, Logical, Conditional, Comma, Assign, Compute, Step, Call}
-use Rattle.c_typing.specs.Types.{CType, Types, kind_in, size_in, offset_in, pointee}
+use Rattle.c_rules.specs.Types.{CType, Types, kind_in, size_in, offset_in, pointee}
 
 -- a value that is known during translation: an integer of a kind, a number of pointer type, a place of an object with static storage duration and the size of that object, a function
 pub data Known : Type 0 where

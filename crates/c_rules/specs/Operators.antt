@@ -8,10 +8,10 @@ use Rattle.cil_base.specs.declared.operators.BinOp.TheVariants.{Mul, Div, Rem, A
 use Rattle.cil_base.specs.Integer.{long_of}
 use Rattle.cil_base.specs.Usual.{promoted, common}
 use Rattle.type_graph.specs.Shapes.{Shape, IntType, PtrType}
-use Rattle.c_typing.specs.Types.{CType, Types, pointer_to, pointee, is_object, is_void, is_record, is_array, complete, joined, has_constant_part}
+use Rattle.c_rules.specs.Types.{CType, Types, pointer_to, pointee, is_object, is_void, is_record, is_array, complete, joined, has_constant_part}
 use Rattle.type_compat.specs.Composed.{composite_shape}
 use Rattle.typed_tree.specs.Tree.{Typed, shape_in, quals_in}
-use Rattle.c_typing.specs.Conversions.{Operand, shape_of, kind_of, compatible, meeting, same_shape}
+use Rattle.c_rules.specs.Conversions.{Operand, shape_of, kind_of, compatible, meeting, same_shape}
 
 pub record Sides : Type 0 where
   pub left : Shape

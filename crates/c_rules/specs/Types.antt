@@ -46,6 +46,20 @@ unqualified s = record { quals = plain; shape = s }
 abbrev pub joined : Quals → Quals → Quals
 joined p q = record { constant = p.constant || q.constant; restricted = p.restricted || q.restricted }
 
+-- qualified types (6.7.3)
+
+-- the qualifiers of an array go to its element, those of a function type are dropped (6.7.3p9; the latter own)
+abbrev pub with_quals : Quals → Quals → Shape → CType
+with_quals q p (ArrayType r s bound) = array_of (with_quals q r s) bound
+  where
+    array_of : CType → Option ℕ → CType
+    array_of c bound = record { quals = plain; shape = ArrayType c.quals c.shape bound }
+with_quals q p (FuncType ret params proto variadic) = record { quals = plain; shape = FuncType ret params proto variadic }
+with_quals q p s = record { quals = joined q p; shape = s }
+
+abbrev pub qualified : Quals → CType → CType
+qualified q c = with_quals q c.quals c.shape
+
 -- a pointer to a type
 abbrev pub pointer_to : CType → Shape
 pointer_to c = PtrType c.quals c.shape

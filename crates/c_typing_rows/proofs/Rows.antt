@@ -5,7 +5,7 @@ use Rattle.cil_base.specs.declared.faults.Code.TheVariants as code
 use Rattle.cil_base.specs.declared.faults.Feature.TheVariants as feature
 use Rattle.cil_base.specs.declared.faults.What.TheVariants as limit
 use Rattle.cil_base.specs.declared.kinds.Abi.TheVariants.{Ilp32}
-use Rattle.c_typing.specs.Text.{first_in, outcome_in, first, outcome}
+use Rattle.c_typing_rows.specs.Text.{first_in, outcome_in, first, outcome}
 
 row_0 : first (codes "int x = 9223372036854775808;") ≡ Some (Constraint code.IntegerRange, 3)
 unfolding first outcome

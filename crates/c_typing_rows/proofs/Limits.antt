@@ -7,7 +7,7 @@ use Rattle.cil_base.specs.declared.faults.Fault.TheVariants.{Limit}
 use Rattle.cil_base.specs.declared.faults.What.TheVariants as limit
 use Rattle.type_graph.specs.Shapes.{IntType}
 use Rattle.c_tree.specs.Syntax.{ParameterTrees, NoParameters, MoreParameters, Parameter, NoSpecifiers, Declared}
-use Rattle.c_typing.specs.Types.{CType, Types, plain, unqualified}
+use Rattle.c_rules.specs.Types.{CType, Types, plain, unqualified}
 use Rattle.c_typing.specs.Scopes.{Env}
 use Rattle.c_typing.specs.Initialisers.{beginning}
 use Rattle.c_typing.specs.Steps.{declares_local}

@@ -12,11 +12,10 @@ use Rattle.typed_tree.specs.declared.expressions.Logic.{Logic}
 use Rattle.typed_tree.specs.declared.expressions.StepForm.{StepForm}
 use Rattle.typed_tree.specs.Tree.{Typed, Form, Has, Integer, Address, Indirect, Subscript, Member, Convert, Unary, Binary, Logical, Conditional, Comma, Assign, Compute, Step, Call, Arguments, NoArguments, MoreArguments, shape_in, quals_in, acts}
 use Rattle.typed_tree.specs.Places.{is_place}
-use Rattle.c_typing.specs.Types.{CType, Hop, Types, plain, unqualified, pointer_to, pointee, is_void, is_array, size_in, alignment_in}
-use Rattle.c_typing.specs.Specifiers.{qualified}
-use Rattle.c_typing.specs.Conversions.{Operand, operand, node, same_effect, shape_of, kind_of, value_of, value_as, promoted_value, same_shape}
-use Rattle.c_typing.specs.Operators.{Sides, binary_sides, subscript_sides, compound_sides, step_shape, branch_shape}
-use Rattle.c_typing.specs.Evaluation.{is_zero}
+use Rattle.c_rules.specs.Types.{CType, Hop, Types, plain, qualified, unqualified, pointer_to, pointee, is_void, is_array, size_in, alignment_in}
+use Rattle.c_rules.specs.Conversions.{Operand, operand, node, same_effect, shape_of, kind_of, value_of, value_as, promoted_value, same_shape}
+use Rattle.c_rules.specs.Operators.{Sides, binary_sides, subscript_sides, compound_sides, step_shape, branch_shape}
+use Rattle.c_rules.specs.Evaluation.{is_zero}
 
 pub data Node : Type 0 where
   -- an identifier: what it designates, if it has a visible declaration as an object, a function or an enumeration constant

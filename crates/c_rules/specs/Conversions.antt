@@ -12,7 +12,7 @@ use Rattle.type_compat.specs.Compatible.{same_quals, compatible_shape}
 use Rattle.type_compat.specs.Composed.{composite_shape}
 use Rattle.typed_tree.specs.Tree.{Typed, Form, Has, Load, Decay, Convert, shape_in, acts}
 use Rattle.typed_tree.specs.Places.{is_place}
-use Rattle.c_typing.specs.Types.{CType, Aggregate, Types, plain, joined, is_void, is_array, is_function, is_object, is_aggregate, pointee, kind_in, is_integer, is_record, complete}
+use Rattle.c_rules.specs.Types.{CType, Aggregate, Types, plain, joined, is_void, is_array, is_function, is_object, is_aggregate, pointee, kind_in, is_integer, is_record, complete}
 
 -- compatible types, and composites (6.2.7)
 

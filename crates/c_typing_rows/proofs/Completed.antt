@@ -7,14 +7,14 @@ use Rattle.cil_base.specs.declared.faults.Code.TheVariants as code
 use Rattle.type_graph.specs.Shapes.{Shape, IntType, ArrayType}
 use Rattle.typed_tree.specs.declared.expressions.Logic.{Logic}
 use Rattle.typed_tree.specs.Tree.{acts}
-use Rattle.c_typing.specs.Types.{CType, Types, plain, unqualified}
-use Rattle.c_typing.specs.Conversions.{Operand}
+use Rattle.c_rules.specs.Types.{CType, Types, plain, unqualified}
+use Rattle.c_rules.specs.Conversions.{Operand}
 use Rattle.c_typing.specs.Scopes.{Env, Found, Good, Bad}
-use Rattle.c_typing.specs.Nodes.{of_logical, of_conditional, of_comma}
+use Rattle.c_rules.specs.Nodes.{of_logical, of_conditional, of_comma}
 use Rattle.c_typing.specs.Initialisers.{Filling, beginning, whole_part}
 use Rattle.c_typing.specs.Steps.{with_literal}
 use Rattle.c_typing.specs.Faults.{start_env}
-use Rattle.c_typing.specs.Text.{first, outcome}
+use Rattle.c_typing_rows.specs.Text.{first, outcome}
 
 -- an array has the bound of the declaration that is visible
 too_many : first (codes "int a[3]; int a[] = { 1, 2, 3, 4 };") ≡ Some (Constraint code.Initialiser, 18)

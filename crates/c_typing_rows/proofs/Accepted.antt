@@ -1,7 +1,7 @@
 -- Translation units without a fault of the walk; the sizes in their assertions are those that gcc gives on a 64-bit system, and those of the other data model that gcc -m32 -malign-double gives.
 use Rattle.std.specs.Prelude.{◌≡◌, refl, codes, Some, None}
 use Rattle.cil_base.specs.declared.kinds.Abi.TheVariants.{Lp64, Ilp32}
-use Rattle.c_typing.specs.Text.{outcome_in, outcome}
+use Rattle.c_typing_rows.specs.Text.{outcome_in, outcome}
 
 accepted_0 : outcome (codes "int main(void) { return 2 + 3; }") ≡ Some None
 unfolding outcome

@@ -9,10 +9,10 @@ use Rattle.cil_base.specs.declared.operators.UnOp.TheVariants.{Neg, Compl, Not}
 use Rattle.type_graph.specs.Shapes.{Shape, Shapes, NoTypes, MoreTypes}
 use Rattle.typed_tree.specs.Tree.{shape_in}
 use Rattle.typed_tree.specs.Places.{is_place}
-use Rattle.c_typing.specs.Types.{Types, pointee, is_void, is_function, is_object, is_scalar, complete, any_of}
-use Rattle.c_typing.specs.Conversions.{Operand, shape_of, kind_of, assignable, is_unreadable, is_lvalue}
-use Rattle.c_typing.specs.Operators.{binary_sides, subscript_sides, compound_sides, step_shape, branch_shape, points_to_incomplete, steps_over_incomplete, is_modifiable}
-use Rattle.c_typing.specs.Nodes.{Node, NameNode, ConstantNode, IndexNode, CallNode, MemberNode, ArrowNode, StepNode, AddressNode, IndirectNode, PlusNode, UnaryNode, BinaryNode, LogicalNode, ConditionalNode, AssignNode, ComputeNode, CommaNode, CastNode, SizeofNode, AlignofNode, TestNode, SwitchNode, ValueNode, ConvertNode, Callee, callee_of}
+use Rattle.c_rules.specs.Types.{Types, pointee, is_void, is_function, is_object, is_scalar, complete, any_of}
+use Rattle.c_rules.specs.Conversions.{Operand, shape_of, kind_of, assignable, is_unreadable, is_lvalue}
+use Rattle.c_rules.specs.Operators.{binary_sides, subscript_sides, compound_sides, step_shape, branch_shape, points_to_incomplete, steps_over_incomplete, is_modifiable}
+use Rattle.c_rules.specs.Nodes.{Node, NameNode, ConstantNode, IndexNode, CallNode, MemberNode, ArrowNode, StepNode, AddressNode, IndirectNode, PlusNode, UnaryNode, BinaryNode, LogicalNode, ConditionalNode, AssignNode, ComputeNode, CommaNode, CastNode, SizeofNode, AlignofNode, TestNode, SwitchNode, ValueNode, ConvertNode, Callee, callee_of}
 
 -- 1: a constant has no type of its list (6.4.4p2), or an escape is above the greatest byte (6.4.4.4p9)
 abbrev pub has_no_type : Node → Bool

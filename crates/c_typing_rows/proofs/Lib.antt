@@ -1,0 +1,4 @@
+mod Accepted
+mod Rows
+mod Limits
+mod Completed
